@@ -1,0 +1,9 @@
+-- Laws that more than one function's proof cites, over the format: other crates cite them too.
+pub mod Value
+pub mod Pattern
+pub mod Fractions
+pub mod Half
+pub mod WholeLaws
+pub mod NarrowLaws
+pub mod SaturatingLaws
+pub mod LeafLaws

@@ -1,0 +1,217 @@
+// The float leaves that Rattle lacks. Each contract is one definition of specs/, over every value of the type:
+// NaN, infinities, both zeros and subnormals included.
+ghost use mathlib.Core.Path.{_≡_};
+ghost use mathlib.Core.Bool.{true, false};
+ghost use Prim.Native.Nat.{_+_, _*_, _/_, _<_, _≤_, _^_};
+ghost use lib.Dec.{T};
+ghost use lib.IntN.{pos};
+ghost use lib.Ieee as Ieee;
+ghost use lib.Ieee.{fin, binary32, binary64};
+ghost use lib.Ieee.Scale.{finite};
+ghost use Rattle.floats.specs.Magnitude.{magnitude};
+ghost use Rattle.floats.specs.Whole.{floor, roundAway};
+ghost use Rattle.floats.specs.Convert.{convert};
+ghost use lib.Ieee.Nearest.{closest};
+ghost use Rattle.floats.specs.Steps.{Narrowed};
+ghost use Rattle.floats.specs.TotalOrder.{totalCmp};
+
+// How two magnitudes compare.
+pub enum Order {
+    Less,
+    Equal,
+    Greater,
+}
+
+// |x|. The difference makes +0.0 of -0.0, which -x would not make of +0.0.
+pub fn magnitude_f32(x: f32) -> f32
+    ensures { λ r. ⌜ r ≡ magnitude x ⌝ }
+{
+    if x <= 0.0 { 0.0 - x } else { x }
+}
+
+pub fn magnitude_f64(x: f64) -> f64
+    ensures { λ r. ⌜ r ≡ magnitude x ⌝ }
+{
+    if x <= 0.0 { 0.0 - x } else { x }
+}
+
+// Neither a NaN nor an infinity: of those x - x is a NaN.
+pub fn is_finite_f32(x: f32) -> bool
+    ensures { λ r. ⌜ r ≡ finite x ⌝ }
+{
+    x - x == 0.0
+}
+
+pub fn is_finite_f64(x: f64) -> bool
+    ensures { λ r. ⌜ r ≡ finite x ⌝ }
+{
+    x - x == 0.0
+}
+
+// The greatest whole number that is not above x. From 2^23 on every value is whole.
+pub fn floor_f32(x: f32) -> f32
+    ensures { λ r. ⌜ r ≡ floor binary32 x ⌝ }
+{
+    if 0.0 < x {
+        if x < 8388608.0 {
+            return whole_below(x);
+        }
+        return x;
+    }
+    if x < 0.0 {
+        if -8388608.0 < x {
+            return -whole_above(-x);
+        }
+        return x;
+    }
+    x
+}
+
+// The nearest whole number, a tie away from zero.
+pub fn round_f32(x: f32) -> f32
+    ensures { λ r. ⌜ r ≡ roundAway binary32 x ⌝ }
+{
+    if 0.0 < x {
+        if x < 8388608.0 {
+            return whole_nearest(x);
+        }
+        return x;
+    }
+    if x < 0.0 {
+        if -8388608.0 < x {
+            return -whole_nearest(-x);
+        }
+        return x;
+    }
+    x
+}
+
+// x `as i32`, as Rust has it: toward zero, out of range to the nearest end, a NaN to 0.
+pub fn f32_to_i32(x: f32) -> i32
+    ensures { λ r. ⌜ r ≡ Ieee.toSigned 31 x ⌝ }
+{
+    if x < 2147483648.0 {
+        if -2147483648.0 < x {
+            return std::num::truncating_f32_to_i64(x) as i32;
+        }
+        return -2147483648;
+    }
+    if x == x {
+        return 2147483647;
+    }
+    0
+}
+
+// x `as usize`, as Rust has it.
+pub fn f32_to_usize(x: f32) -> usize
+    ensures { λ r. ⌜ r ≡ Ieee.toUnsigned 64 x ⌝ }
+{
+    if 0.0 < x {
+        if x < 18446744073709551616.0 {
+            return std::num::truncating_f32_to_u64(x) as usize;
+        }
+        return 18446744073709551615;
+    }
+    0
+}
+
+// The f32 nearest to n.
+pub fn i32_to_f32(n: i32) -> f32
+    ensures { λ r. ⌜ r ≡ Ieee.ofInt binary32 n ⌝ }
+{
+    std::num::nearest_i32_to_f32(n)
+}
+
+// The f32 nearest to x, a tie to the even one, from x's bit pattern.
+pub fn f64_to_f32(x: f64) -> f32
+    ensures { λ r. ⌜ r ≡ convert binary32 x ⌝ }
+{
+    if x != x {
+        return 0.0 / 0.0;
+    }
+    let bits = f64::to_bits(x);
+    if bits < 0x8000_0000_0000_0000 {
+        return f32::from_bits(narrowed(bits));
+    }
+    -f32::from_bits(narrowed(bits - 0x8000_0000_0000_0000))
+}
+
+// How |a| and |b| compare, as `a.abs().total_cmp(&b.abs())` has it.
+pub fn total_cmp_magnitudes(a: f64, b: f64) -> Order
+    ensures { λ r. ⌜ r ≡ totalCmp a b ⌝ }
+{
+    let m = magnitude_f64(a);
+    let n = magnitude_f64(b);
+    if m < n {
+        return Order::Less;
+    }
+    if n < m {
+        return Order::Greater;
+    }
+    if m == n {
+        return Order::Equal;
+    }
+    if n == n {
+        return Order::Greater;
+    }
+    if m == m {
+        return Order::Less;
+    }
+    Order::Equal
+}
+
+// x without its fraction, where that is a float exactly.
+fn whole_below(x: f32) -> f32
+    requires { ⌜ T (Ieee.lt (fin false 0 (pos 0)) x) ⌝ ∗ ⌜ T (Ieee.lt x (fin false 1 (pos 23))) ⌝ }
+    ensures { λ r. ⌜ r ≡ floor binary32 x ⌝ }
+{
+    std::num::truncating_f32_to_u64(x) as f32
+}
+
+// The least whole number that is not below x: floor of -x, negated.
+fn whole_above(x: f32) -> f32
+    requires { ⌜ T (Ieee.lt (fin false 0 (pos 0)) x) ⌝ ∗ ⌜ T (Ieee.lt x (fin false 1 (pos 23))) ⌝ }
+    ensures { λ r. ⌜ Ieee.neg r ≡ floor binary32 (Ieee.neg x) ⌝ }
+{
+    let below = std::num::truncating_f32_to_u64(x);
+    if (below as f32) < x {
+        return (below + 1) as f32;
+    }
+    below as f32
+}
+
+// Half of the whole part of twice x, rounded up: all of it in whole numbers, since x + x is exact.
+fn whole_nearest(x: f32) -> f32
+    requires { ⌜ T (Ieee.lt (fin false 0 (pos 0)) x) ⌝ ∗ ⌜ T (Ieee.lt x (fin false 1 (pos 23))) ⌝ }
+    ensures { λ r. ⌜ r ≡ roundAway binary32 x ⌝ }
+{
+    ((std::num::truncating_f32_to_u64(x + x) + 1) / 2) as f32
+}
+
+// The binary32 pattern nearest to a binary64 pattern with no sign: of a normal value 29 digits are dropped,
+// below that more, and the rest counts the smallest units.
+fn narrowed(bits: u64) -> u32
+    requires { ⌜ bits ≤ 0x7ff0_0000_0000_0000 ⌝ }
+    ensures { λ r. ⌜ Narrowed bits r ⌝ }
+{
+    let field = bits / 0x10_0000_0000_0000;
+    let digits = bits % 0x10_0000_0000_0000 + 0x10_0000_0000_0000;
+    if 1151 <= field {
+        return 0x7f80_0000;
+    }
+    if 897 <= field {
+        return ((field - 897) * 0x80_0000 + nearest_even(digits, 0x1000_0000)) as u32;
+    }
+    if 872 <= field {
+        return nearest_even(digits, 1 << (925 - field)) as u32;
+    }
+    0
+}
+
+// n / (2 * half) to the nearest whole number, a tie to the even one.
+fn nearest_even(n: u64, half: u64) -> u64
+    requires { ⌜ (n < 2 ^ 53) × (0 < half) × (half ≤ 2 ^ 53) ⌝ }
+    ensures { λ r. ⌜ r ≡ closest n (half + half) ⌝ }
+{
+    (n + (half - 1) + n / (half + half) % 2) / (half + half)
+}
