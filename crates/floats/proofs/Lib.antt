@@ -4,6 +4,8 @@ pub mod Pattern
 pub mod Fractions
 pub mod Half
 pub mod WholeLaws
+pub mod BitLaws
 pub mod NarrowLaws
 pub mod SaturatingLaws
 pub mod LeafLaws
+pub mod Cases

@@ -136,6 +136,44 @@ pub fn f64_to_f32(x: f64) -> f32
     -f32::from_bits(narrowed(bits - 0x8000_0000_0000_0000))
 }
 
+// The bit pattern of x. A NaN has none of its own: it is written as the quiet one with no sign and no payload.
+pub fn f32_to_bits(x: f32) -> u32
+    ensures { λ r. ⌜ r ≡ Ieee.toBits binary32 x ⌝ }
+{
+    if x != x {
+        return 0x7fc0_0000;
+    }
+    f32::to_bits(x)
+}
+
+pub fn f64_to_bits(x: f64) -> u64
+    ensures { λ r. ⌜ r ≡ Ieee.toBits binary64 x ⌝ }
+{
+    if x != x {
+        return 0x7ff8_0000_0000_0000;
+    }
+    f64::to_bits(x)
+}
+
+// The value of a bit pattern, every NaN's too.
+pub fn f32_from_bits(bits: u32) -> f32
+    ensures { λ r. ⌜ r ≡ Ieee.ofBits binary32 bits ⌝ }
+{
+    if 0x7f80_0000 < bits % 0x8000_0000 {
+        return 0.0 / 0.0;
+    }
+    f32::from_bits(bits)
+}
+
+pub fn f64_from_bits(bits: u64) -> f64
+    ensures { λ r. ⌜ r ≡ Ieee.ofBits binary64 bits ⌝ }
+{
+    if 0x7ff0_0000_0000_0000 < bits % 0x8000_0000_0000_0000 {
+        return 0.0 / 0.0;
+    }
+    f64::from_bits(bits)
+}
+
 // How |a| and |b| compare, as `a.abs().total_cmp(&b.abs())` has it.
 pub fn total_cmp_magnitudes(a: f64, b: f64) -> Order
     ensures { λ r. ⌜ r ≡ totalCmp a b ⌝ }

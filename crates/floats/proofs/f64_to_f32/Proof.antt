@@ -9,7 +9,8 @@ use lib.Ieee.Bits.{ofBits-toBits, toBits-lt}
 use lib.Ieee.Compare.{differs-from-itself}
 use Rattle.floats.specs.Convert.{convert}
 use Rattle.floats.specs.Steps.{Narrowed}
-use Rattle.floats.proofs.NarrowLaws.{number, number-bits, not-nan-bits, sign-bits, convert-neg}
+use Rattle.floats.proofs.NarrowLaws.{convert-neg}
+use Rattle.floats.proofs.BitLaws.{number, number-bits, not-nan-bits, sign-bits}
 use Rattle.floats.proofs.f64_to_f32.Statement.{statement}
 use Rattle.floats.proofs.f64_to_f32.Tie as tie
 
