@@ -3,9 +3,12 @@ pub mod Value
 pub mod Pattern
 pub mod Fractions
 pub mod Half
+pub mod OrderLaws
 pub mod WholeLaws
 pub mod BitLaws
 pub mod NarrowLaws
 pub mod SaturatingLaws
 pub mod LeafLaws
+pub mod Roots
+pub mod RootCases
 pub mod Cases

@@ -41,7 +41,7 @@ drop-some : (p k : ℕ) → p + k - p ≡ k
 drop-some p k = omega arith
 
 -- a number with k digits more than the format keeps, and one with no more than those
-size-drop : (f : Format) (n k : ℕ) → hid f * 2 ^ k ≤ n → n < 2 ^ prec f * 2 ^ k → size n - prec f ≡ k
+pub size-drop : (f : Format) (n k : ℕ) → hid f * 2 ^ k ≤ n → n < 2 ^ prec f * 2 ^ k → size n - prec f ≡ k
 size-drop f n k h g =
     ap (λ (z : ℕ). z - prec f)
     (size-is n (prec f - 1 + k) (subst (λ (z : ℕ). z ≤ n) (sym (pow-add 2 (prec f - 1) k)) h)
@@ -85,7 +85,7 @@ bits-of-units f s q k h o = go (eq-or-lt-of-le h) o
         bits-at f s (q * 2 ^ k) k q (ap (λ (x : ℕ). size (q * 2 ^ x) - prec f) z ∙ ap (λ (x : ℕ). size x - prec f) (mul-one q) ∙ size-none f q l ∙ sym z) (shl-shr q k)
 
 -- ---- so such a value is read from that pattern, up to infinity
-units-fits : (f : Format) (s : Bool) (q k : ℕ) → q ≤ 2 ^ prec f → q * 2 ^ k < overflow f → T (fits f (units f s q k))
+pub units-fits : (f : Format) (s : Bool) (q k : ℕ) → q ≤ 2 ^ prec f → q * 2 ^ k < overflow f → T (fits f (units f s q k))
 unfolding units
 units-fits f s q k h g = go (ltb (q * 2 ^ k) (overflow f))
   where

@@ -4,5 +4,6 @@ pub mod Magnitude
 pub mod Whole
 pub mod Convert
 pub mod Root
+pub mod NearestRoot
 pub mod TotalOrder
 pub mod Steps

@@ -12,7 +12,8 @@ ghost use Rattle.floats.specs.Magnitude.{magnitude};
 ghost use Rattle.floats.specs.Whole.{floor, roundAway};
 ghost use Rattle.floats.specs.Convert.{convert};
 ghost use lib.Ieee.Nearest.{closest};
-ghost use Rattle.floats.specs.Steps.{Narrowed};
+ghost use Rattle.floats.specs.Root.{sqrt, root};
+ghost use Rattle.floats.specs.Steps.{Narrowed, Rooted, nearestRoot};
 ghost use Rattle.floats.specs.TotalOrder.{totalCmp};
 
 // How two magnitudes compare.
@@ -136,6 +137,22 @@ pub fn f64_to_f32(x: f64) -> f32
     -f32::from_bits(narrowed(bits - 0x8000_0000_0000_0000))
 }
 
+// The f32 nearest to the root of x, from x's bit pattern. That `sqrt` is the nearest is `sqrt-nearest` of proofs/Roots.antt.
+pub fn sqrt_f32(x: f32) -> f32
+    ensures { λ r. ⌜ r ≡ sqrt binary32 x ⌝ }
+{
+    if 0.0 < x {
+        if x < 1.0 / 0.0 {
+            return f32::from_bits(root_bits(f32::to_bits(x)));
+        }
+        return x;
+    }
+    if x == 0.0 {
+        return x;
+    }
+    0.0 / 0.0
+}
+
 // The bit pattern of x. A NaN has none of its own: it is written as the quiet one with no sign and no payload.
 pub fn f32_to_bits(x: f32) -> u32
     ensures { λ r. ⌜ r ≡ Ieee.toBits binary32 x ⌝ }
@@ -252,4 +269,62 @@ fn nearest_even(n: u64, half: u64) -> u64
     ensures { λ r. ⌜ r ≡ closest n (half + half) ⌝ }
 {
     (n + (half - 1) + n / (half + half) % 2) / (half + half)
+}
+
+// The binary32 pattern nearest to the root of a pattern above zero and below infinity.
+// A normal value is m * 2 ^ (field - 150). With 23 or 24 zeros behind m, by the parity of the field, an even power of two is left, and its root is 2 ^ k units.
+fn root_bits(bits: u32) -> u32
+    requires { ⌜ (0 < bits) × (bits < 0x7f80_0000) ⌝ }
+    ensures { λ r. ⌜ Rooted bits r ⌝ }
+{
+    let field = bits / 0x80_0000;
+    if field == 0 {
+        return small_root(bits);
+    }
+    let m = (bits % 0x80_0000 + 0x80_0000) as u64;
+    let k = (field + 125) / 2;
+    if field % 2 == 1 {
+        return rounded_root(m * 0x80_0000, k);
+    }
+    rounded_root(m * 0x100_0000, k)
+}
+
+// The same of a subnormal pattern: its few digits are moved up, two places at a time.
+fn small_root(bits: u32) -> u32
+    requires { ⌜ (0 < bits) × (bits < 0x80_0000) ⌝ }
+    ensures { λ r. ⌜ Rooted bits r ⌝ }
+{
+    let mut n = bits as u64 * 0x80_0000;
+    let mut k = 63;
+    while n < 0x4000_0000_0000 {
+        n *= 4;
+        k -= 1;
+    }
+    rounded_root(n, k)
+}
+
+// The pattern with k dropped digits whose digits are the whole number nearest to the root of n.
+fn rounded_root(n: u64, k: u32) -> u32
+    requires { ⌜ (0x4000_0000_0000 ≤ n) × (n < 0x1_0000_0000_0000) × (k < 192) ⌝ }
+    ensures { λ r. ⌜ r ≡ k * 0x80_0000 + nearestRoot n ⌝ }
+{
+    let q = whole_root(n);
+    let down = k * 0x80_0000 + q as u32;
+    if q < n - q * q {
+        return down + 1;
+    }
+    down
+}
+
+// The whole root of n, by Newton's steps, which come down to it from above.
+// The first step is from 2 ^ 23.5, the middle of the roots that are asked here: two or three more reach nearly all of them, and four the others.
+fn whole_root(n: u64) -> u64
+    requires { ⌜ 0 < n ⌝ }
+    ensures { λ r. ⌜ r ≡ root n ⌝ }
+{
+    let mut r = (11_863_283 + n / 11_863_283) / 2;
+    while n / r < r {
+        r = (r + n / r) / 2;
+    }
+    r
 }

@@ -16,13 +16,13 @@ truncating-f32-to-u64-requires : tie.Need-truncating-f32-to-u64-requires
 truncating-f32-to-u64-requires c κs = (above-minus-one (c .args .x) (is-true _ (c .pre .0)), under-larger 23 64 (c .args .x) (lit≤ tt) (is-true _ (c .pre .1)))
 
 int-to-float-if1 : tie.Need-int-to-float-if1
-int-to-float-if1 c = in-float binary32 (c .before .truncating-f32-to-u64 .result) (omega (arith, c .before .truncating-f32-to-u64 .ensures, small binary32 23 64 (c .before .before .args .x) (lit≤ tt) (between 23 (c .before .before .args .x) (c .before .before .pre .0) (c .before .before .pre .1))))
+int-to-float-if1 c = in-float binary32 _ (omega (arith, c .before .truncating-f32-to-u64 .ensures, small binary32 23 64 (c .before .before .args .x) (lit≤ tt) (between 23 (c .before .before .args .x) (c .before .before .pre .0) (c .before .before .pre .1))))
 
 add-result : tie.Need-add-result
 add-result c = omega (arith, c .before .before .truncating-f32-to-u64 .ensures, small binary32 23 64 (c .before .before .before .args .x) (lit≤ tt) (between 23 (c .before .before .before .args .x) (c .before .before .before .pre .0) (c .before .before .before .pre .1)))
 
 int-to-float-result : tie.Need-int-to-float-result
-int-to-float-result c = in-float binary32 (c .before .before .before .truncating-f32-to-u64 .result + 1) (omega (arith, c .before .before .before .truncating-f32-to-u64 .ensures, small binary32 23 64 (c .before .before .before .before .args .x) (lit≤ tt) (between 23 (c .before .before .before .before .args .x) (c .before .before .before .before .pre .0) (c .before .before .before .before .pre .1))))
+int-to-float-result c = in-float binary32 _ (omega (arith, c .before .before .before .truncating-f32-to-u64 .ensures, small binary32 23 64 (c .before .before .before .before .args .x) (lit≤ tt) (between 23 (c .before .before .before .before .args .x) (c .before .before .before .before .pre .0) (c .before .before .before .before .pre .1))))
 
 returns : tie.Need-returns
 returns c =
@@ -31,7 +31,7 @@ returns c =
     (sym (ap (λ (n : ℕ). lt (ofInt binary32 (pos n)) (c .before .before .before .before .args .x)) (c .before .before .before .truncating-f32-to-u64 .ensures)) ∙ c .before .if1 .taken)
 
 int-to-float-result-2 : tie.Need-int-to-float-result-2
-int-to-float-result-2 c = in-float binary32 (c .before .before .before .truncating-f32-to-u64 .result) (omega (arith, c .before .before .before .truncating-f32-to-u64 .ensures, small binary32 23 64 (c .before .before .before .before .args .x) (lit≤ tt) (between 23 (c .before .before .before .before .args .x) (c .before .before .before .before .pre .0) (c .before .before .before .before .pre .1))))
+int-to-float-result-2 c = in-float binary32 _ (omega (arith, c .before .before .before .truncating-f32-to-u64 .ensures, small binary32 23 64 (c .before .before .before .before .args .x) (lit≤ tt) (between 23 (c .before .before .before .before .args .x) (c .before .before .before .before .pre .0) (c .before .before .before .before .pre .1))))
 
 returns-2 : tie.Need-returns-2
 returns-2 c =

@@ -15,7 +15,7 @@ truncating-f32-to-u64-requires : tie.Need-truncating-f32-to-u64-requires
 truncating-f32-to-u64-requires c κs = (above-minus-one (c .args .x) (lib.Ieee.Bits.is-true _ (c .pre .0)), under-larger 23 64 (c .args .x) (lit≤ tt) (lib.Ieee.Bits.is-true _ (c .pre .1)))
 
 int-to-float-result : tie.Need-int-to-float-result
-int-to-float-result c = in-float binary32 (c .before .truncating-f32-to-u64 .result) (omega (arith, c .before .truncating-f32-to-u64 .ensures, small binary32 23 64 (c .before .before .args .x) (lit≤ tt) (between 23 (c .before .before .args .x) (c .before .before .pre .0) (c .before .before .pre .1))))
+int-to-float-result c = in-float binary32 _ (omega (arith, c .before .truncating-f32-to-u64 .ensures, small binary32 23 64 (c .before .before .args .x) (lit≤ tt) (between 23 (c .before .before .args .x) (c .before .before .pre .0) (c .before .before .pre .1))))
 
 returns : tie.Need-returns
 returns c = ap (λ (n : ℕ). ofInt binary32 (pos n)) (c .before .truncating-f32-to-u64 .ensures) ∙ floor-of binary32 23 64 (c .before .before .args .x) (lit≤ tt) (between 23 (c .before .before .args .x) (c .before .before .pre .0) (c .before .before .pre .1))

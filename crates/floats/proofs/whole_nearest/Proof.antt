@@ -16,7 +16,7 @@ add-result : tie.Need-add-result
 add-result c = omega (arith, c .truncating-f32-to-u64 .ensures, double-small binary32 23 64 (c .before .args .x) (lit≤ tt) (lit≤ tt) (between 23 (c .before .args .x) (c .before .pre .0) (c .before .pre .1)) (subst T (sym (c .before .good .0 .1)) tt))
 
 int-to-float-result : tie.Need-int-to-float-result
-int-to-float-result c = in-float binary32 ((c .before .truncating-f32-to-u64 .result + 1) / 2) (omega (arith, c .before .truncating-f32-to-u64 .ensures, double-small binary32 23 64 (c .before .before .args .x) (lit≤ tt) (lit≤ tt) (between 23 (c .before .before .args .x) (c .before .before .pre .0) (c .before .before .pre .1)) (subst T (sym (c .before .before .good .0 .1)) tt)))
+int-to-float-result c = in-float binary32 _ (omega (arith, c .before .truncating-f32-to-u64 .ensures, double-small binary32 23 64 (c .before .before .args .x) (lit≤ tt) (lit≤ tt) (between 23 (c .before .before .args .x) (c .before .before .pre .0) (c .before .before .pre .1)) (subst T (sym (c .before .before .good .0 .1)) tt)))
 
 returns : tie.Need-returns
 returns c = ap (λ (n : ℕ). ofInt binary32 (pos ((n + 1) / 2))) (c .before .truncating-f32-to-u64 .ensures) ∙ round-of binary32 23 64 (c .before .before .args .x) (lit≤ tt) (lit≤ tt) (between 23 (c .before .before .args .x) (c .before .before .pre .0) (c .before .before .pre .1)) (subst T (sym (c .before .before .good .0 .1)) tt)

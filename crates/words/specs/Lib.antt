@@ -1,0 +1,2 @@
+-- Numbers written as bytes.
+pub mod Words
