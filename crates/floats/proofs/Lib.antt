@@ -5,10 +5,12 @@ pub mod Fractions
 pub mod Half
 pub mod OrderLaws
 pub mod WholeLaws
+pub mod PartLaws
 pub mod BitLaws
 pub mod NarrowLaws
 pub mod SaturatingLaws
 pub mod LeafLaws
 pub mod Roots
+pub mod NearestRoots
 pub mod RootCases
 pub mod Cases

@@ -18,7 +18,7 @@ use lib.Ieee.Scale.{overflow}
 use Rattle.floats.specs.Root.{sqrt}
 use Rattle.floats.proofs.Value.{bits-of-value}
 use Rattle.floats.proofs.Pattern.{two-hid}
-use Rattle.floats.proofs.Roots.{below-top}
+use Rattle.floats.proofs.NearestRoots.{below-top}
 
 abbrev pub +0 : Float
 +0 = fin false 0 (pos 0)

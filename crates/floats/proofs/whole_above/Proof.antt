@@ -7,7 +7,7 @@ use lib.Dec.{lit≤}
 use lib.IntN.{pos}
 use lib.Ieee.{Float, binary32, lt, neg, ofInt}
 use lib.Ieee.Bits.{is-true}
-use Rattle.floats.proofs.WholeLaws.{between, small, above-of, exact-of, in-float}
+use Rattle.floats.proofs.PartLaws.{between, small, above-of, exact-of, in-float}
 use Rattle.floats.proofs.SaturatingLaws.{above-minus-one, under-larger}
 use Rattle.floats.proofs.whole_above.Statement.{statement}
 use Rattle.floats.proofs.whole_above.Tie as tie

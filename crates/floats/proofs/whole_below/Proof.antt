@@ -6,7 +6,7 @@ use mathlib.Core.Bool.{true}
 use lib.Dec.{T, lit≤}
 use lib.IntN.{pos}
 use lib.Ieee.{Float, binary32, ofInt}
-use Rattle.floats.proofs.WholeLaws.{between, small, floor-of, in-float}
+use Rattle.floats.proofs.PartLaws.{between, small, floor-of, in-float}
 use Rattle.floats.proofs.SaturatingLaws.{power, above-minus-one, under-larger}
 use Rattle.floats.proofs.whole_below.Statement.{statement}
 use Rattle.floats.proofs.whole_below.Tie as tie

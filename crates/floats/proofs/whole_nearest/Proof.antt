@@ -5,7 +5,7 @@ use native.Mathlib.Omega.{arith}
 use lib.Dec.{T, lit≤}
 use lib.IntN.{pos}
 use lib.Ieee.{binary32, ofInt}
-use Rattle.floats.proofs.WholeLaws.{between, double-above, double-under, double-small, round-of, in-float}
+use Rattle.floats.proofs.PartLaws.{between, double-above, double-under, double-small, round-of, in-float}
 use Rattle.floats.proofs.whole_nearest.Statement.{statement}
 use Rattle.floats.proofs.whole_nearest.Tie as tie
 

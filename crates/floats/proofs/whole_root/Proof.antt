@@ -6,7 +6,8 @@ use native.Mathlib.Nat.{le-trans, le-of-eq, le-of-lt, lt-of-lt-of-le, lt-suc-sel
 use native.Mathlib.Omega.{arith}
 use mathlib.Core.Bool.{Bool, true, false, not}
 use lib.Dec.{T, leb, leb→le, nleb→lt}
-use Rattle.floats.proofs.Roots.{doubled, root-unique}
+use Rattle.floats.proofs.Roots.{root-unique}
+use Rattle.floats.proofs.NearestRoots.{doubled}
 use Rattle.floats.proofs.whole_root.Statement.{statement}
 use Rattle.floats.proofs.whole_root.Tie as tie
 
