@@ -1,40 +1,60 @@
 //! `oracle write FOLDER [SEED]` writes every list and prints what it counts.
+//! `oracle marked` runs document 01's examples and shortcuts on the Rust.
+//! `oracle hunt TURNS` looks for runs of the refiner that are hard to meet.
 
 use std::path::Path;
 use std::process::ExitCode;
 
-fn write(folder: &Path, seed: u64) -> std::io::Result<()> {
-    std::fs::create_dir_all(folder)?;
-    for (name, writer) in oracle::lists::ALL {
-        let list = writer(seed);
-        std::fs::write(folder.join(format!("{name}.bin")), list.bytes())?;
-        print!("{}", list.report());
+fn write(folder: &Path, seed: u64) -> bool {
+    let done = || -> std::io::Result<()> {
+        std::fs::create_dir_all(folder)?;
+        for (name, writer) in oracle::lists::ALL {
+            let list = writer(seed);
+            std::fs::write(folder.join(format!("{name}.bin")), list.bytes())?;
+            print!("{}", list.report());
+        }
+        Ok(())
+    };
+    match done() {
+        Ok(()) => true,
+        Err(e) => {
+            eprintln!("oracle: {e}");
+            false
+        }
     }
-    Ok(())
+}
+
+fn marked() -> bool {
+    let lines = oracle::marked::all();
+    for (line, holds) in &lines {
+        println!("{} {line}", if *holds { "holds" } else { "FAILS" });
+    }
+    lines.iter().all(|(_, holds)| *holds)
 }
 
 fn main() -> ExitCode {
+    oracle::rust_or_rule::quiet();
     let args: Vec<String> = std::env::args().skip(1).collect();
     let words: Vec<&str> = args.iter().map(String::as_str).collect();
-    let done = match words.as_slice() {
+    let number = |text: &str| text.parse::<u64>().ok();
+    let good = match words.as_slice() {
         ["write", folder] => write(Path::new(folder), oracle::SEED),
-        ["write", folder, seed] => match seed.parse() {
-            Ok(seed) => write(Path::new(folder), seed),
-            Err(_) => {
-                eprintln!("oracle: {seed} is no seed number");
-                return ExitCode::FAILURE;
-            }
-        },
+        ["write", folder, seed] if number(seed).is_some() => {
+            write(Path::new(folder), number(seed).unwrap_or(0))
+        }
+        ["marked"] => marked(),
+        ["hunt", turns] if number(turns).is_some() => {
+            oracle::hunt::all(number(turns).unwrap_or(0) as usize);
+            true
+        }
         _ => {
-            eprintln!("oracle: write FOLDER [SEED]");
-            return ExitCode::FAILURE;
+            eprintln!("oracle: write FOLDER [SEED], marked, or hunt TURNS");
+            false
         }
     };
-    match done {
-        Ok(()) => ExitCode::SUCCESS,
-        Err(e) => {
-            eprintln!("oracle: {e}");
-            ExitCode::FAILURE
-        }
+    if good {
+        ExitCode::SUCCESS
+    } else {
+        ExitCode::FAILURE
     }
 }

@@ -1,8 +1,20 @@
 //! One module a list, and the table of all.
 
-use crate::words::List;
+use crate::random::Random;
+use crate::rust_or_rule::Decided;
+use crate::types::*;
+use crate::words::{bits32, Case, List};
 
+pub mod fallback;
 pub mod floats;
+pub mod gradient;
+pub mod merge;
+pub mod operator;
+pub mod peaks;
+pub mod refine;
+pub mod refine_list;
+pub mod response;
+pub mod solve;
 
 /// A list's name and its writer.
 pub type Writer = (&'static str, fn(u64) -> List);
@@ -13,4 +25,158 @@ pub const ALL: &[Writer] = &[
     ("ints32", floats::ints32),
     ("floats64", floats::floats64),
     ("order64", floats::order64),
+    ("response", response::list),
+    ("refine", refine::list),
+    ("refine_list", refine_list::list),
+    ("fallback", fallback::list),
+    ("merge", merge::list),
+    ("peaks", peaks::list),
+    ("solve", solve::list),
+    ("operator", operator::list),
+    ("gradient", gradient::list),
 ];
+
+/// Most words of a list.
+pub const ENOUGH: usize = 130_000;
+
+// --- fields that several lists have ----------------------------------------
+
+fn put_image(case: &mut Case, image: &Image) {
+    case.long(image.width)
+        .long(image.height)
+        .count(image.bytes.len())
+        .bytes(&image.bytes);
+}
+
+fn put_settings(case: &mut Case, s: &Settings) {
+    case.int(s.radius)
+        .float(s.det_margin)
+        .float(s.max_offset)
+        .float(s.min_abs_det);
+}
+
+fn put_decided(case: &mut Case, number: u32, decided: Decided) {
+    let [by, why] = decided.words();
+    case.word(number).word(by).word(why);
+}
+
+fn put_triples(case: &mut Case, list: &[Triple]) {
+    case.count(list.len());
+    for c in list {
+        case.floats(c);
+    }
+}
+
+/// Floats of which the last ones are +0.0: all of their number, how many
+/// are written, and these.
+fn put_padded(case: &mut Case, floats: &[f32]) {
+    let given = floats
+        .iter()
+        .rposition(|x| x.to_bits() != 0)
+        .map_or(0, |last| last + 1);
+    case.count(floats.len())
+        .count(given)
+        .floats(&floats[..given]);
+}
+
+fn put_ring(case: &mut Case, ring: &Ring) {
+    for &(dx, dy) in ring {
+        case.int(dx).int(dy);
+    }
+}
+
+/// The whole triples of a list of floats.
+fn triples(floats: &[f32]) -> Vec<Triple> {
+    floats.chunks_exact(3).map(|c| [c[0], c[1], c[2]]).collect()
+}
+
+fn same_triples(a: &[Triple], b: &[Triple]) -> bool {
+    let bits = |list: &[Triple]| -> Vec<[u32; 3]> { list.iter().map(|c| c.map(bits32)).collect() };
+    bits(a) == bits(b)
+}
+
+/// The name of a number, for the counts.
+fn number_name(number: u32) -> &'static str {
+    match number {
+        0 => "0 Accepted",
+        1 => "1 Rejected",
+        2 => "2 OutOfBounds",
+        3 => "3 IllConditioned",
+        10 => "10 BadImage",
+        11 => "11 BadRadius",
+        12 => "12 BadLimit",
+        13 => "13 BadRing",
+        14 => "14 EmptyRoi",
+        15 => "15 BadOut",
+        16 => "16 TooMany",
+        17 => "17 GridTooBig",
+        18 => "18 BadScratch",
+        19 => "19 BadLength",
+        _ => "a number that document 01 does not have",
+    }
+}
+
+/// Seeds and corners about places where the rules change.
+fn odd_float(random: &mut Random) -> f32 {
+    random.pick(&[
+        f32::NAN,
+        f32::INFINITY,
+        f32::NEG_INFINITY,
+        3e9,
+        -3e9,
+        2_147_483_520.0,
+        2_147_483_648.0,
+        -2_147_483_648.0,
+        -2_147_483_904.0,
+        0.0,
+        -0.0,
+        -0.5,
+        0.499_999_97,
+        -0.499_999_97,
+        1e30,
+        -1e30,
+        f32::MAX,
+        f32::MIN,
+        1e-40,
+        8_388_609.0,
+    ])
+}
+
+/// A place about the middle of something of that size, now and then odd.
+fn place(random: &mut Random, size: u64) -> f32 {
+    let middle = (size - 1) as f32 / 2.0;
+    match random.below(64) {
+        0 => odd_float(random),
+        1..=2 => random.between(-2, size as i64 + 1) as f32,
+        3..=4 => random.between(-2, size as i64 + 1) as f32 + 0.5,
+        5..=8 => (random.unit() * 1.2 - 0.1) * size as f32,
+        9..=20 => middle.floor() + random.between(-2, 2) as f32,
+        _ => middle + (random.unit() - 0.5) * 3.0,
+    }
+}
+
+/// Settings that no number refuses, the Rust's own half of the time.
+fn good_settings(random: &mut Random) -> Settings {
+    let plain = Settings::default();
+    if random.once_in(2) {
+        return Settings {
+            radius: random.pick(&[1, 2, 2, 2, 3, 4, 5, 6, 7]),
+            ..plain
+        };
+    }
+    Settings {
+        radius: random.pick(&[0, 1, 1, 2, 2, 2, 3, 3, 4, 5, 6, 7]),
+        det_margin: random.pick(&[0.0, -0.0, 1e-3, 1e-3, 0.5, 4.0, 100.0, 1e30]),
+        max_offset: random.pick(&[0.0, 0.25, 0.5, 1.0, 1.5, 1.5, 2.5, 7.5, 8.0, 1e30]),
+        min_abs_det: random.pick(&[0.0, -0.0, 1e-4, 1e-4, 1e-45, 1.0, 50.0]),
+    }
+}
+
+fn same_floats(a: &[f32], b: &[f32]) -> bool {
+    a.len() == b.len() && a.iter().zip(b).all(|(x, y)| bits32(*x) == bits32(*y))
+}
+
+/// Whether `ImageView::from_u8_slice` says no as well as document 01.
+fn view_refused(image: &Image) -> bool {
+    image.width.checked_mul(image.height) != Some(image.bytes.len() as u64)
+}
