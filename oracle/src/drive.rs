@@ -66,6 +66,16 @@ pub fn response_patch(
     Some((map.width(), map.height(), map.data().to_vec()))
 }
 
+/// `chess_response_u8`, the whole image at once. The port leaves it out.
+pub fn response_whole(image: &Image, radius10: bool) -> Vec<f32> {
+    let mut params = rust::ChessParams::default();
+    params.use_radius10 = radius10;
+    let (w, h) = (image.width as usize, image.height as usize);
+    rust::chess_response_u8(&image.bytes, w, h, &params)
+        .data()
+        .to_vec()
+}
+
 /// `chess_response_at_u8`.
 pub fn response_at(bytes: &[u8], width: usize, x: i32, y: i32, ring: &Ring) -> f32 {
     probe::response::at(bytes, width, x, y, ring)
@@ -185,6 +195,7 @@ pub fn refine_counted(
                 fits: m.fits,
                 stuck: m.stuck,
                 fresh_slope: m.fresh_slope,
+                reach: m.reach,
             };
             (answer, Some(run))
         }

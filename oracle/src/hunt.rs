@@ -19,24 +19,21 @@ fn first_stuck() -> Option<u64> {
     })
 }
 
-pub fn all(turns: usize) {
+pub fn all(turns: usize, seed: u64) {
     println!("steps that start and fail: picture {:?}", first_stuck());
-    let mut random = Random::of(1, "hunt");
+    let mut random = Random::of(seed, "hunt");
     let mut most = Run::default();
+    let mut reach = 0.0;
     let (mut accepted, mut panics, mut far, mut sixteen) = (0, 0, 0, 0);
     for _ in 0..turns {
         let s = Settings {
-            radius: random.pick(&[1, 1, 2, 2, 3]),
-            det_margin: random.pick(&[0.0, 0.0, 1e-30, 1e-3]),
-            max_offset: random.pick(&[1e30, 1.5, 8.0]),
-            min_abs_det: random.pick(&[0.0, 0.0, 1e-30, 1e-4]),
+            radius: random.pick(&[1, 1, 1, 2, 2, 3]),
+            det_margin: random.pick(&[0.0, 0.0, 0.0, 1e-3]),
+            max_offset: random.pick(&[1e30, 1e30, 1.5]),
+            min_abs_det: random.pick(&[0.0, 0.0, 0.0, 1e-4]),
         };
-        let side = random.between(9, 15) as usize;
-        let image = match random.below(4) {
-            0 => pictures::few_levels(&mut random, side, side, &[7, 8]),
-            1 => pictures::few_levels(&mut random, side, side, &[0, 255]),
-            _ => pictures::any(&mut random, side, side),
-        };
+        let side = random.between(6, 12) as usize;
+        let image = pictures::hard(&mut random, side);
         for _ in 0..20 {
             let seed = [random.unit() * side as f32, random.unit() * side as f32];
             match run(|| plain::refine_counted(&image, &s, seed, true)) {
@@ -58,9 +55,16 @@ pub fn all(turns: usize) {
                         most = r;
                         println!("tries {}: {s:?} {seed:?} {r:?}", r.tries);
                     }
+                    if r.reach > reach {
+                        reach = r.reach;
+                        println!("reach {reach}: {image:?} {s:?} {seed:?} {r:?}");
+                    }
+                    if a.converged && a.covariance.is_none() {
+                        println!("converged, covariance not finite: {image:?} {s:?} {seed:?}");
+                    }
                 }
             }
         }
     }
-    println!("{accepted} accepted, {panics} panics, {far} far bases, {sixteen} of 16 steps, most tries {most:?}");
+    println!("{accepted} accepted, {panics} panics, {far} far bases, {sixteen} of 16 steps, farthest candidate {reach}, most tries {most:?}");
 }

@@ -1,6 +1,7 @@
 //! The oracle of the port: the Rust of docs/src behind plain functions, and
 //! the writer of the fixed lists.
 
+pub mod differences;
 pub mod hunt;
 pub mod lists;
 pub mod marked;

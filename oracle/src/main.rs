@@ -1,6 +1,7 @@
 //! `oracle write FOLDER [SEED]` writes every list and prints what it counts.
 //! `oracle marked` runs document 01's examples and shortcuts on the Rust.
-//! `oracle hunt TURNS` looks for runs of the refiner that are hard to meet.
+//! `oracle differences` runs the smallest inputs of docs/DIFFERENCES.md on it.
+//! `oracle hunt TURNS SEED` looks for runs of the refiner that are hard to meet.
 
 use std::path::Path;
 use std::process::ExitCode;
@@ -24,8 +25,7 @@ fn write(folder: &Path, seed: u64) -> bool {
     }
 }
 
-fn marked() -> bool {
-    let lines = oracle::marked::all();
+fn said(lines: Vec<(String, bool)>) -> bool {
     for (line, holds) in &lines {
         println!("{} {line}", if *holds { "holds" } else { "FAILS" });
     }
@@ -42,13 +42,17 @@ fn main() -> ExitCode {
         ["write", folder, seed] if number(seed).is_some() => {
             write(Path::new(folder), number(seed).unwrap_or(0))
         }
-        ["marked"] => marked(),
-        ["hunt", turns] if number(turns).is_some() => {
-            oracle::hunt::all(number(turns).unwrap_or(0) as usize);
+        ["marked"] => said(oracle::marked::all()),
+        ["differences"] => said(oracle::differences::all()),
+        ["hunt", turns, seed] if number(turns).is_some() && number(seed).is_some() => {
+            oracle::hunt::all(
+                number(turns).unwrap_or(0) as usize,
+                number(seed).unwrap_or(0),
+            );
             true
         }
         _ => {
-            eprintln!("oracle: write FOLDER [SEED], marked, or hunt TURNS");
+            eprintln!("oracle: write FOLDER [SEED], marked, differences, or hunt TURNS SEED");
             false
         }
     };

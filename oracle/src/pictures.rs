@@ -136,3 +136,23 @@ pub fn any(random: &mut Random, width: usize, height: usize) -> Image {
         _ => Corner::seeded(random, width, height).draw(width, height),
     }
 }
+
+/// A square picture on which the refiner's steps have a hard time.
+pub fn hard(random: &mut Random, side: usize) -> Image {
+    match random.below(6) {
+        0 => few_levels(random, side, side, &[7, 8]),
+        1 => few_levels(random, side, side, &[0, 255]),
+        2 => few_levels(random, side, side, &[0, 0, 0, 1, 2]),
+        // Rows that hardly differ: little curves downwards.
+        3 | 4 => {
+            let mut image = few_levels(random, side, side, &[0, 3, 200, 255]);
+            for k in side..side * side {
+                if !random.once_in(12) {
+                    image.bytes[k] = image.bytes[k - side];
+                }
+            }
+            image
+        }
+        _ => any(random, side, side),
+    }
+}

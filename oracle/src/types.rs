@@ -117,4 +117,5 @@ pub struct Run {
     pub fits: usize,
     pub stuck: bool,
     pub fresh_slope: bool,
+    pub reach: f32,
 }

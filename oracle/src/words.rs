@@ -86,6 +86,7 @@ pub struct List {
     pub name: &'static str,
     words: Vec<u32>,
     cases: usize,
+    longest: usize,
     counts: std::collections::BTreeMap<String, usize>,
 }
 
@@ -95,6 +96,7 @@ impl List {
             name,
             words: Vec::new(),
             cases: 0,
+            longest: 0,
             counts: Default::default(),
         }
     }
@@ -103,6 +105,7 @@ impl List {
         self.words.push(case.0.len() as u32);
         self.words.extend_from_slice(&case.0);
         self.cases += 1;
+        self.longest = self.longest.max(case.0.len());
     }
 
     /// Counts one more of `what`.
@@ -133,10 +136,11 @@ impl List {
 
     pub fn report(&self) -> String {
         let mut text = format!(
-            "{}: {} cases, {} bytes\n",
+            "{}: {} cases, {} bytes, at most {} words a case\n",
             self.name,
             self.cases,
-            4 * self.words.len()
+            4 * self.words.len(),
+            self.longest
         );
         for (what, n) in &self.counts {
             text.push_str(&format!("    {n:>6}  {what}\n"));

@@ -86,7 +86,8 @@ fn put_seed(
             1 => "tries 1",
             2..=4 => "tries 2 to 4",
             5..=16 => "tries 5 to 16",
-            17..=63 => "tries 17 to 63",
+            17..=40 => "tries 17 to 40",
+            41..=63 => "tries 41 to 63",
             _ => "tries 64",
         });
         list.tally(match (a.converged, covariance, a.covariance.is_some()) {
@@ -430,9 +431,9 @@ fn rare(a: &Refined, run: &Run) -> Option<usize> {
     [
         run.far > 0,
         a.converged && a.covariance.is_none(),
-        !a.converged && !run.stuck && run.steps < 16,
+        run.tries > 40,
         run.steps == 16,
-        run.tries > 24,
+        !a.converged && !run.stuck && run.steps < 16,
         run.fits > 9,
         run.fresh_slope,
         run.tries > 16,
@@ -447,16 +448,15 @@ fn rare(a: &Refined, run: &Run) -> Option<usize> {
 fn rare_runs(list: &mut List, seed: u64) {
     let mut random = Random::of(seed, "rare");
     let mut left = [24usize; 10];
-    for _ in 0..2_500 {
+    for _ in 0..6_000 {
         let s = Settings {
-            radius: random.pick(&[1, 1, 2, 2, 3]),
-            det_margin: random.pick(&[0.0, 1e-30, 1e-3]),
-            max_offset: random.pick(&[1e30, 1.5, 8.0]),
-            min_abs_det: random.pick(&[0.0, 1e-30, 1e-4]),
+            radius: random.pick(&[1, 1, 1, 2, 2, 3]),
+            det_margin: random.pick(&[0.0, 0.0, 1e-30, 1e-3]),
+            max_offset: random.pick(&[1e30, 1e30, 1.5, 8.0]),
+            min_abs_det: random.pick(&[0.0, 0.0, 1e-30, 1e-4]),
         };
         let side = random.between(7, 12) as usize;
-        let levels: &[u8] = random.pick(&[&[0u8, 255] as &[u8], &[0, 255], &[7, 8], &[0, 1, 255]]);
-        let image = pictures::few_levels(&mut random, side, side, levels);
+        let image = pictures::hard(&mut random, side);
         let mut seeds = Vec::new();
         for _ in 0..12 {
             let seed = [random.unit() * side as f32, random.unit() * side as f32];

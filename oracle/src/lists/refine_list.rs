@@ -171,7 +171,7 @@ fn borders(list: &mut List) {
         }
     }
     // 4,096 corners and one more, most of them +0.0.
-    for n in [4096, 4097, 5000] {
+    for n in [4096, 4097, 4098] {
         let mut many = vec![0.0; 3 * n];
         many[..floats.len()].copy_from_slice(&floats);
         write(list, &call(many, base));

@@ -80,6 +80,8 @@ pub struct Mirrored {
     pub stuck: bool,
     /// The slope had to be worked out without the four cached fits.
     pub fresh_slope: bool,
+    /// The greatest offset of a candidate.
+    pub reach: f32,
     /// The first fit's place, and the last one's.
     pub first: [f32; 2],
     pub last: [f32; 2],
@@ -132,6 +134,7 @@ pub fn mirror(
     let mut now = (first, [0.0f32; 2], Window::new(centre, [0.0; 2]));
     let (mut tries, mut steps, mut newtons, mut far) = (0, 0, 0, 0);
     let mut stuck = false;
+    let mut reach = 0.0f32;
     while steps < MAX_STEPS as u32 && !stuck && !(size(now.0.u) < small) {
         let (fit, at, window) = now;
         let newton = match fits.cached_slope(&window) {
@@ -143,6 +146,7 @@ pub fn mirror(
         for scale in [1.0f32, 0.5, 0.25, 0.125] {
             tries += 1;
             let place = [at[0] + scale * step[0], at[1] + scale * step[1]];
+            reach = reach.max(place[0].abs()).max(place[1].abs());
             if !base_fits(centre, place) {
                 far += 1;
                 continue;
@@ -175,6 +179,7 @@ pub fn mirror(
         fits: fits.len,
         stuck,
         fresh_slope: false,
+        reach,
         first: [home[0] + first.u[0], home[1] + first.u[1]],
         last: [home[0] + at[0] + fit.u[0], home[1] + at[1] + fit.u[1]],
     };
