@@ -99,6 +99,18 @@ fn response(out: &mut Lines) {
         "R7: a pair beyond the radius, (2,0) at radius 1 on 3 by 3: the Rust answers from the next row",
         run(|| any_ring::response_patch(&three, false, whole(&three))).is_some(),
     );
+    let mut top = pictures::flat(11, 11, 0);
+    for (k, (dx, dy)) in paper_ring(1).iter().enumerate() {
+        top.bytes[((5 + dy) * 11 + 5 + dx) as usize] = if k % 8 < 4 { 255 } else { 0 };
+    }
+    for (d, v) in [(0, 128), (1, 128), (-1, 127), (11, 127), (-11, 127)] {
+        top.bytes[(60 + d) as usize] = v;
+    }
+    let greatest = plain::response_at(&top.bytes, 11, 5, 5, &paper_ring(1));
+    say(
+        "R9: the greatest value met is 2038.4, N 10192",
+        greatest == 2038.4 && rules::whole_at(&top, &paper_ring(1), 5, 5) == 10192,
+    );
     any_ring::lend_ring(0, &ring);
     say(
         "R8: ring radius 0 on 1 by 1: the Rust panics at the cross",
@@ -281,6 +293,11 @@ fn refiner(out: &mut Lines) {
     say(
         "F11: where only one patch fits, no slope exists: accepted, below tolerance, not converged",
         refine(&six, &base, [2.0, 2.0]).is_some_and(|a| a.status == 0 && !a.converged),
+    );
+    let (stuck, at) = refine::stuck_corner();
+    say(
+        "F16: the steps start and fail: accepted, not converged",
+        refine(&stuck, &base, at).is_some_and(|a| a.status == 0 && !a.converged),
     );
     let list = [[4.0, 4.0, 1.0], [f32::INFINITY, 4.0, 1.0]];
     say(

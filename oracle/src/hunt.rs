@@ -53,7 +53,7 @@ pub fn all(turns: usize, seed: u64) {
                     }
                     if r.tries > most.tries {
                         most = r;
-                        println!("tries {}: {s:?} {seed:?} {r:?}", r.tries);
+                        println!("tries {}: {image:?} {s:?} {seed:?} {r:?}", r.tries);
                     }
                     if r.reach > reach {
                         reach = r.reach;
