@@ -109,7 +109,7 @@ fn response(out: &mut Lines) {
     let greatest = plain::response_at(&top.bytes, 11, 5, 5, &paper_ring(1));
     say(
         "R9: the greatest value met is 2038.4, N 10192",
-        greatest == 2038.4 && rules::whole_at(&top, &paper_ring(1), 5, 5) == 10192,
+        greatest == 2038.4 && rules::whole_at((&top).into(), &paper_ring(1), 5, 5) == 10192,
     );
     any_ring::lend_ring(0, &ring);
     say(

@@ -16,8 +16,8 @@ fn settings(s: &Settings) -> rust::SaddlePointConfig {
     cfg
 }
 
-fn view(image: &Image) -> rust::ImageView<'_> {
-    rust::ImageView::from_u8_slice(image.width as usize, image.height as usize, &image.bytes)
+fn view(image: View<'_>) -> rust::ImageView<'_> {
+    rust::ImageView::from_u8_slice(image.width as usize, image.height as usize, image.bytes)
         .expect("the byte count is width times height")
 }
 
@@ -43,11 +43,12 @@ fn triples(list: &[rust::Corner]) -> Vec<Triple> {
 
 /// `chess_response_u8_patch` with the ring that this build has for the
 /// parameters. Width, height and values.
-pub fn response_patch(
-    image: &Image,
+pub fn response_patch<'a>(
+    image: impl Into<View<'a>>,
     radius10: bool,
     region: Region,
 ) -> Option<(usize, usize, Vec<f32>)> {
+    let image = image.into();
     let mut params = rust::ChessParams::default();
     params.use_radius10 = radius10;
     let roi = rust::Roi::new(
@@ -57,7 +58,7 @@ pub fn response_patch(
         region.y1 as usize,
     )?;
     let map = rust::chess_response_u8_patch(
-        &image.bytes,
+        image.bytes,
         image.width as usize,
         image.height as usize,
         &params,
@@ -67,11 +68,12 @@ pub fn response_patch(
 }
 
 /// `chess_response_u8`, the whole image at once. The port leaves it out.
-pub fn response_whole(image: &Image, radius10: bool) -> Vec<f32> {
+pub fn response_whole<'a>(image: impl Into<View<'a>>, radius10: bool) -> Vec<f32> {
+    let image = image.into();
     let mut params = rust::ChessParams::default();
     params.use_radius10 = radius10;
     let (w, h) = (image.width as usize, image.height as usize);
-    rust::chess_response_u8(&image.bytes, w, h, &params)
+    rust::chess_response_u8(image.bytes, w, h, &params)
         .data()
         .to_vec()
 }
@@ -103,10 +105,11 @@ impl Refiner {
     }
 
     /// `SaddlePointRefiner::refine` on one seed.
-    pub fn refine(&mut self, image: &Image, seed: [f32; 2]) -> Refined {
-        let answer = self
-            .0
-            .refine(seed, rust::RefineContext::new(Some(view(image)), None));
+    pub fn refine<'a>(&mut self, image: impl Into<View<'a>>, seed: [f32; 2]) -> Refined {
+        let answer = self.0.refine(
+            seed,
+            rust::RefineContext::new(Some(view(image.into())), None),
+        );
         Refined {
             status: status(answer.status),
             x: answer.x,
@@ -120,25 +123,25 @@ impl Refiner {
     }
 
     /// `refine_corners_on_image`.
-    pub fn refine_list(&mut self, image: &Image, list: &[Triple]) -> Vec<Triple> {
+    pub fn refine_list<'a>(&mut self, image: impl Into<View<'a>>, list: &[Triple]) -> Vec<Triple> {
         triples(&rust::refine_corners_on_image(
             corners(list),
-            Some(view(image)),
+            Some(view(image.into())),
             None,
             &mut self.0,
         ))
     }
 
     /// `refine_corners_on_image_with_fallback`.
-    pub fn refine_list_with_fallback(
+    pub fn refine_list_with_fallback<'a>(
         &mut self,
         fallback: &mut Refiner,
-        image: &Image,
+        image: impl Into<View<'a>>,
         list: &[Triple],
     ) -> Vec<Triple> {
         triples(&rust::refine_corners_on_image_with_fallback(
             corners(list),
-            Some(view(image)),
+            Some(view(image.into())),
             None,
             &mut self.0,
             &mut fallback.0,
@@ -150,12 +153,13 @@ impl Refiner {
 /// the counts are the mirror's, `None` where no seed was accepted.
 ///
 /// Ends the program where the two do not agree bit for bit.
-pub fn refine_counted(
-    image: &Image,
+pub fn refine_counted<'a>(
+    image: impl Into<View<'a>>,
     s: &Settings,
     seed: [f32; 2],
     covariance: bool,
 ) -> (Refined, Option<Run>) {
+    let image: View<'a> = image.into();
     let answer = Refiner::new(s, covariance).refine(image, seed);
     if answer.status == 2 {
         return (answer, None);
@@ -203,16 +207,16 @@ pub fn refine_counted(
 }
 
 /// The place of the first fit, accepted or not, by the mirror.
-pub fn first_fit(image: &Image, s: &Settings, seed: [f32; 2]) -> [f32; 2] {
-    match probe::saddle_point::mirror(&settings(s), &view(image), seed) {
+pub fn first_fit<'a>(image: impl Into<View<'a>>, s: &Settings, seed: [f32; 2]) -> [f32; 2] {
+    match probe::saddle_point::mirror(&settings(s), &view(image.into()), seed) {
         Ok(m) => m.first,
         Err(_) => [f32::NAN; 2],
     }
 }
 
 /// The place of the last fit that the steps reached, by the mirror.
-pub fn last_fit(image: &Image, s: &Settings, seed: [f32; 2]) -> [f32; 2] {
-    match probe::saddle_point::mirror(&settings(s), &view(image), seed) {
+pub fn last_fit<'a>(image: impl Into<View<'a>>, s: &Settings, seed: [f32; 2]) -> [f32; 2] {
+    match probe::saddle_point::mirror(&settings(s), &view(image.into()), seed) {
         Ok(m) => m.last,
         Err(_) => [f32::NAN; 2],
     }

@@ -1,6 +1,7 @@
 //! The oracle of the port: the Rust of docs/src behind plain functions, and
 //! the writer of the fixed lists.
 
+pub mod calls;
 pub mod differences;
 pub mod hunt;
 pub mod lists;
@@ -17,6 +18,10 @@ pub mod words;
 #[allow(clippy::field_reassign_with_default)]
 pub mod plain {
     use chess_corners_core as rust;
+
+    /// The crate itself, for a caller that times it.
+    pub use chess_corners_core as original;
+
     include!("drive.rs");
 }
 

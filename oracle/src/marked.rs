@@ -13,7 +13,7 @@ pub fn all() -> Vec<(String, bool)> {
     for (name, image, n, bits) in response::examples() {
         let ring = paper_ring(1);
         let value = plain::response_at(&image.bytes, 11, 5, 5, &ring);
-        let whole = rules::whole_at(&image, &ring, 5, 5);
+        let whole = rules::whole_at((&image).into(), &ring, 5, 5);
         say(
             format!("{name}: N {whole}, value {value} ({:08X})", value.to_bits()),
             whole == n && value.to_bits() == bits,

@@ -46,7 +46,7 @@ fn first(tests: &[(bool, u32)]) -> Option<u32> {
 // --- response ---------------------------------------------------------------
 
 /// The region clamped to the image: x0, y0, width, height; 0 by 0 if empty.
-pub fn clamped(image: &Image, region: Region) -> (u64, u64, u64, u64) {
+pub fn clamped(image: View<'_>, region: Region) -> (u64, u64, u64, u64) {
     let x0 = region.x0.min(image.width);
     let y0 = region.y0.min(image.height);
     let x1 = region.x1.min(image.width);
@@ -59,7 +59,7 @@ pub fn clamped(image: &Image, region: Region) -> (u64, u64, u64, u64) {
 
 /// 10, 11, 13, 14, 15.
 pub fn response_refusal(
-    image: &Image,
+    image: View<'_>,
     ring_radius: i32,
     ring: &Ring,
     region: Region,
@@ -80,7 +80,7 @@ pub fn response_refusal(
 }
 
 /// The samples under one pixel: the ring, and the cross.
-fn samples(image: &Image, ring: &Ring, x: i64, y: i64) -> ([i32; 16], [i32; 5]) {
+fn samples(image: View<'_>, ring: &Ring, x: i64, y: i64) -> ([i32; 16], [i32; 5]) {
     let at = |dx: i32, dy: i32| {
         let place = (y + i64::from(dy)) * image.width as i64 + x + i64::from(dx);
         i32::from(image.bytes[place as usize])
@@ -112,20 +112,20 @@ pub fn whole(ring: &[i32; 16], cross: &[i32; 5]) -> i32 {
 }
 
 /// N at a pixel whose ring fits.
-pub fn whole_at(image: &Image, ring: &Ring, x: i64, y: i64) -> i32 {
+pub fn whole_at(image: View<'_>, ring: &Ring, x: i64, y: i64) -> i32 {
     let (r, c) = samples(image, ring, x, y);
     whole(&r, &c)
 }
 
 /// Whether the ring fits at (x, y): the radius in pixels on all four sides.
-pub fn ring_fits(image: &Image, radius: i32, x: u64, y: u64) -> bool {
+pub fn ring_fits(image: View<'_>, radius: i32, x: u64, y: u64) -> bool {
     let r = radius as u64;
     x >= r && y >= r && x + r < image.width && y + r < image.height
 }
 
 /// The response of an accepted call: width, height, values.
 pub fn response(
-    image: &Image,
+    image: View<'_>,
     ring_radius: i32,
     ring: &Ring,
     region: Region,
@@ -149,7 +149,7 @@ pub fn response(
 // --- refine -----------------------------------------------------------------
 
 /// 10, 11, 12: what refuses a seed before it is looked at.
-pub fn refine_refusal(image: &Image, s: &Settings) -> Option<u32> {
+pub fn refine_refusal(image: View<'_>, s: &Settings) -> Option<u32> {
     first(&[
         (
             bad_size(image.width, image.height, image.bytes.len()),
@@ -161,7 +161,7 @@ pub fn refine_refusal(image: &Image, s: &Settings) -> Option<u32> {
 }
 
 /// Whether the patch at the rounded seed leaves the image, in whole numbers.
-pub fn patch_leaves(image: &Image, s: &Settings, seed: [f32; 2]) -> bool {
+pub fn patch_leaves(image: View<'_>, s: &Settings, seed: [f32; 2]) -> bool {
     let reach = i64::from(s.radius);
     let leaves = |seed: f32, size: u64| {
         let centre = i64::from(seed.round() as i32);
@@ -171,7 +171,12 @@ pub fn patch_leaves(image: &Image, s: &Settings, seed: [f32; 2]) -> bool {
 }
 
 /// 10, 11, 12, 19, 16, 15. Lengths are counted in floats.
-pub fn refine_list_refusal(image: &Image, s: &Settings, length: usize, out: usize) -> Option<u32> {
+pub fn refine_list_refusal(
+    image: View<'_>,
+    s: &Settings,
+    length: usize,
+    out: usize,
+) -> Option<u32> {
     refine_refusal(image, s).or_else(|| {
         first(&[
             (length % 3 != 0, BAD_LENGTH),
@@ -184,7 +189,7 @@ pub fn refine_list_refusal(image: &Image, s: &Settings, length: usize, out: usiz
 /// W-209: as for a list, with 11 for either radius before 12 for either
 /// setting, and 15 also for fewer pass bytes than seeds.
 pub fn fallback_refusal(
-    image: &Image,
+    image: View<'_>,
     one: &Settings,
     two: &Settings,
     length: usize,

@@ -36,6 +36,34 @@ impl Image {
     }
 }
 
+/// The same, lent: bytes, width, height.
+#[derive(Clone, Copy, Debug)]
+pub struct View<'a> {
+    pub width: u64,
+    pub height: u64,
+    pub bytes: &'a [u8],
+}
+
+impl<'a> View<'a> {
+    pub fn new(width: usize, height: usize, bytes: &'a [u8]) -> Self {
+        View {
+            width: width as u64,
+            height: height as u64,
+            bytes,
+        }
+    }
+}
+
+impl<'a> From<&'a Image> for View<'a> {
+    fn from(image: &'a Image) -> Self {
+        View {
+            width: image.width,
+            height: image.height,
+            bytes: &image.bytes,
+        }
+    }
+}
+
 /// The refiner's settings.
 #[derive(Clone, Copy, Debug, PartialEq)]
 pub struct Settings {
@@ -107,7 +135,8 @@ pub struct Operator {
     pub inverse: [[f64; 6]; 6],
 }
 
-/// What the mirror of the steps counts.
+/// What the mirror of the steps counts. Tries are the candidates tried; far
+/// ones have a base that leaves 32 bits; reach is the greatest offset of one.
 #[derive(Clone, Copy, Debug, Default)]
 pub struct Run {
     pub tries: u32,

@@ -2,8 +2,7 @@
 //! (W-209).
 
 use super::*;
-use crate::rust_or_rule::{refusal, run};
-use crate::{checked, plain, rules};
+use crate::rules;
 
 struct Call {
     image: Image,
@@ -15,81 +14,32 @@ struct Call {
 }
 
 fn write(list: &mut List, c: &Call) {
-    let corners = triples(&c.floats);
-    let by_plain = || {
-        let mut two = plain::Refiner::new(&c.two, false);
-        plain::Refiner::new(&c.one, false).refine_list_with_fallback(&mut two, &c.image, &corners)
-    };
-    let by_checked = || {
-        let mut two = checked::Refiner::new(&c.two, false);
-        checked::Refiner::new(&c.one, false).refine_list_with_fallback(&mut two, &c.image, &corners)
-    };
-    let refused =
-        rules::fallback_refusal(&c.image, &c.one, &c.two, c.floats.len(), c.out, c.passes);
-    let mut passes: Vec<u8> = Vec::new();
-    let (answer, decided) = match refused {
-        Some(rules::BAD_LENGTH) => (Vec::new(), Decided::NotRun),
-        Some(_) if view_refused(&c.image) => (Vec::new(), Decided::ByRust),
-        Some(_) => (Vec::new(), refusal(by_plain, by_checked)),
-        None => {
-            let mut by_seed: Vec<Triple> = Vec::new();
-            for c3 in &corners {
-                for (pass, s) in [(1, &c.one), (2, &c.two)] {
-                    let (a, _, _) = refine::answer(&c.image, s, [c3[0], c3[1]], false);
-                    if a.status == 0 {
-                        by_seed.push([a.x, a.y, c3[2]]);
-                        passes.push(pass);
-                        break;
-                    }
-                }
-            }
-            match run(by_plain) {
-                None => (by_seed, Decided::RustPanics),
-                Some(all) => {
-                    assert!(same_triples(&all, &by_seed), "the passes are seed by seed");
-                    let wraps = run(by_checked).is_none();
-                    if c.one == c.two {
-                        let single =
-                            plain::Refiner::new(&c.one, false).refine_list(&c.image, &corners);
-                        assert!(
-                            same_triples(&all, &single),
-                            "equal settings, the single pass"
-                        );
-                        list.tally("equal settings");
-                    }
-                    (
-                        all,
-                        if wraps {
-                            Decided::RustWraps
-                        } else {
-                            Decided::ByRust
-                        },
-                    )
-                }
-            }
-        }
-    };
-    let number = refused.unwrap_or(0);
+    let image = View::from(&c.image);
+    let (decision, answer, passes) =
+        calls::fallback(image, &c.one, &c.two, &c.floats, c.out, c.passes);
+    if decision.number == 0 && c.one == c.two {
+        let (_, single) = calls::refine_list(image, &c.one, &c.floats, c.out);
+        assert!(
+            same_triples(&answer, &single),
+            "equal settings, the single pass"
+        );
+        list.tally("equal settings");
+    }
     let mut case = Case::new();
     put_image(&mut case, &c.image);
     put_settings(&mut case, &c.one);
     put_settings(&mut case, &c.two);
     put_padded(&mut case, &c.floats);
     case.count(c.out).count(c.passes);
-    put_decided(&mut case, number, decided);
+    put_decision(&mut case, decision);
     put_triples(&mut case, &answer);
     case.bytes(&passes);
     list.push(&case);
-    list.tally(number_name(number));
-    list.tally(decided.name());
-    list.tally_many(
-        "corners of pass 1",
-        passes.iter().filter(|p| **p == 1).count(),
-    );
-    list.tally_many(
-        "corners of pass 2",
-        passes.iter().filter(|p| **p == 2).count(),
-    );
+    list.tally(number_name(decision.number));
+    list.tally(decision.decided.name());
+    for (pass, name) in [(1, "corners of pass 1"), (2, "corners of pass 2")] {
+        list.tally_many(name, passes.iter().filter(|p| **p == pass).count());
+    }
 }
 
 fn borders(list: &mut List) {

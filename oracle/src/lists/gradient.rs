@@ -1,8 +1,7 @@
 //! `ResponseStencil::add_gradient` on a tile and a gradient grid (W-213).
 
 use super::*;
-use crate::rust_or_rule::{run, Decided};
-use crate::{checked, pictures, plain, rules};
+use crate::{pictures, rules};
 
 struct Call {
     side: u32,
@@ -14,72 +13,22 @@ struct Call {
     grads: Vec<f32>,
 }
 
-fn pairs(floats: &[f32]) -> Vec<[f32; 2]> {
-    floats.chunks_exact(2).map(|g| [g[0], g[1]]).collect()
-}
-
 fn write(list: &mut List, c: &Call) {
-    let side = c.side as usize;
-    let refused = rules::gradient_refusal(c.side, c.tile.len(), &c.ring, c.x, c.y, c.grads.len());
-    let before = pairs(&c.grads);
-    let (x, y) = (c.x as i32, c.y as i32);
-    let by_plain = || plain::add_gradient(&c.ring, side, &c.tile, x, y, c.scale, &before);
-    let by_checked = || checked::add_gradient(&c.ring, side, &c.tile, x, y, c.scale, &before);
-    let minus_zero = c.grads.iter().any(|g| g.to_bits() == 0x8000_0000);
-    let mut after: Vec<f32> = Vec::new();
-    let decided = match refused {
-        // The Rust's tile and grid always have their side squared.
-        Some(rules::BAD_IMAGE | rules::BAD_OUT) => Decided::NotRun,
-        Some(_) => {
-            if run(by_plain).is_none() {
-                Decided::RustPanics
-            } else if run(by_checked).is_none() {
-                Decided::RustWraps
-            } else {
-                // It reads and writes the row beside.
-                Decided::NoSuchLimit
-            }
-        }
-        None => {
-            let rule = rules::gradient(
-                side,
-                &c.tile,
-                &c.ring,
-                c.x as usize,
-                c.y as usize,
-                c.scale,
-                &before,
-            );
-            after = rule.concat();
-            if minus_zero {
-                // The Rust's grid starts from +0.0 and never holds this.
-                Decided::NotRun
-            } else {
-                let rust = run(by_plain).expect("add_gradient answers").concat();
-                assert!(
-                    super::same_floats(&rust, &after),
-                    "gradient: rule and Rust part"
-                );
-                assert!(run(by_checked).is_some());
-                Decided::ByRust
-            }
-        }
-    };
-    let number = refused.unwrap_or(0);
+    let (decision, after) = calls::gradient(c.side, &c.tile, &c.ring, c.x, c.y, c.scale, &c.grads);
     let mut case = Case::new();
     case.word(c.side).count(c.tile.len()).bytes(&c.tile);
     put_ring(&mut case, &c.ring);
     case.word(c.x).word(c.y).floats(&c.scale);
     put_padded(&mut case, &c.grads);
-    put_decided(&mut case, number, decided);
+    put_decision(&mut case, decision);
     put_padded(&mut case, &after);
     list.push(&case);
-    list.tally(number_name(number));
-    list.tally(decided.name());
+    list.tally(number_name(decision.number));
+    list.tally(decision.decided.name());
     if after.iter().any(|g| g.is_nan()) {
         list.tally("a NaN in the gradient afterwards");
     }
-    if side % 2 == 0 {
+    if c.side % 2 == 0 {
         list.tally("even side");
     }
 }

@@ -2,8 +2,7 @@
 
 use super::*;
 use crate::rules::Way;
-use crate::rust_or_rule::{accepted, refusal};
-use crate::{checked, plain, rules};
+use crate::{plain, rules};
 
 struct Call {
     floats: Vec<f32>,
@@ -25,17 +24,6 @@ fn call(list: &[Triple], radius: f32) -> Call {
     }
 }
 
-/// Whether the Rust may be run: its grid asks for little memory, or for so
-/// much that the library panics instead of asking.
-fn may_run(list: &[Triple], radius: f32) -> bool {
-    if list.is_empty() || !radius.is_finite() || radius <= 0.0 {
-        return true;
-    }
-    let [across, down] = rules::cells(list, radius).map(|n| n as u64);
-    let asked = u128::from(across.wrapping_mul(down));
-    asked <= 1 << 22 || asked * 24 > isize::MAX as u128
-}
-
 fn way_word(way: Way) -> u32 {
     match way {
         Way::Refused(_) => 0,
@@ -47,35 +35,17 @@ fn way_word(way: Way) -> u32 {
 }
 
 fn write(list: &mut List, c: &Call) {
+    let (decision, way, kept) = calls::merge(&c.floats, c.radius, c.heads, c.links);
     let corners = triples(&c.floats);
-    let by_plain = || plain::merge(&corners, c.radius);
-    let by_checked = || checked::merge(&corners, c.radius);
-    let way = rules::merge_way(c.floats.len(), &corners, c.radius, c.heads, c.links);
-    let (number, kept) = match way {
-        Way::Refused(number) => (number, Vec::new()),
-        _ => (0, rules::merged(&corners, c.radius, way)),
-    };
-    let decided = if number == rules::BAD_LENGTH || !may_run(&corners, c.radius) {
-        Decided::NotRun
-    } else if number != 0 {
-        refusal(by_plain, by_checked)
-    } else {
-        accepted(by_plain, by_checked, |answer| same_triples(answer, &kept))
-    };
-    assert!(decided != Decided::OtherRule, "merge: rule and Rust part");
-    if number == 0 && way == Way::Plain {
-        let scan = plain::merge_plain(&corners, c.radius * c.radius);
-        assert!(same_triples(&scan, &kept), "the plain scan parts");
-    }
     let mut case = Case::new();
     put_padded(&mut case, &c.floats);
     case.float(c.radius).count(c.heads).count(c.links);
-    put_decided(&mut case, number, decided);
+    put_decision(&mut case, decision);
     case.word(way_word(way));
     put_triples(&mut case, &kept);
     list.push(&case);
-    list.tally(number_name(number));
-    list.tally(decided.name());
+    list.tally(number_name(decision.number));
+    list.tally(decision.decided.name());
     match way {
         Way::Refused(_) => {}
         Way::Empty => list.tally("way 1, empty list"),

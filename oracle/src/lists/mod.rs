@@ -1,7 +1,7 @@
 //! One module a list, and the table of all.
 
+use crate::calls::{self, same_floats, same_triples, triples, Decision};
 use crate::random::Random;
-use crate::rust_or_rule::Decided;
 use crate::types::*;
 use crate::words::{bits32, Case, List};
 
@@ -55,9 +55,9 @@ fn put_settings(case: &mut Case, s: &Settings) {
         .float(s.min_abs_det);
 }
 
-fn put_decided(case: &mut Case, number: u32, decided: Decided) {
-    let [by, why] = decided.words();
-    case.word(number).word(by).word(why);
+fn put_decision(case: &mut Case, d: Decision) {
+    let [by, why] = d.decided.words();
+    case.word(d.number).word(by).word(why);
 }
 
 fn put_triples(case: &mut Case, list: &[Triple]) {
@@ -83,16 +83,6 @@ fn put_ring(case: &mut Case, ring: &Ring) {
     for &(dx, dy) in ring {
         case.int(dx).int(dy);
     }
-}
-
-/// The whole triples of a list of floats.
-fn triples(floats: &[f32]) -> Vec<Triple> {
-    floats.chunks_exact(3).map(|c| [c[0], c[1], c[2]]).collect()
-}
-
-fn same_triples(a: &[Triple], b: &[Triple]) -> bool {
-    let bits = |list: &[Triple]| -> Vec<[u32; 3]> { list.iter().map(|c| c.map(bits32)).collect() };
-    bits(a) == bits(b)
 }
 
 /// The name of a number, for the counts.
@@ -170,13 +160,4 @@ fn good_settings(random: &mut Random) -> Settings {
         max_offset: random.pick(&[0.0, 0.25, 0.5, 1.0, 1.5, 1.5, 2.5, 7.5, 8.0, 1e30]),
         min_abs_det: random.pick(&[0.0, -0.0, 1e-4, 1e-4, 1e-45, 1.0, 50.0]),
     }
-}
-
-fn same_floats(a: &[f32], b: &[f32]) -> bool {
-    a.len() == b.len() && a.iter().zip(b).all(|(x, y)| bits32(*x) == bits32(*y))
-}
-
-/// Whether `ImageView::from_u8_slice` says no as well as document 01.
-fn view_refused(image: &Image) -> bool {
-    image.width.checked_mul(image.height) != Some(image.bytes.len() as u64)
 }

@@ -1,14 +1,14 @@
 //! The fit operators of radius 0 to 7.
 
 use super::*;
-use crate::{checked, plain};
+use crate::checked;
 
 pub fn list(_seed: u64) -> List {
     let mut list = List::new("operator");
     for radius in 0..=7 {
         let mut case = Case::new();
         case.int(radius);
-        match plain::operator(radius) {
+        match calls::operator(radius) {
             None => {
                 assert!(radius == 0 && checked::operator(radius).is_none());
                 case.flag(false);

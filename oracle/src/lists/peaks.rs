@@ -1,9 +1,7 @@
 //! The peak scan by document 01, by W-201, and as the Rust does it.
 
 use super::*;
-use crate::rules::WindowRule;
-use crate::rust_or_rule::run;
-use crate::{checked, plain, rules};
+use crate::rules::{self, WindowRule};
 
 struct Call {
     width: u64,
@@ -14,60 +12,38 @@ struct Call {
 }
 
 fn write(list: &mut List, c: &Call) {
-    let (w, h) = (c.width as usize, c.height as usize);
-    let rust = run(|| plain::peaks(w, h, &c.response, &c.settings));
-    let rust_checked = run(|| checked::peaks(w, h, &c.response, &c.settings));
-    let refused = rules::peaks_refusal(c.width, c.height, &c.response, &c.settings, c.out);
-
+    let s = &c.settings;
     let mut case = Case::new();
     case.long(c.width)
         .long(c.height)
         .count(c.response.len())
         .floats(&c.response);
-    let s = &c.settings;
     case.float(s.threshold)
         .int(s.ring_radius)
         .int(s.window_radius)
         .int(s.refiner_radius)
         .word(s.min_cluster_size)
         .count(c.out);
-    let rules = [
+    for (name, rule) in [
         ("document 01", WindowRule::Strict),
         ("W-201", WindowRule::FirstOfEqual),
-    ];
-    for (name, rule) in rules {
-        let (number, peaks) = match refused {
-            Some(number) => (number, Vec::new()),
-            None => {
-                let peaks = rules::peaks(w, h, &c.response, s, rule);
-                if peaks.len() > c.out / 3 {
-                    (rules::TOO_MANY, Vec::new())
-                } else {
-                    (0, peaks)
-                }
-            }
-        };
-        let decided = match (&rust, &rust_checked) {
-            (None, _) => Decided::RustPanics,
-            (_, None) => Decided::RustWraps,
-            _ if number != 0 => Decided::NoSuchLimit,
-            (Some(answer), _) if same_triples(answer, &peaks) => Decided::ByRust,
-            _ => Decided::OtherRule,
-        };
-        put_decided(&mut case, number, decided);
+    ] {
+        let (decision, peaks) = calls::peaks(c.width, c.height, &c.response, s, c.out, rule);
+        put_decision(&mut case, decision);
         put_triples(&mut case, &peaks);
-        list.tally(format!("{name}: {}", number_name(number)));
-        list.tally(format!("{name}: {}", decided.name()));
+        list.tally(format!("{name}: {}", number_name(decision.number)));
+        list.tally(format!("{name}: {}", decision.decided.name()));
         list.tally_many(format!("{name}: peaks"), peaks.len());
     }
-    match &rust {
+    let (w, h) = (c.width as usize, c.height as usize);
+    match calls::peaks_of_rust(w, h, &c.response, s) {
         None => {
             case.word(1).count(0);
             list.tally("the Rust: panics");
         }
         Some(peaks) => {
             case.word(0);
-            put_triples(&mut case, peaks);
+            put_triples(&mut case, &peaks);
             list.tally("the Rust: answers");
             list.tally_many("the Rust: peaks", peaks.len());
         }

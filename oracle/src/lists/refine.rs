@@ -2,60 +2,7 @@
 //! seeds.
 
 use super::*;
-use crate::rust_or_rule::{refusal, run};
-use crate::{checked, pictures, plain, rules};
-
-/// One seed by document 01 and the Rust: the answer, the counts of the run,
-/// and who decided.
-pub fn answer(
-    image: &Image,
-    s: &Settings,
-    seed: [f32; 2],
-    covariance: bool,
-) -> (Refined, Run, Decided) {
-    if let Some(number) = rules::refine_refusal(image, s) {
-        let decided = if view_refused(image) {
-            Decided::ByRust
-        } else {
-            refusal(
-                || plain::Refiner::new(s, covariance).refine(image, seed),
-                || checked::Refiner::new(s, covariance).refine(image, seed),
-            )
-        };
-        let refused = Refined {
-            status: number,
-            ..Refined::default()
-        };
-        return (refused, Run::default(), decided);
-    }
-    let by_rust = run(|| plain::refine_counted(image, s, seed, covariance));
-    let by_checked = run(|| checked::refine_counted(image, s, seed, covariance));
-    let outside = rules::patch_leaves(image, s, seed);
-    let unmoved = Refined {
-        status: 2,
-        x: seed[0],
-        y: seed[1],
-        ..Refined::default()
-    };
-    match by_rust {
-        None => {
-            assert!(outside, "the Rust panics where document 01 has a fit");
-            (unmoved, Run::default(), Decided::RustPanics)
-        }
-        Some((a, run)) => {
-            assert!(
-                (a.status == 2) == outside,
-                "the Rust and document 01 part on status 2: {image:?} {s:?} {seed:?}"
-            );
-            let decided = if by_checked.is_some() {
-                Decided::ByRust
-            } else {
-                Decided::RustWraps
-            };
-            (a, run.unwrap_or_default(), decided)
-        }
-    }
-}
+use crate::{pictures, plain};
 
 /// One seed's record: 14 words.
 fn put_seed(
@@ -66,9 +13,10 @@ fn put_seed(
     seed: [f32; 2],
     covariance: bool,
 ) {
-    let (a, run, decided) = answer(image, s, seed, covariance);
+    let (a, run, decided) = calls::refine_one(image.into(), s, seed, covariance);
     case.floats(&seed);
-    put_decided(case, a.status, decided);
+    let number = a.status;
+    put_decision(case, Decision { number, decided });
     case.float(a.x)
         .float(a.y)
         .float(a.score)

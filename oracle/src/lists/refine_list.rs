@@ -1,8 +1,7 @@
 //! Lists of seeds through one refiner.
 
 use super::*;
-use crate::rust_or_rule::{refusal, run};
-use crate::{checked, pictures, plain, rules};
+use crate::{pictures, rules};
 
 struct Call {
     image: Image,
@@ -12,56 +11,21 @@ struct Call {
 }
 
 fn write(list: &mut List, c: &Call) {
-    let corners = triples(&c.floats);
-    let s = &c.settings;
-    let by_plain = || plain::Refiner::new(s, false).refine_list(&c.image, &corners);
-    let by_checked = || checked::Refiner::new(s, false).refine_list(&c.image, &corners);
-    let refused = rules::refine_list_refusal(&c.image, s, c.floats.len(), c.out);
-    let (answer, decided) = match refused {
-        Some(rules::BAD_LENGTH) => (Vec::new(), Decided::NotRun),
-        Some(_) if view_refused(&c.image) => (Vec::new(), Decided::ByRust),
-        Some(_) => (Vec::new(), refusal(by_plain, by_checked)),
-        None => {
-            // Seed by seed, by document 01 and the Rust.
-            let one_by_one: Vec<Triple> = corners
-                .iter()
-                .filter_map(|c3| {
-                    let (a, _, _) = refine::answer(&c.image, s, [c3[0], c3[1]], false);
-                    (a.status == 0).then_some([a.x, a.y, c3[2]])
-                })
-                .collect();
-            match run(by_plain) {
-                None => (one_by_one, Decided::RustPanics),
-                Some(all) => {
-                    assert!(same_triples(&all, &one_by_one), "a list is its seeds");
-                    let wraps = run(by_checked).is_none();
-                    (
-                        all,
-                        if wraps {
-                            Decided::RustWraps
-                        } else {
-                            Decided::ByRust
-                        },
-                    )
-                }
-            }
-        }
-    };
-    let number = refused.unwrap_or(0);
+    let (decision, answer) = calls::refine_list((&c.image).into(), &c.settings, &c.floats, c.out);
     let mut case = Case::new();
     put_image(&mut case, &c.image);
-    put_settings(&mut case, s);
+    put_settings(&mut case, &c.settings);
     put_padded(&mut case, &c.floats);
     case.count(c.out);
-    put_decided(&mut case, number, decided);
+    put_decision(&mut case, decision);
     put_triples(&mut case, &answer);
     list.push(&case);
-    list.tally(number_name(number));
-    list.tally(decided.name());
-    if number == 0 {
+    list.tally(number_name(decision.number));
+    list.tally(decision.decided.name());
+    if decision.number == 0 {
         list.tally(match answer.len() {
             0 => "accepted, none kept",
-            n if n == corners.len() => "accepted, all kept",
+            n if 3 * n == c.floats.len() => "accepted, all kept",
             _ => "accepted, some kept",
         });
     }

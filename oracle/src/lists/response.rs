@@ -1,8 +1,7 @@
 //! Response patches with any ring.
 
 use super::*;
-use crate::rust_or_rule::{accepted, refusal};
-use crate::{any_ring, checked, pictures, plain, rules};
+use crate::{pictures, plain, rules};
 
 struct Call {
     image: Image,
@@ -23,7 +22,7 @@ fn whole(image: &Image) -> Region {
 
 /// A call with the buffer that the rule asks for.
 fn call(image: Image, radius: i32, ring: Ring, region: Region) -> Call {
-    let (_, _, w, h) = rules::clamped(&image, region);
+    let (_, _, w, h) = rules::clamped((&image).into(), region);
     Call {
         out: w.saturating_mul(h) as usize,
         image,
@@ -55,37 +54,14 @@ fn any_ring_of(random: &mut Random, radius: i32) -> Ring {
 }
 
 fn write(list: &mut List, c: &Call) {
-    let lend_both = || {
-        any_ring::lend_ring(c.radius as u32, &c.ring);
-        checked::lend_ring(c.radius as u32, &c.ring);
-    };
-    lend_both();
-    let by_plain = || any_ring::response_patch(&c.image, false, c.region);
-    let by_checked = || checked::response_patch(&c.image, false, c.region);
-
-    let refused = rules::response_refusal(&c.image, c.radius, &c.ring, c.region, c.out);
-    let number = refused.unwrap_or(0);
-    let (w, h, values) = match refused {
-        Some(_) => (0, 0, Vec::new()),
-        None => rules::response(&c.image, c.radius, &c.ring, c.region),
-    };
-    let decided = match refused {
-        // `Roi::new` says no as well.
-        Some(rules::EMPTY_ROI) => Decided::ByRust,
-        Some(_) => refusal(by_plain, by_checked),
-        None => accepted(by_plain, by_checked, |answer| {
-            let (rw, rh, rv) = answer.as_ref().expect("the region is not empty");
-            (*rw as u64, *rh as u64) == (w, h) && super::same_floats(rv, &values)
-        }),
-    };
-    assert!(
-        decided != Decided::OtherRule,
-        "response: rule and Rust part"
-    );
-    if refused.is_none() {
+    let (decision, w, h, values) =
+        calls::response((&c.image).into(), c.radius, &c.ring, c.region, c.out);
+    if decision.number == 0 {
         check_more(list, c, w, h, &values);
+        if values.is_empty() {
+            list.tally("accepted, nothing of the region in the image");
+        }
     }
-
     let mut case = Case::new();
     put_image(&mut case, &c.image);
     case.int(c.radius);
@@ -95,26 +71,23 @@ fn write(list: &mut List, c: &Call) {
         .long(c.region.x1)
         .long(c.region.y1)
         .count(c.out);
-    put_decided(&mut case, number, decided);
+    put_decision(&mut case, decision);
     case.count(w as usize).count(h as usize).floats(&values);
     list.push(&case);
-    list.tally(number_name(number));
-    list.tally(decided.name());
-    if refused.is_none() && values.is_empty() {
-        list.tally("accepted, nothing of the region in the image");
-    }
+    list.tally(number_name(decision.number));
+    list.tally(decision.decided.name());
 }
 
 /// The row kernel and the pixel function of the unchanged ring.rs give the
 /// same, the unchanged patch call does where the ring is its own, and each
 /// value lies as near to N as document 01 says.
 fn check_more(list: &mut List, c: &Call, w: u64, h: u64, values: &[f32]) {
-    let (x0, y0, _, _) = rules::clamped(&c.image, c.region);
+    let (x0, y0, _, _) = rules::clamped((&c.image).into(), c.region);
     let width = c.image.width as usize;
     for py in 0..h {
         let y = y0 + py;
         let fits: Vec<u64> = (x0..x0 + w)
-            .filter(|&x| rules::ring_fits(&c.image, c.radius, x, y))
+            .filter(|&x| rules::ring_fits((&c.image).into(), c.radius, x, y))
             .collect();
         let (Some(&from), Some(&last)) = (fits.first(), fits.last()) else {
             continue;
@@ -131,11 +104,16 @@ fn check_more(list: &mut List, c: &Call, w: u64, h: u64, values: &[f32]) {
         );
         let start = (py * w + (from - x0)) as usize;
         let part = &values[start..start + row.len()];
-        assert!(super::same_floats(&row, part), "the row kernel parts");
+        assert!(same_floats(&row, part), "the row kernel parts");
         for (x, &v) in fits.iter().zip(part) {
             let one = plain::response_at(&c.image.bytes, width, *x as i32, y as i32, &c.ring);
             assert!(bits32(one) == bits32(v), "the pixel function parts");
-            let n = i64::from(rules::whole_at(&c.image, &c.ring, *x as i64, y as i64));
+            let n = i64::from(rules::whole_at(
+                (&c.image).into(),
+                &c.ring,
+                *x as i64,
+                y as i64,
+            ));
             let units = f64::from(v) * 4_194_304.0;
             assert!(
                 units.fract() == 0.0,
@@ -158,10 +136,7 @@ fn check_more(list: &mut List, c: &Call, w: u64, h: u64, values: &[f32]) {
     if own {
         let (_, _, rv) =
             plain::response_patch(&c.image, c.radius == 10, c.region).expect("a region");
-        assert!(
-            super::same_floats(&rv, values),
-            "the unchanged patch call parts"
-        );
+        assert!(same_floats(&rv, values), "the unchanged patch call parts");
         list.tally("also by the unchanged ring.rs");
     }
     if narrow {

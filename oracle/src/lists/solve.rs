@@ -1,7 +1,7 @@
 //! `solve` on coefficients and limits.
 
 use super::*;
-use crate::{checked, plain, rules};
+use crate::{checked, plain};
 
 fn write(list: &mut List, coefs: [f32; 5], det_margin: f32, min_abs_det: f32) {
     let s = Settings {
@@ -9,14 +9,13 @@ fn write(list: &mut List, coefs: [f32; 5], det_margin: f32, min_abs_det: f32) {
         min_abs_det,
         ..Settings::default()
     };
-    let answer = plain::solve(&s, coefs);
-    let again = checked::solve(&s, coefs);
-    assert!(answer.is_ok() == again.is_ok());
+    let answer = calls::solve(&s, coefs);
+    assert!(answer.is_ok() == checked::solve(&s, coefs).is_ok());
     let mut case = Case::new();
     case.floats(&coefs).float(det_margin).float(min_abs_det);
     match answer {
         Ok(saddle) => {
-            assert!(super::same_floats(&saddle.quad, &coefs[..3]));
+            assert!(same_floats(&saddle.quad, &coefs[..3]));
             let score = (-saddle.det).sqrt();
             case.word(0)
                 .floats(&saddle.u)
@@ -30,8 +29,7 @@ fn write(list: &mut List, coefs: [f32; 5], det_margin: f32, min_abs_det: f32) {
                 list.tally("fitted with the magnitude at the minimum");
             }
         }
-        Err(det) => {
-            let why = rules::why_refused(&s, det);
+        Err((det, why)) => {
             case.word(why).floats(&[0.0, 0.0]).float(det).float(0.0);
             list.tally(match why {
                 5 => "refused, 5 above the margin",
