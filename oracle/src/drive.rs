@@ -206,6 +206,19 @@ pub fn refine_counted<'a>(
     }
 }
 
+/// The mirror alone, for a hunt: the greatest offset of a candidate.
+pub struct Reach(probe::saddle_point::Mirror);
+
+impl Reach {
+    pub fn new(s: &Settings) -> Option<Self> {
+        probe::saddle_point::Mirror::new(settings(s)).map(Reach)
+    }
+
+    pub fn of<'a>(&self, image: impl Into<View<'a>>, seed: [f32; 2]) -> f32 {
+        self.0.reach(&view(image.into()), seed)
+    }
+}
+
 /// The place of the first fit, accepted or not, by the mirror.
 pub fn first_fit<'a>(image: impl Into<View<'a>>, s: &Settings, seed: [f32; 2]) -> [f32; 2] {
     match probe::saddle_point::mirror(&settings(s), &view(image.into()), seed) {

@@ -68,3 +68,52 @@ pub fn all(turns: usize, seed: u64) {
     }
     println!("{accepted} accepted, {panics} panics, {far} far bases, {sixteen} of 16 steps, farthest candidate {reach}, most tries {most:?}");
 }
+
+/// Looks on tiny pictures for a candidate far from its centre, from the
+/// farthest so far by small changes.
+pub fn far(turns: usize, seed: u64) {
+    let mut random = Random::of(seed, "far");
+    let s = Settings {
+        radius: 1,
+        det_margin: 0.0,
+        max_offset: 1e30,
+        min_abs_det: 0.0,
+    };
+    let Some(mirror) = plain::Reach::new(&s) else {
+        return;
+    };
+    let side = 6;
+    let mut best = 0.0f32;
+    for turn in 0..turns {
+        let levels = random.pick(&[2usize, 3, 3, 3, 4, 8, 256]);
+        let mut image = pictures::flat(side, side, 0);
+        for p in &mut image.bytes {
+            *p = if random.once_in(2) {
+                0
+            } else {
+                random.below(levels) as u8
+            };
+        }
+        let centre = [random.between(1, 4) as f32, random.between(1, 4) as f32];
+        let mut here = mirror.of(&image, centre);
+        // Climb where a start is promising.
+        if here > 100.0 {
+            for _ in 0..2_000 {
+                let k = random.below(side * side);
+                let before = image.bytes[k];
+                image.bytes[k] = random.below(levels) as u8;
+                let now = mirror.of(&image, centre);
+                if now >= here {
+                    here = now;
+                } else {
+                    image.bytes[k] = before;
+                }
+            }
+        }
+        if here > best {
+            best = here;
+            println!("turn {turn}: reach {best}: {:?} {centre:?}", image.bytes);
+        }
+    }
+    println!("farthest candidate {best}");
+}

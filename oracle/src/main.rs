@@ -51,6 +51,13 @@ fn main() -> ExitCode {
             );
             true
         }
+        ["far", turns, seed] if number(turns).is_some() && number(seed).is_some() => {
+            oracle::hunt::far(
+                number(turns).unwrap_or(0) as usize,
+                number(seed).unwrap_or(0),
+            );
+            true
+        }
         _ => {
             eprintln!("oracle: write FOLDER [SEED], marked, differences, or hunt TURNS SEED");
             false

@@ -59,6 +59,9 @@ fn put_seed(
         if run.far > 0 {
             list.tally("run with a base that leaves 32 bits");
         }
+        if run.reach >= 8192.0 {
+            list.tally("run with a candidate farther than 8,192 pixels");
+        }
         if run.fresh_slope {
             list.tally("slope without the four cached fits");
         }
@@ -111,6 +114,60 @@ pub fn stuck_settings() -> Settings {
 
 /// The seed number of that picture, the first found by `oracle hunt`.
 pub const STUCK: u64 = 24;
+
+/// A picture from rows of digits, each times `step`.
+fn digits(rows: &[&str], step: u8) -> Image {
+    let bytes: Vec<u8> = rows
+        .iter()
+        .flat_map(|row| row.bytes().map(|d| (d - b'0') * step))
+        .collect();
+    Image::new(rows[0].len(), rows.len(), bytes)
+}
+
+/// Runs met by `oracle hunt` and `oracle far`: picture, radius, seed.
+fn met() -> Vec<(Image, i32, [f32; 2])> {
+    vec![
+        // A candidate 13,421,770 pixels away, and one 5,592,405 away.
+        (
+            digits(
+                &["121000", "021220", "021010", "202001", "021001", "202011"],
+                1,
+            ),
+            1,
+            [2.0, 3.0],
+        ),
+        (
+            digits(
+                &["101020", "110101", "100011", "012102", "221000", "020001"],
+                1,
+            ),
+            1,
+            [2.0, 2.0],
+        ),
+        // 63 tries.
+        (
+            digits(
+                &[
+                    "000100100110",
+                    "001111001111",
+                    "111101001101",
+                    "101011111000",
+                    "000100101011",
+                    "110111011000",
+                    "110010010000",
+                    "110001010100",
+                    "001101011101",
+                    "101101101110",
+                    "010111101000",
+                    "001011000110",
+                ],
+                255,
+            ),
+            2,
+            [7.197_636_6, 1.823_254_8],
+        ),
+    ]
+}
 
 /// The bits one above those of a number above zero.
 fn above(x: f32) -> f32 {
@@ -429,6 +486,15 @@ pub fn list(seed: u64) -> List {
     borders(&mut list);
     let (stuck, at) = stuck_corner();
     write(&mut list, &stuck, &stuck_settings(), &[at], true);
+    for (image, radius, at) in met() {
+        let s = Settings {
+            radius,
+            det_margin: 0.0,
+            max_offset: 1e30,
+            min_abs_det: 0.0,
+        };
+        write(&mut list, &image, &s, &[at], true);
+    }
     rare_runs(&mut list, seed);
     let mut random = Random::of(seed, "refine");
     while list.size() < ENOUGH {

@@ -107,9 +107,36 @@ pub fn mirror(
     let Some(op) = fit_operator(cfg.radius) else {
         return Err((0.0, RefineStatus::IllConditioned));
     };
+    mirror_with(&op, cfg, image, seed)
+}
+
+/// The mirror of many seeds with one radius.
+pub struct Mirror {
+    op: FitOperator,
+    cfg: SaddlePointConfig,
+}
+
+impl Mirror {
+    pub fn new(cfg: SaddlePointConfig) -> Option<Self> {
+        fit_operator(cfg.radius).map(|op| Mirror { op, cfg })
+    }
+
+    /// The greatest offset of a candidate, 0 where no seed is accepted.
+    pub fn reach(&self, image: &ImageView<'_>, seed: [f32; 2]) -> f32 {
+        mirror_with(&self.op, &self.cfg, image, seed).map_or(0.0, |m| m.reach)
+    }
+}
+
+/// The mirror with the operator at hand.
+fn mirror_with(
+    op: &FitOperator,
+    cfg: &SaddlePointConfig,
+    image: &ImageView<'_>,
+    seed: [f32; 2],
+) -> Result<Mirrored, (f32, RefineStatus)> {
     let side = (2 * cfg.radius + 1) as usize;
     let mut patch = vec![0.0; side * side];
-    let mut fits = IntegerFits::new(image, &op, cfg.radius, &mut patch);
+    let mut fits = IntegerFits::new(image, op, cfg.radius, &mut patch);
     let centre = seed.map(|v| v.round() as i32);
     let home = centre.map(|v| v as f32);
     let half_side = cfg.max_offset.min(cfg.radius as f32 + 0.5);
@@ -195,7 +222,7 @@ pub fn mirror(
         let det = m[0][0] * m[1][1] - m[0][1] * m[1][0];
         if det.is_finite() && det != 0.0 {
             answer.converged = true;
-            answer.covariance = covariance(&op, &window, &jac, m).map(|c| [c.xx, c.xy, c.yy]);
+            answer.covariance = covariance(op, &window, &jac, m).map(|c| [c.xx, c.xy, c.yy]);
         }
     }
     answer.fits = fits.len;
