@@ -287,6 +287,16 @@ pub fn window(centre: [i32; 2], offset: [f32; 2]) -> ([i32; 2], [f32; 2]) {
     probe::saddle_point::window(centre, offset)
 }
 
+/// `IntegerFits::at`: the coefficients of the patch centred on a pixel.
+pub fn fit<'a>(image: impl Into<View<'a>>, radius: i32, centre: [i32; 2]) -> Option<[f32; 5]> {
+    probe::saddle_point::fit_at(radius, &view(image.into()), centre)
+}
+
+/// `blend` and `cached_slope` of four fits, `[j][i]`, at a fraction.
+pub fn blend(corners: [[[f32; 5]; 2]; 2], t: [f32; 2]) -> ([f32; 5], [[f32; 5]; 2]) {
+    probe::saddle_point::blend_and_slope(corners, t)
+}
+
 /// `newton_step`.
 pub fn newton_step(m: [[f32; 2]; 2], u: [f32; 2]) -> Option<[f32; 2]> {
     probe::saddle_point::newton(m, u)

@@ -11,6 +11,7 @@ pub mod gradient;
 pub mod merge;
 pub mod operator;
 pub mod peaks;
+pub mod pieces;
 pub mod refine;
 pub mod refine_list;
 pub mod response;
@@ -34,10 +35,16 @@ pub const ALL: &[Writer] = &[
     ("solve", solve::list),
     ("operator", operator::list),
     ("gradient", gradient::list),
+    ("fit", pieces::fit),
+    ("window", pieces::window),
+    ("blend", pieces::blend),
+    ("newton", pieces::newton),
+    ("sensitivity", pieces::sensitivity),
+    ("covariance", pieces::covariance),
 ];
 
 /// Most words of a list.
-pub const ENOUGH: usize = 130_000;
+pub const ENOUGH: usize = 120_000;
 
 // --- fields that several lists have ----------------------------------------
 

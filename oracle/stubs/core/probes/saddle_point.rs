@@ -48,6 +48,31 @@ pub fn covariance_of(
     covariance(&op, &Window { base: [0, 0], t }, jac, m).map(|c| [c.xx, c.xy, c.yy])
 }
 
+/// The fit of the patch centred on a pixel, by a fresh cache.
+pub fn fit_at(radius: i32, image: &ImageView<'_>, centre: [i32; 2]) -> Option<FiveFloats> {
+    let op = fit_operator(radius)?;
+    let side = (2 * radius + 1) as usize;
+    let mut patch = vec![0.0; side * side];
+    IntegerFits::new(image, &op, radius, &mut patch).at(centre)
+}
+
+/// The blend of the four fits about a base, as `[j][i]`, at fraction `t`, and
+/// the slope of it.
+pub fn blend_and_slope(
+    corners: [[FiveFloats; 2]; 2],
+    t: [f32; 2],
+) -> (FiveFloats, [FiveFloats; 2]) {
+    let window = Window { base: [0, 0], t };
+    let op = fit_operator(1).expect("radius 1 has an operator");
+    let image = ImageView::from_u8_slice(1, 1, &[0]).expect("one pixel");
+    let mut patch = [0.0; 9];
+    let mut fits = IntegerFits::new(&image, &op, 1, &mut patch);
+    fits.corners = corners;
+    fits.corners_base = Some(window.base);
+    let slope = fits.cached_slope(&window).expect("the base is the same");
+    (blend(&corners, &window), slope)
+}
+
 /// Whether an answer converged: a field that only the crate sees.
 pub fn converged(answer: &RefineResult) -> bool {
     answer.converged
