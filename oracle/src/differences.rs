@@ -201,19 +201,6 @@ fn refiner(out: &mut Lines) {
         "F6: and above zero on a bowl",
         refine(&bowl, &base, [2.0, 2.0]).is_some_and(|a| a.status == 3 && a.score > 0.0),
     );
-    // Whether a NaN would pass the box, as the comment in solve fears.
-    let flat = plain::solve(
-        &Settings {
-            det_margin: 0.0,
-            min_abs_det: 0.0,
-            ..base
-        },
-        [0.0; 5],
-    );
-    say(
-        "F7: NaN <= limit is false, so a NaN offset would be rejected by the box, against the comment in solve",
-        flat.is_err() && !(f32::NAN.abs() <= 1.5),
-    );
     for (name, s) in [
         (
             "det_margin NaN",
@@ -310,15 +297,18 @@ fn refiner(out: &mut Lines) {
         "F15: a converging corner needs more than the nine fits of the cache, against the comment at FIT_CACHE",
         a.converged && run.is_some_and(|r| r.fits > 9),
     );
-    // Columns of equal pivots: the first column at radius 1 has 6 twice.
-    let sums: [i32; 2] = [4, 2].map(|p| {
-        (-1i32..=1)
-            .flat_map(|_| (-1i32..=1).map(move |x| x.pow(p)))
-            .sum()
-    });
+    let bits = |m: Option<[[f64; 6]; 6]>| m.map(|m| m.map(|row| row.map(f64::to_bits)));
+    let agrees = |last: bool| -> Vec<i32> {
+        (0..=7)
+            .filter(|&r| {
+                let rust = plain::operator(r).map(|op| op.inverse);
+                bits(rules::inverse_normal(r, last)) == bits(rust)
+            })
+            .collect()
+    };
     say(
-        "F13: at radius 1 the first pivots of rows 0 and 5 are equal, so that the rule of the last row is met",
-        sums == [6, 6],
+        "F13: the inverse with the last of equal pivots is the Rust's at radius 0 to 7; with the first it is not at radius 1",
+        agrees(true) == [0, 1, 2, 3, 4, 5, 6, 7] && agrees(false) == [0, 2, 3, 4, 5, 6, 7],
     );
 }
 
@@ -387,6 +377,14 @@ fn peaks(out: &mut Lines) {
         let s = PeakSettings { threshold: t, ..s };
         say(&line, plain::peaks(5, 5, &one, &s).len() == n);
     }
+    let top = PeakSettings {
+        threshold: f32::INFINITY,
+        ..s
+    };
+    say(
+        "K4: a NaN centre is a peak in the Rust even at threshold +inf",
+        plain::peaks(5, 5, &nan, &top).len() == 1,
+    );
     let below = at(5, 5, &[(2, 2, -1.0)])
         .iter()
         .map(|v| if *v == 0.0 { -2.0 } else { *v })
@@ -435,7 +433,10 @@ fn merge(out: &mut Lines) {
     let wrap = [[0.0, 0.0, 1.0], [1_099_511_627_776.0, 16_777_215.0, 1.0]];
     let cells = rules::cells(&wrap, 1.0);
     let wraps = (cells[0] as u64).checked_mul(cells[1] as u64).is_none();
-    say("M2: (0,0) and (2^40, 2^24-1) at radius 1: the product of the counts passes 64 bits (not run: 400 MB)", wraps);
+    say(
+        "M2: (0,0) and (2^40, 2^24-1) at radius 1: the product of the counts passes 64 bits; with checks a panic (not run without: 400 MB)",
+        wraps && run(|| checked::merge(&wrap, 1.0)).is_none(),
+    );
     let parts = [
         [0.0, 50.0, 1.0],
         [f32::from_bits(0x3FFF_FFFF), 0.0, 1.0],

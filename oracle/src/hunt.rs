@@ -69,8 +69,10 @@ pub fn all(turns: usize, seed: u64) {
     println!("{accepted} accepted, {panics} panics, {far} far bases, {sixteen} of 16 steps, farthest candidate {reach}, most tries {most:?}");
 }
 
-/// Looks on tiny pictures for a candidate far from its centre, from the
-/// farthest so far by small changes.
+/// Looks on pictures of 4 by 4 for a candidate far from its centre. The rows
+/// are A, B, A, B, so that the fits hardly curve downwards, and the columns
+/// are chosen so that half-way between two centres nothing is left of it but
+/// rounding: there a step may be long.
 pub fn far(turns: usize, seed: u64) {
     let mut random = Random::of(seed, "far");
     let s = Settings {
@@ -82,38 +84,35 @@ pub fn far(turns: usize, seed: u64) {
     let Some(mirror) = plain::Reach::new(&s) else {
         return;
     };
-    let side = 6;
     let mut best = 0.0f32;
-    for turn in 0..turns {
-        let levels = random.pick(&[2usize, 3, 3, 3, 4, 8, 256]);
-        let mut image = pictures::flat(side, side, 0);
-        for p in &mut image.bytes {
-            *p = if random.once_in(2) {
-                0
-            } else {
-                random.below(levels) as u8
-            };
+    let mut tried = 0;
+    for _ in 0..turns {
+        let most = random.pick(&[4i64, 8, 16, 32, 64, 128, 255]);
+        let shift = random.between(-most / 4, most / 4);
+        let w1 = random.between(-most / 2, most / 2);
+        let (w2, w3) = (w1 + 3 * shift, random.between(-most, most));
+        let apart = [-(2 * w1 + 2 * w2 + w3), w1, w2, w3];
+        let b1 = random.between(0, most);
+        let b = [
+            random.between(0, most),
+            b1,
+            b1 - 2 * shift,
+            random.between(0, most),
+        ];
+        let a: Vec<i64> = b.iter().zip(apart).map(|(b, w)| b + w).collect();
+        let rows = [&a[..], &b, &a, &b].concat();
+        if rows.iter().any(|v| !(0..=255).contains(v)) {
+            continue;
         }
-        let centre = [random.between(1, 4) as f32, random.between(1, 4) as f32];
-        let mut here = mirror.of(&image, centre);
-        // Climb where a start is promising.
-        if here > 100.0 {
-            for _ in 0..2_000 {
-                let k = random.below(side * side);
-                let before = image.bytes[k];
-                image.bytes[k] = random.below(levels) as u8;
-                let now = mirror.of(&image, centre);
-                if now >= here {
-                    here = now;
-                } else {
-                    image.bytes[k] = before;
-                }
+        tried += 1;
+        let bytes: Vec<u8> = rows.iter().map(|v| *v as u8).collect();
+        for centre in [[1.0, 1.0], [2.0, 1.0], [1.0, 2.0], [2.0, 2.0]] {
+            let here = mirror.of(View::new(4, 4, &bytes), centre);
+            if here > best {
+                best = here;
+                println!("reach {best}: {bytes:?} {centre:?}");
             }
         }
-        if here > best {
-            best = here;
-            println!("turn {turn}: reach {best}: {:?} {centre:?}", image.bytes);
-        }
     }
-    println!("farthest candidate {best}");
+    println!("{tried} pictures, farthest candidate {best}");
 }

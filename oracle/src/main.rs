@@ -1,7 +1,8 @@
 //! `oracle write FOLDER [SEED]` writes every list and prints what it counts.
 //! `oracle marked` runs document 01's examples and shortcuts on the Rust.
 //! `oracle differences` runs the smallest inputs of docs/DIFFERENCES.md on it.
-//! `oracle hunt TURNS SEED` looks for runs of the refiner that are hard to meet.
+//! `oracle hunt TURNS SEED` and `oracle far TURNS SEED` look for runs of the
+//! refiner that are hard to meet.
 
 use std::path::Path;
 use std::process::ExitCode;
@@ -59,7 +60,7 @@ fn main() -> ExitCode {
             true
         }
         _ => {
-            eprintln!("oracle: write FOLDER [SEED], marked, differences, or hunt TURNS SEED");
+            eprintln!("oracle: write FOLDER [SEED], marked, differences, hunt TURNS SEED, or far TURNS SEED");
             false
         }
     };

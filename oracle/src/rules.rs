@@ -212,6 +212,54 @@ pub fn fallback_refusal(
     ])
 }
 
+// --- fit operator -----------------------------------------------------------
+
+/// The inverse of the normal matrix of a x² + b xy + c y² + d x + e y + f over
+/// the square of a radius: binary64, Gauss and Jordan, partial pivoting. Of
+/// equal pivots the last row wins, or the first, to see where that matters.
+pub fn inverse_normal(radius: i32, last_wins: bool) -> Option<[[f64; 6]; 6]> {
+    let mut m = [[0.0f64; 12]; 6];
+    for y in -radius..=radius {
+        for x in -radius..=radius {
+            let (x, y) = (f64::from(x), f64::from(y));
+            let basis = [x * x, x * y, y * y, x, y, 1.0];
+            for row in 0..6 {
+                for col in 0..6 {
+                    m[row][col] += basis[row] * basis[col];
+                }
+            }
+        }
+    }
+    for (row, values) in m.iter_mut().enumerate() {
+        values[6 + row] = 1.0;
+    }
+    for col in 0..6 {
+        let mut pivot = col;
+        for row in col..6 {
+            let (here, best) = (m[row][col].abs(), m[pivot][col].abs());
+            if here > best || (last_wins && here == best) {
+                pivot = row;
+            }
+        }
+        if m[pivot][col].abs() < 1e-9 {
+            return None;
+        }
+        m.swap(col, pivot);
+        let scale = 1.0 / m[col][col];
+        let lead = m[col].map(|v| v * scale);
+        m[col] = lead;
+        for (row, values) in m.iter_mut().enumerate() {
+            let factor = values[col];
+            for (v, l) in values.iter_mut().zip(lead) {
+                if row != col {
+                    *v -= factor * l;
+                }
+            }
+        }
+    }
+    Some(m.map(|row| core::array::from_fn(|k| row[6 + k])))
+}
+
 // --- solve ------------------------------------------------------------------
 
 /// Which test of `solve` fails first on a refused determinant, by the numbers
@@ -454,7 +502,7 @@ pub fn gradient(
         out[at][0] += scale[0] * c;
         out[at][1] += scale[1] * c;
     };
-    for k in 0..16 {
+    for (k, &at) in ring.iter().enumerate() {
         // The square that sample k belongs to, and its sign there.
         let j = k % 4;
         let square = ((s[j] + s[j + 8]) - (s[j + 4] + s[j + 12])).signum();
@@ -463,7 +511,7 @@ pub fn gradient(
         let i = k % 8;
         let edge = (s[i] - s[i + 8]).signum();
         whole += if k < 8 { -edge } else { edge };
-        add(place(ring[k]), (whole - mean) as f32);
+        add(place(at), (whole - mean) as f32);
     }
     if mean != 0 {
         for d in cross {

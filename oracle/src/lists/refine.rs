@@ -127,7 +127,22 @@ fn digits(rows: &[&str], step: u8) -> Image {
 /// Runs met by `oracle hunt` and `oracle far`: picture, radius, seed.
 fn met() -> Vec<(Image, i32, [f32; 2])> {
     vec![
-        // A candidate 13,421,770 pixels away, and one 5,592,405 away.
+        // Candidates 55,924,068, 13,421,770 and 5,592,405 pixels away.
+        (
+            Image::new(
+                4,
+                4,
+                [
+                    [10, 10, 10, 10],
+                    [27, 6, 6, 9],
+                    [10, 10, 10, 10],
+                    [27, 6, 6, 9],
+                ]
+                .concat(),
+            ),
+            1,
+            [2.0, 2.0],
+        ),
         (
             digits(
                 &["121000", "021220", "021010", "202001", "021001", "202011"],
