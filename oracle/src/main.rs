@@ -8,17 +8,22 @@ use std::path::Path;
 use std::process::ExitCode;
 
 fn write(folder: &Path, seed: u64) -> bool {
-    let done = || -> std::io::Result<()> {
+    let mut whole = true;
+    let mut done = || -> std::io::Result<()> {
         std::fs::create_dir_all(folder)?;
         for (name, writer) in oracle::lists::ALL {
             let list = writer(seed);
             std::fs::write(folder.join(format!("{name}.bin")), list.bytes())?;
             print!("{}", list.report());
+            for what in oracle::lists::missing(&list) {
+                println!("    MISSING {what}");
+                whole = false;
+            }
         }
         Ok(())
     };
     match done() {
-        Ok(()) => true,
+        Ok(()) => whole,
         Err(e) => {
             eprintln!("oracle: {e}");
             false

@@ -46,6 +46,67 @@ pub const ALL: &[Writer] = &[
 /// Most words of a list.
 pub const ENOUGH: usize = 120_000;
 
+/// The numbers of document 01 that each list must reach.
+const REACHED: &[(&str, &[u32])] = &[
+    ("response", &[0, 10, 11, 13, 14, 15]),
+    ("refine", &[0, 1, 2, 3, 10, 11, 12]),
+    ("refine_list", &[0, 10, 11, 12, 15, 16, 19]),
+    ("fallback", &[0, 10, 11, 12, 15, 16, 19]),
+    ("merge", &[0, 16, 17, 18, 19]),
+    ("gradient", &[0, 10, 13, 15]),
+];
+
+/// What a list must reach and does not.
+pub fn missing(list: &List) -> Vec<String> {
+    let mut wanted: Vec<String> = Vec::new();
+    for (name, numbers) in REACHED {
+        if *name == list.name {
+            wanted.extend(numbers.iter().map(|n| number_name(*n).to_string()));
+        }
+    }
+    match list.name {
+        "peaks" => {
+            for rule in ["document 01", "W-201"] {
+                for n in [0, 10, 11, 12, 16, 19] {
+                    wanted.push(format!("{rule}: {}", number_name(n)));
+                }
+            }
+        }
+        "merge" => wanted.extend(
+            [
+                "way 1, empty list",
+                "way 2, radius that needs no merging",
+                "way 3, plain scan",
+                "way 4, grid",
+            ]
+            .map(String::from),
+        ),
+        "refine" => wanted.extend(
+            [
+                "accepted, not converged",
+                "below the tolerance, not converged",
+                "converged, with covariance",
+                "run of 16 steps",
+                "run with a Newton step",
+                "run with more fits than the cache holds",
+            ]
+            .map(String::from),
+        ),
+        "solve" => wanted.extend(
+            [
+                "fitted",
+                "refused, 5 above the margin",
+                "refused, 6 too small",
+                "refused, 7 not finite",
+            ]
+            .map(String::from),
+        ),
+        _ => {}
+    }
+    wanted.retain(|what| list.counted(what) == 0);
+    wanted
+}
+
 // --- fields that several lists have ----------------------------------------
 
 fn put_image(case: &mut Case, image: &Image) {
