@@ -69,50 +69,93 @@ pub fn all(turns: usize, seed: u64) {
     println!("{accepted} accepted, {panics} panics, {far} far bases, {sixteen} of 16 steps, farthest candidate {reach}, most tries {most:?}");
 }
 
-/// Looks on pictures of 4 by 4 for a candidate far from its centre. The rows
-/// are A, B, A, B, so that the fits hardly curve downwards, and the columns
-/// are chosen so that half-way between two centres nothing is left of it but
-/// rounding: there a step may be long.
-pub fn far(turns: usize, seed: u64) {
-    let mut random = Random::of(seed, "far");
-    let s = Settings {
-        radius: 1,
-        det_margin: 0.0,
-        max_offset: 1e30,
-        min_abs_det: 0.0,
-    };
-    let Some(mirror) = plain::Reach::new(&s) else {
-        return;
-    };
-    let mut best = 0.0f32;
-    let mut tried = 0;
-    for _ in 0..turns {
-        let most = random.pick(&[4i64, 8, 16, 32, 64, 128, 255]);
-        let shift = random.between(-most / 4, most / 4);
-        let w1 = random.between(-most / 2, most / 2);
-        let (w2, w3) = (w1 + 3 * shift, random.between(-most, most));
-        let apart = [-(2 * w1 + 2 * w2 + w3), w1, w2, w3];
-        let b1 = random.between(0, most);
-        let b = [
-            random.between(0, most),
-            b1,
-            b1 - 2 * shift,
-            random.between(0, most),
-        ];
-        let a: Vec<i64> = b.iter().zip(apart).map(|(b, w)| b + w).collect();
-        let rows = [&a[..], &b, &a, &b].concat();
-        if rows.iter().any(|v| !(0..=255).contains(v)) {
-            continue;
-        }
-        tried += 1;
-        let bytes: Vec<u8> = rows.iter().map(|v| *v as u8).collect();
-        for centre in [[1.0, 1.0], [2.0, 1.0], [1.0, 2.0], [2.0, 2.0]] {
-            let here = mirror.of(View::new(4, 4, &bytes), centre);
-            if here > best {
-                best = here;
-                println!("reach {best}: {bytes:?} {centre:?}");
-            }
+/// A picture whose rows are P, Q, P, Q and so on, and a seed on it. Every row
+/// is a mirror, so that a fit has no slope downwards but by rounding. The
+/// first fit lies `half`/2 pixels to the left, half-way between two centres;
+/// there the curves downwards of the two cancel, again but for rounding, and
+/// the next step may be long.
+fn alternating(random: &mut Random, radius: usize) -> Option<(Image, [f32; 2])> {
+    let r = radius as i64;
+    let half = 2 * random.below(radius + 1) as i64 + 1;
+    let left = ((half + 1) / 2) as usize;
+    let (side, centre) = (2 * radius + 1, left + radius);
+    let width = centre + radius + 1;
+
+    // 3x² less three times its mean; what the first fit asks of the sums of
+    // the columns, as whole numbers: their scalar product with `asked` is 0.
+    let curve = |x: i64| 3 * x * x - r * (r + 1);
+    let squares: i64 = (-r..=r).map(|x| x * x).sum();
+    let curves: i64 = (-r..=r).map(|x| curve(x) * curve(x)).sum();
+    let asked: Vec<i64> = (-r..=r)
+        .map(|x| curves * x - 3 * half * squares * curve(x))
+        .collect();
+
+    let (most, spread) = (
+        random.pick(&[1, 2, 3, 5, 9]),
+        random.pick(&[2, 4, 10, 30, 80]),
+    );
+    let mut apart: Vec<i64> = (0..width).map(|_| random.between(-most, most)).collect();
+    apart[0] = -(2 * apart[1..side].iter().sum::<i64>() + apart[side]);
+    let mut p: Vec<i64> = (0..width).map(|_| random.between(0, spread)).collect();
+    // Rows of the patch that are Q, and the sum of a column of it.
+    let others = (0..=2 * r).filter(|y| (y - r) % 2 != 0).count() as i64;
+    let last = width - 1;
+    let sum: i64 = (0..2 * radius)
+        .map(|x| {
+            let k = centre - radius + x;
+            asked[x] * (side as i64 * p[k] + others * apart[k])
+        })
+        .sum();
+    let of_last = asked[2 * radius];
+    if of_last == 0 || sum % of_last != 0 {
+        return None;
+    }
+    let wanted = -sum / of_last;
+    apart[last] = (0..side as i64).find(|d| (wanted - others * d) % side as i64 == 0)?;
+    p[last] = (wanted - others * apart[last]) / side as i64;
+    let q: Vec<i64> = p.iter().zip(&apart).map(|(p, d)| p + d).collect();
+    let least = p.iter().chain(&q).min().copied()?;
+    let rows = 2 * radius + 3;
+    let mut bytes = Vec::with_capacity(rows * width);
+    for y in 0..rows {
+        for v in if (y + radius + 1) % 2 == 0 { &p } else { &q } {
+            // A level more everywhere changes nothing.
+            bytes.push(u8::try_from(v - least).ok()?);
         }
     }
-    println!("{tried} pictures, farthest candidate {best}");
+    let seed = [centre as f32, (radius + 1) as f32];
+    Some((Image::new(width, rows, bytes), seed))
+}
+
+/// Looks on such pictures for a candidate far from its centre.
+pub fn far(turns: usize, seed: u64) {
+    let mut random = Random::of(seed, "far");
+    let mirrors: Vec<plain::Reach> = (1..=3)
+        .filter_map(|radius| {
+            plain::Reach::new(&Settings {
+                radius,
+                det_margin: 0.0,
+                max_offset: 1e30,
+                min_abs_det: 0.0,
+            })
+        })
+        .collect();
+    let mut best = 0.0f32;
+    let (mut tried, mut long) = (0, 0);
+    for _ in 0..turns {
+        let radius = random.pick(&[1usize, 2, 2, 2, 3]);
+        let Some((image, at)) = alternating(&mut random, radius) else {
+            continue;
+        };
+        tried += 1;
+        let here = mirrors[radius - 1].of(&image, at);
+        long += usize::from(here > 1e6);
+        if here > best {
+            best = here;
+            println!("reach {best}: radius {radius} {image:?} {at:?}");
+        }
+    }
+    println!(
+        "{tried} pictures, {long} with a candidate beyond 1,000,000, farthest candidate {best}"
+    );
 }
