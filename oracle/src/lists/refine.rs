@@ -127,26 +127,26 @@ fn digits(rows: &[&str], step: u8) -> Image {
 /// Runs met by `oracle hunt` and `oracle far`: picture, radius, seed.
 fn met() -> Vec<(Image, i32, [f32; 2])> {
     vec![
-        // Candidates 328,602,600, 55,924,068, 13,421,770 and 5,592,405
+        // Candidates 368,377,800, 55,924,068, 13,421,770 and 5,592,405
         // pixels away.
         (
             Image::new(
-                8,
                 7,
-                (0..56)
+                7,
+                (0..49)
                     .map(|k| {
-                        let p = [159, 169, 142, 144, 154, 140, 160, 159];
-                        let q = [154, 168, 143, 145, 155, 141, 159, 156];
-                        if k / 8 % 2 == 0 {
-                            p[k % 8]
+                        let p = [0, 12, 10, 11, 19, 7, 18];
+                        let q = [11, 12, 11, 11, 10, 12, 14];
+                        if k / 7 % 2 == 0 {
+                            p[k % 7]
                         } else {
-                            q[k % 8]
+                            q[k % 7]
                         }
                     })
                     .collect(),
             ),
             2,
-            [5.0, 3.0],
+            [4.0, 3.0],
         ),
         (
             Image::new(
