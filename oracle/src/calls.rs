@@ -1,0 +1,347 @@
+//! What each call of the port must answer: document 01's refusals first,
+//! then the Rust's answer, or document 01's where the Rust has none. Plain
+//! functions over slices; the lists are written from them, and a driver that
+//! compares the port natively calls them too. For timing call `plain`.
+
+use crate::rules::{self, Way, WindowRule};
+use crate::rust_or_rule::{accepted, broken, refusal, run, Decided};
+use crate::types::*;
+use crate::words::bits32;
+use crate::{any_ring, checked, plain};
+
+/// The number of an answer, and who decided it.
+#[derive(Clone, Copy, Debug, PartialEq, Eq)]
+pub struct Decision {
+    pub number: u32,
+    pub decided: Decided,
+}
+
+fn decision(refused: Option<u32>, decided: Decided) -> Decision {
+    Decision {
+        number: refused.unwrap_or(0),
+        decided,
+    }
+}
+
+/// A check of rule against Rust that must hold.
+fn hold(holds: bool, what: &str) {
+    if !holds {
+        broken(what);
+    }
+}
+
+pub fn same_floats(a: &[f32], b: &[f32]) -> bool {
+    a.len() == b.len() && a.iter().zip(b).all(|(x, y)| bits32(*x) == bits32(*y))
+}
+
+pub fn same_triples(a: &[Triple], b: &[Triple]) -> bool {
+    same_floats(&a.concat(), &b.concat())
+}
+
+/// The whole triples of a list of floats.
+pub fn triples(floats: &[f32]) -> Vec<Triple> {
+    floats.chunks_exact(3).map(|c| [c[0], c[1], c[2]]).collect()
+}
+
+/// Whether `ImageView::from_u8_slice` says no as well as document 01.
+fn view_refused(image: View<'_>) -> bool {
+    image.width.checked_mul(image.height) != Some(image.bytes.len() as u64)
+}
+
+/// The response of a region: width, height, values.
+pub fn response(
+    image: View<'_>,
+    radius: i32,
+    ring: &Ring,
+    region: Region,
+    out: usize,
+) -> (Decision, u64, u64, Vec<f32>) {
+    any_ring::lend_ring(radius as u32, ring);
+    checked::lend_ring(radius as u32, ring);
+    let by_plain = || any_ring::response_patch(image, false, region);
+    let by_checked = || checked::response_patch(image, false, region);
+    let refused = rules::response_refusal(image, radius, ring, region, out);
+    let (w, h, values) = match refused {
+        Some(_) => (0, 0, Vec::new()),
+        None => rules::response(image, radius, ring, region),
+    };
+    let decided = match refused {
+        // `Roi::new` says no as well.
+        Some(rules::EMPTY_ROI) => Decided::ByRust,
+        Some(_) => refusal(by_plain, by_checked),
+        None => accepted(by_plain, by_checked, |answer| {
+            let (rw, rh, rv) = answer.as_ref().expect("the region is not empty");
+            (*rw as u64, *rh as u64) == (w, h) && same_floats(rv, &values)
+        }),
+    };
+    hold(
+        decided != Decided::OtherRule,
+        "response: rule and Rust part",
+    );
+    (decision(refused, decided), w, h, values)
+}
+
+/// One seed: the answer, the counts of the run, and who decided.
+pub fn refine_one(
+    image: View<'_>,
+    s: &Settings,
+    seed: [f32; 2],
+    covariance: bool,
+) -> (Refined, Run, Decided) {
+    if let Some(number) = rules::refine_refusal(image, s) {
+        let decided = if view_refused(image) {
+            Decided::ByRust
+        } else {
+            refusal(
+                || plain::Refiner::new(s, covariance).refine(image, seed),
+                || checked::Refiner::new(s, covariance).refine(image, seed),
+            )
+        };
+        let refused = Refined {
+            status: number,
+            ..Refined::default()
+        };
+        return (refused, Run::default(), decided);
+    }
+    let by_rust = run(|| plain::refine_counted(image, s, seed, covariance));
+    let by_checked = run(|| checked::refine_counted(image, s, seed, covariance));
+    let outside = rules::patch_leaves(image, s, seed);
+    match by_rust {
+        None => {
+            hold(outside, "the Rust panics where document 01 has a fit");
+            let unmoved = Refined {
+                status: 2,
+                x: seed[0],
+                y: seed[1],
+                ..Refined::default()
+            };
+            (unmoved, Run::default(), Decided::RustPanics)
+        }
+        Some((a, run)) => {
+            hold((a.status == 2) == outside, "rule and Rust part on status 2");
+            let decided = if by_checked.is_some() {
+                Decided::ByRust
+            } else {
+                Decided::RustWraps
+            };
+            (a, run.unwrap_or_default(), decided)
+        }
+    }
+}
+
+/// Who decided a list: both builds are run, and the plain one must give what
+/// its seeds give one by one.
+fn decided_list(
+    one_by_one: &[Triple],
+    by_plain: impl FnOnce() -> Vec<Triple>,
+    by_checked: impl FnOnce() -> Vec<Triple>,
+) -> Decided {
+    let decided = accepted(by_plain, by_checked, |all| same_triples(all, one_by_one));
+    hold(decided != Decided::OtherRule, "a list is not its seeds");
+    decided
+}
+
+/// A list of seeds, `floats` of them three a corner, with `out` floats lent.
+pub fn refine_list(
+    image: View<'_>,
+    s: &Settings,
+    floats: &[f32],
+    out: usize,
+) -> (Decision, Vec<Triple>) {
+    let corners = triples(floats);
+    let by_plain = || plain::Refiner::new(s, false).refine_list(image, &corners);
+    let by_checked = || checked::Refiner::new(s, false).refine_list(image, &corners);
+    let refused = rules::refine_list_refusal(image, s, floats.len(), out);
+    let (answer, decided) = match refused {
+        Some(rules::BAD_LENGTH) => (Vec::new(), Decided::NotRun),
+        Some(_) if view_refused(image) => (Vec::new(), Decided::ByRust),
+        Some(_) => (Vec::new(), refusal(by_plain, by_checked)),
+        None => {
+            let one_by_one: Vec<Triple> = corners
+                .iter()
+                .filter_map(|c| {
+                    let (a, _, _) = refine_one(image, s, [c[0], c[1]], false);
+                    (a.status == 0).then_some([a.x, a.y, c[2]])
+                })
+                .collect();
+            let decided = decided_list(&one_by_one, by_plain, by_checked);
+            (one_by_one, decided)
+        }
+    };
+    (decision(refused, decided), answer)
+}
+
+/// W-209: the corners, and the pass that gave each.
+pub fn fallback(
+    image: View<'_>,
+    one: &Settings,
+    two: &Settings,
+    floats: &[f32],
+    out: usize,
+    passes: usize,
+) -> (Decision, Vec<Triple>, Vec<u8>) {
+    let corners = triples(floats);
+    let by_plain = || {
+        let mut second = plain::Refiner::new(two, false);
+        plain::Refiner::new(one, false).refine_list_with_fallback(&mut second, image, &corners)
+    };
+    let by_checked = || {
+        let mut second = checked::Refiner::new(two, false);
+        checked::Refiner::new(one, false).refine_list_with_fallback(&mut second, image, &corners)
+    };
+    let refused = rules::fallback_refusal(image, one, two, floats.len(), out, passes);
+    let mut answer = Vec::new();
+    let mut gave = Vec::new();
+    let decided = match refused {
+        Some(rules::BAD_LENGTH) => Decided::NotRun,
+        Some(_) if view_refused(image) => Decided::ByRust,
+        Some(_) => refusal(by_plain, by_checked),
+        None => {
+            for c in &corners {
+                for (pass, s) in [(1, one), (2, two)] {
+                    let (a, _, _) = refine_one(image, s, [c[0], c[1]], false);
+                    if a.status == 0 {
+                        answer.push([a.x, a.y, c[2]]);
+                        gave.push(pass);
+                        break;
+                    }
+                }
+            }
+            decided_list(&answer, by_plain, by_checked)
+        }
+    };
+    (decision(refused, decided), answer, gave)
+}
+
+/// Whether the Rust's merge may be run: its grid asks for little memory, or
+/// for so much that the library panics instead of asking.
+fn merge_may_run(list: &[Triple], radius: f32) -> bool {
+    if list.is_empty() || !radius.is_finite() || radius <= 0.0 {
+        return true;
+    }
+    let [across, down] = rules::cells(list, radius).map(|n| n as u64);
+    let asked = u128::from(across.wrapping_mul(down));
+    asked <= 1 << 22 || asked * 24 > isize::MAX as u128
+}
+
+/// A merge: the way taken and the corners kept.
+pub fn merge(
+    floats: &[f32],
+    radius: f32,
+    heads: usize,
+    links: usize,
+) -> (Decision, Way, Vec<Triple>) {
+    let corners = triples(floats);
+    let by_plain = || plain::merge(&corners, radius);
+    let by_checked = || checked::merge(&corners, radius);
+    let way = rules::merge_way(floats.len(), &corners, radius, heads, links);
+    let (refused, kept) = match way {
+        Way::Refused(number) => (Some(number), Vec::new()),
+        _ => (None, rules::merged(&corners, radius, way)),
+    };
+    let decided = if refused == Some(rules::BAD_LENGTH) || !merge_may_run(&corners, radius) {
+        Decided::NotRun
+    } else if refused.is_some() {
+        refusal(by_plain, by_checked)
+    } else {
+        accepted(by_plain, by_checked, |answer| same_triples(answer, &kept))
+    };
+    hold(decided != Decided::OtherRule, "merge: rule and Rust part");
+    if way == Way::Plain {
+        let scan = plain::merge_plain(&corners, radius * radius);
+        hold(same_triples(&scan, &kept), "the plain scan parts");
+    }
+    (decision(refused, decided), way, kept)
+}
+
+/// The Rust's own peaks; `None` where it panics.
+pub fn peaks_of_rust(
+    width: usize,
+    height: usize,
+    response: &[f32],
+    s: &PeakSettings,
+) -> Option<Vec<Triple>> {
+    run(|| plain::peaks(width, height, response, s))
+}
+
+/// The peaks by one of the two window rules, `out` floats lent.
+pub fn peaks(
+    width: u64,
+    height: u64,
+    response: &[f32],
+    s: &PeakSettings,
+    out: usize,
+    rule: WindowRule,
+) -> (Decision, Vec<Triple>) {
+    let (w, h) = (width as usize, height as usize);
+    let mut refused = rules::peaks_refusal(width, height, response, s, out);
+    let mut peaks = Vec::new();
+    if refused.is_none() {
+        peaks = rules::peaks(w, h, response, s, rule);
+        if peaks.len() > out / 3 {
+            refused = Some(rules::TOO_MANY);
+            peaks = Vec::new();
+        }
+    }
+    let by_plain = || plain::peaks(w, h, response, s);
+    let by_checked = || checked::peaks(w, h, response, s);
+    let decided = match refused {
+        Some(_) => refusal(by_plain, by_checked),
+        None => accepted(by_plain, by_checked, |answer| same_triples(answer, &peaks)),
+    };
+    (decision(refused, decided), peaks)
+}
+
+/// `solve`: the saddle, or the determinant and the test that fails first by
+/// the numbers of W-205.
+pub fn solve(s: &Settings, coefs: [f32; 5]) -> Result<Saddle, (f32, u32)> {
+    plain::solve(s, coefs).map_err(|det| (det, rules::why_refused(s, det)))
+}
+
+/// The fit operator of a radius.
+pub fn operator(radius: i32) -> Option<Operator> {
+    plain::operator(radius)
+}
+
+/// W-213: the gradient grid afterwards, two floats a cell; empty if refused.
+#[allow(clippy::too_many_arguments)]
+pub fn gradient(
+    side: u32,
+    tile: &[u8],
+    ring: &Ring,
+    x: u32,
+    y: u32,
+    scale: [f32; 2],
+    grads: &[f32],
+) -> (Decision, Vec<f32>) {
+    let n = side as usize;
+    let before: Vec<[f32; 2]> = grads.chunks_exact(2).map(|g| [g[0], g[1]]).collect();
+    let (ix, iy) = (x as i32, y as i32);
+    let by_plain = || plain::add_gradient(ring, n, tile, ix, iy, scale, &before);
+    let by_checked = || checked::add_gradient(ring, n, tile, ix, iy, scale, &before);
+    let refused = rules::gradient_refusal(side, tile.len(), ring, x, y, grads.len());
+    let mut after = Vec::new();
+    let decided = match refused {
+        // The Rust's tile and grid always have their side squared.
+        Some(rules::BAD_IMAGE | rules::BAD_OUT) => Decided::NotRun,
+        // Where it does not panic, it reads and writes the row beside.
+        Some(_) => refusal(by_plain, by_checked),
+        None => {
+            let (x, y) = (x as usize, y as usize);
+            after = rules::gradient(n, tile, ring, x, y, scale, &before).concat();
+            if grads.iter().any(|g| g.to_bits() == 0x8000_0000) {
+                // The Rust's grid starts from +0.0 and never holds this.
+                Decided::NotRun
+            } else {
+                accepted(by_plain, by_checked, |answer| {
+                    same_floats(&answer.concat(), &after)
+                })
+            }
+        }
+    };
+    hold(
+        decided != Decided::OtherRule,
+        "gradient: rule and Rust part",
+    );
+    (decision(refused, decided), after)
+}

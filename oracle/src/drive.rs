@@ -1,0 +1,332 @@
+// The Rust behind plain functions over slices. This text stands in a module
+// that names one build of docs/src `rust`; lib.rs has three such modules.
+// Nothing is checked here: a bad input panics, wraps or answers as the Rust
+// does. None of these functions is a mirror but `refine_counted`.
+
+use crate::types::*;
+use rust::estimate_noise_sigma_u8 as probe;
+use rust::CornerRefiner;
+
+fn settings(s: &Settings) -> rust::SaddlePointConfig {
+    let mut cfg = rust::SaddlePointConfig::default();
+    cfg.radius = s.radius;
+    cfg.det_margin = s.det_margin;
+    cfg.max_offset = s.max_offset;
+    cfg.min_abs_det = s.min_abs_det;
+    cfg
+}
+
+fn view(image: View<'_>) -> rust::ImageView<'_> {
+    rust::ImageView::from_u8_slice(image.width as usize, image.height as usize, image.bytes)
+        .expect("the byte count is width times height")
+}
+
+fn status(s: rust::RefineStatus) -> u32 {
+    match s {
+        rust::RefineStatus::Accepted => 0,
+        rust::RefineStatus::Rejected => 1,
+        rust::RefineStatus::OutOfBounds => 2,
+        rust::RefineStatus::IllConditioned => 3,
+        _ => unreachable!("the Rust has four statuses"),
+    }
+}
+
+fn corners(list: &[Triple]) -> Vec<rust::Corner> {
+    list.iter()
+        .map(|c| rust::Corner::new(c[0], c[1], c[2]))
+        .collect()
+}
+
+fn triples(list: &[rust::Corner]) -> Vec<Triple> {
+    list.iter().map(|c| [c.x, c.y, c.strength]).collect()
+}
+
+/// `chess_response_u8_patch` with the ring that this build has for the
+/// parameters. Width, height and values.
+pub fn response_patch<'a>(
+    image: impl Into<View<'a>>,
+    radius10: bool,
+    region: Region,
+) -> Option<(usize, usize, Vec<f32>)> {
+    let image = image.into();
+    let mut params = rust::ChessParams::default();
+    params.use_radius10 = radius10;
+    let roi = rust::Roi::new(
+        region.x0 as usize,
+        region.y0 as usize,
+        region.x1 as usize,
+        region.y1 as usize,
+    )?;
+    let map = rust::chess_response_u8_patch(
+        image.bytes,
+        image.width as usize,
+        image.height as usize,
+        &params,
+        roi,
+    );
+    Some((map.width(), map.height(), map.data().to_vec()))
+}
+
+/// `chess_response_u8`, the whole image at once. The port leaves it out.
+pub fn response_whole<'a>(image: impl Into<View<'a>>, radius10: bool) -> Vec<f32> {
+    let image = image.into();
+    let mut params = rust::ChessParams::default();
+    params.use_radius10 = radius10;
+    let (w, h) = (image.width as usize, image.height as usize);
+    rust::chess_response_u8(image.bytes, w, h, &params)
+        .data()
+        .to_vec()
+}
+
+/// `chess_response_at_u8`.
+pub fn response_at(bytes: &[u8], width: usize, x: i32, y: i32, ring: &Ring) -> f32 {
+    probe::response::at(bytes, width, x, y, ring)
+}
+
+/// `compute_row_range_scalar`.
+pub fn response_row(
+    bytes: &[u8],
+    width: usize,
+    y: i32,
+    ring: &Ring,
+    out: &mut [f32],
+    from: usize,
+    to: usize,
+) {
+    probe::response::row(bytes, width, y, ring, out, from, to)
+}
+
+/// A refiner kept over many seeds, as a caller of the Rust keeps it.
+pub struct Refiner(rust::SaddlePointRefiner);
+
+impl Refiner {
+    pub fn new(s: &Settings, covariance: bool) -> Self {
+        Refiner(probe::saddle_point::refiner(settings(s), covariance))
+    }
+
+    /// `SaddlePointRefiner::refine` on one seed.
+    pub fn refine<'a>(&mut self, image: impl Into<View<'a>>, seed: [f32; 2]) -> Refined {
+        let answer = self.0.refine(
+            seed,
+            rust::RefineContext::new(Some(view(image.into())), None),
+        );
+        Refined {
+            status: status(answer.status),
+            x: answer.x,
+            y: answer.y,
+            score: answer.score,
+            converged: probe::saddle_point::converged(&answer),
+            covariance: answer
+                .noise_covariance_per_unit_variance()
+                .map(|c| [c.xx, c.xy, c.yy]),
+        }
+    }
+
+    /// `refine_corners_on_image`.
+    pub fn refine_list<'a>(&mut self, image: impl Into<View<'a>>, list: &[Triple]) -> Vec<Triple> {
+        triples(&rust::refine_corners_on_image(
+            corners(list),
+            Some(view(image.into())),
+            None,
+            &mut self.0,
+        ))
+    }
+
+    /// `refine_corners_on_image_with_fallback`.
+    pub fn refine_list_with_fallback<'a>(
+        &mut self,
+        fallback: &mut Refiner,
+        image: impl Into<View<'a>>,
+        list: &[Triple],
+    ) -> Vec<Triple> {
+        triples(&rust::refine_corners_on_image_with_fallback(
+            corners(list),
+            Some(view(image.into())),
+            None,
+            &mut self.0,
+            &mut fallback.0,
+        ))
+    }
+}
+
+/// One seed by the original and by the mirror. The answer is the original's;
+/// the counts are the mirror's, `None` where no seed was accepted.
+///
+/// Ends the program where the two do not agree bit for bit.
+pub fn refine_counted<'a>(
+    image: impl Into<View<'a>>,
+    s: &Settings,
+    seed: [f32; 2],
+    covariance: bool,
+) -> (Refined, Option<Run>) {
+    let image: View<'a> = image.into();
+    let answer = Refiner::new(s, covariance).refine(image, seed);
+    if answer.status == 2 {
+        return (answer, None);
+    }
+    let same = |a: f32, b: f32| crate::words::bits32(a) == crate::words::bits32(b);
+    let hold = |holds: bool, what: &str| {
+        if !holds {
+            crate::rust_or_rule::broken(what);
+        }
+    };
+    match probe::saddle_point::mirror(&settings(s), &view(image), seed) {
+        Err((score, refused)) => {
+            hold(
+                status(refused) == answer.status && same(score, answer.score),
+                "the mirror refuses otherwise",
+            );
+            (answer, None)
+        }
+        Ok(m) => {
+            hold(answer.status == 0, "the mirror accepts what was refused");
+            hold(
+                same(m.xy[0], answer.x) && same(m.xy[1], answer.y) && same(m.score, answer.score),
+                "the mirror finds another place",
+            );
+            hold(m.converged == answer.converged, "the mirror parts on convergence");
+            let asked = m.covariance.filter(|_| covariance);
+            hold(
+                asked.map(|c| c.map(crate::words::bits32))
+                    == answer.covariance.map(|c| c.map(crate::words::bits32)),
+                "the mirror finds another covariance",
+            );
+            let run = Run {
+                tries: m.tries,
+                steps: m.steps,
+                newtons: m.newtons,
+                far: m.far,
+                fits: m.fits,
+                stuck: m.stuck,
+                fresh_slope: m.fresh_slope,
+                reach: m.reach,
+            };
+            (answer, Some(run))
+        }
+    }
+}
+
+/// The mirror alone, for a hunt: the greatest offset of a candidate.
+pub struct Reach(probe::saddle_point::Mirror);
+
+impl Reach {
+    pub fn new(s: &Settings) -> Option<Self> {
+        probe::saddle_point::Mirror::new(settings(s)).map(Reach)
+    }
+
+    pub fn of<'a>(&self, image: impl Into<View<'a>>, seed: [f32; 2]) -> f32 {
+        self.0.reach(&view(image.into()), seed)
+    }
+}
+
+/// The place of the first fit, accepted or not, by the mirror.
+pub fn first_fit<'a>(image: impl Into<View<'a>>, s: &Settings, seed: [f32; 2]) -> [f32; 2] {
+    match probe::saddle_point::mirror(&settings(s), &view(image.into()), seed) {
+        Ok(m) => m.first,
+        Err(_) => [f32::NAN; 2],
+    }
+}
+
+/// The place of the last fit that the steps reached, by the mirror.
+pub fn last_fit<'a>(image: impl Into<View<'a>>, s: &Settings, seed: [f32; 2]) -> [f32; 2] {
+    match probe::saddle_point::mirror(&settings(s), &view(image.into()), seed) {
+        Ok(m) => m.last,
+        Err(_) => [f32::NAN; 2],
+    }
+}
+
+/// `merge_corners_simple`.
+pub fn merge(list: &[Triple], radius: f32) -> Vec<Triple> {
+    triples(&rust::merge_corners_simple(&mut corners(list), radius))
+}
+
+/// `merge_corners_naive`, the plain scan, with the square of the radius.
+pub fn merge_plain(list: &[Triple], r2: f32) -> Vec<Triple> {
+    triples(&probe::merge::plain_scan(&mut corners(list), r2))
+}
+
+/// `detect_peaks_from_response_with_refine_radius`. The Rust knows the ring
+/// radii 5 and 10 only, and they reach no further than the border; for
+/// another ring radius the difference is put into the refiner's radius, a
+/// signed number that the Rust adds to it.
+pub fn peaks(width: usize, height: usize, response: &[f32], s: &PeakSettings) -> Vec<Triple> {
+    let map = rust::ResponseMap::new(width, height, response.to_vec());
+    let mut params = rust::ChessParams::default();
+    params.threshold = s.threshold;
+    params.nms_radius = s.window_radius as u32;
+    params.min_cluster_size = s.min_cluster_size;
+    params.use_radius10 = s.ring_radius == 10;
+    let shift = s.ring_radius - params.ring_radius() as i32;
+    triples(&rust::detect_peaks_from_response_with_refine_radius(
+        &map,
+        &params,
+        s.refiner_radius + shift,
+    ))
+}
+
+/// `solve`: a saddle, or the determinant that was refused.
+pub fn solve(s: &Settings, coefs: [f32; 5]) -> Result<Saddle, f32> {
+    probe::saddle_point::solve_at(&settings(s), coefs).map(|(u, quad, det)| Saddle { u, quad, det })
+}
+
+/// `fit_operator` with `inverse_normal_matrix`.
+pub fn operator(radius: i32) -> Option<Operator> {
+    let inverse = probe::saddle_point::inverse(radius);
+    let made = probe::saddle_point::operator(radius);
+    assert!(inverse.is_some() == made.is_some());
+    let (columns, overlap) = made?;
+    Some(Operator {
+        columns,
+        overlap,
+        inverse: inverse?,
+    })
+}
+
+/// `Window::new`: base and fraction.
+pub fn window(centre: [i32; 2], offset: [f32; 2]) -> ([i32; 2], [f32; 2]) {
+    probe::saddle_point::window(centre, offset)
+}
+
+/// `IntegerFits::at`: the coefficients of the patch centred on a pixel.
+pub fn fit<'a>(image: impl Into<View<'a>>, radius: i32, centre: [i32; 2]) -> Option<[f32; 5]> {
+    probe::saddle_point::fit_at(radius, &view(image.into()), centre)
+}
+
+/// `blend` and `cached_slope` of four fits, `[j][i]`, at a fraction.
+pub fn blend(corners: [[[f32; 5]; 2]; 2], t: [f32; 2]) -> ([f32; 5], [[f32; 5]; 2]) {
+    probe::saddle_point::blend_and_slope(corners, t)
+}
+
+/// `newton_step`.
+pub fn newton_step(m: [[f32; 2]; 2], u: [f32; 2]) -> Option<[f32; 2]> {
+    probe::saddle_point::newton(m, u)
+}
+
+/// `sensitivity`: J and M.
+pub fn sensitivity(saddle: &Saddle, slope: &[[f32; 5]; 2]) -> ([[f32; 5]; 2], [[f32; 2]; 2]) {
+    probe::saddle_point::sensitivity_of((saddle.u, saddle.quad, saddle.det), slope)
+}
+
+/// `covariance` for a window with fraction `t`.
+pub fn covariance(
+    radius: i32,
+    t: [f32; 2],
+    jac: &[[f32; 5]; 2],
+    m: [[f32; 2]; 2],
+) -> Option<[f32; 3]> {
+    probe::saddle_point::covariance_of(radius, t, jac, m)
+}
+
+/// `ResponseStencil::add_gradient` on a square tile and a gradient grid of
+/// the same side.
+pub fn add_gradient(
+    ring: &Ring,
+    side: usize,
+    tile: &[u8],
+    x: i32,
+    y: i32,
+    scale: [f32; 2],
+    before: &[[f32; 2]],
+) -> Vec<[f32; 2]> {
+    probe::response::add_gradient(ring, side, tile, x, y, scale, before)
+}

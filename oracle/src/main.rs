@@ -1,0 +1,77 @@
+//! `oracle write FOLDER [SEED]` writes every list and prints what it counts.
+//! `oracle marked` runs document 01's examples and shortcuts on the Rust.
+//! `oracle differences` runs the smallest inputs of docs/DIFFERENCES.md on it.
+//! `oracle hunt TURNS SEED` and `oracle far TURNS SEED` look for runs of the
+//! refiner that are hard to meet.
+
+use std::path::Path;
+use std::process::ExitCode;
+
+fn write(folder: &Path, seed: u64) -> bool {
+    let mut whole = true;
+    let mut done = || -> std::io::Result<()> {
+        std::fs::create_dir_all(folder)?;
+        for (name, writer) in oracle::lists::ALL {
+            let list = writer(seed);
+            std::fs::write(folder.join(format!("{name}.bin")), list.bytes())?;
+            print!("{}", list.report());
+            for what in oracle::lists::missing(&list) {
+                println!("    MISSING {what}");
+                whole = false;
+            }
+        }
+        Ok(())
+    };
+    match done() {
+        Ok(()) => whole,
+        Err(e) => {
+            eprintln!("oracle: {e}");
+            false
+        }
+    }
+}
+
+fn said(lines: Vec<(String, bool)>) -> bool {
+    for (line, holds) in &lines {
+        println!("{} {line}", if *holds { "holds" } else { "FAILS" });
+    }
+    lines.iter().all(|(_, holds)| *holds)
+}
+
+fn main() -> ExitCode {
+    oracle::rust_or_rule::quiet();
+    let args: Vec<String> = std::env::args().skip(1).collect();
+    let words: Vec<&str> = args.iter().map(String::as_str).collect();
+    let number = |text: &str| text.parse::<u64>().ok();
+    let good = match words.as_slice() {
+        ["write", folder] => write(Path::new(folder), oracle::SEED),
+        ["write", folder, seed] if number(seed).is_some() => {
+            write(Path::new(folder), number(seed).unwrap_or(0))
+        }
+        ["marked"] => said(oracle::marked::all()),
+        ["differences"] => said(oracle::differences::all()),
+        ["hunt", turns, seed] if number(turns).is_some() && number(seed).is_some() => {
+            oracle::hunt::all(
+                number(turns).unwrap_or(0) as usize,
+                number(seed).unwrap_or(0),
+            );
+            true
+        }
+        ["far", turns, seed] if number(turns).is_some() && number(seed).is_some() => {
+            oracle::hunt::far(
+                number(turns).unwrap_or(0) as usize,
+                number(seed).unwrap_or(0),
+            );
+            true
+        }
+        _ => {
+            eprintln!("oracle: write FOLDER [SEED], marked, differences, hunt TURNS SEED, or far TURNS SEED");
+            false
+        }
+    };
+    if good {
+        ExitCode::SUCCESS
+    } else {
+        ExitCode::FAILURE
+    }
+}

@@ -1,0 +1,522 @@
+//! Document 01 in plain Rust: the refusals in their order, and the rules of
+//! response, peaks and merge where the Rust has another rule or none. Written
+//! from the document, slow and readable, and used by no code of the port.
+
+use crate::types::*;
+
+pub const BAD_IMAGE: u32 = 10;
+pub const BAD_RADIUS: u32 = 11;
+pub const BAD_LIMIT: u32 = 12;
+pub const BAD_RING: u32 = 13;
+pub const EMPTY_ROI: u32 = 14;
+pub const BAD_OUT: u32 = 15;
+pub const TOO_MANY: u32 = 16;
+pub const GRID_TOO_BIG: u32 = 17;
+pub const BAD_SCRATCH: u32 = 18;
+pub const BAD_LENGTH: u32 = 19;
+
+/// The most corners in a list.
+pub const MOST: usize = 4096;
+
+// --- tests that several calls share ---------------------------------------
+
+/// Width or height outside 1..=4096, or count not width times height.
+fn bad_size(width: u64, height: u64, count: usize) -> bool {
+    !(1..=4096).contains(&width) || !(1..=4096).contains(&height) || width * height != count as u64
+}
+
+/// A float setting that is not finite or is below zero; -0.0 is not.
+fn bad_limit(x: f32) -> bool {
+    !x.is_finite() || x < 0.0
+}
+
+fn bad_refiner_radius(s: &Settings) -> bool {
+    !(0..=7).contains(&s.radius)
+}
+
+fn bad_settings(s: &Settings) -> bool {
+    bad_limit(s.det_margin) || bad_limit(s.max_offset) || bad_limit(s.min_abs_det)
+}
+
+/// The first test that holds, as its number.
+fn first(tests: &[(bool, u32)]) -> Option<u32> {
+    tests.iter().find(|(holds, _)| *holds).map(|(_, no)| *no)
+}
+
+// --- response ---------------------------------------------------------------
+
+/// The region clamped to the image: x0, y0, width, height; 0 by 0 if empty.
+pub fn clamped(image: View<'_>, region: Region) -> (u64, u64, u64, u64) {
+    let x0 = region.x0.min(image.width);
+    let y0 = region.y0.min(image.height);
+    let x1 = region.x1.min(image.width);
+    let y1 = region.y1.min(image.height);
+    if x1 <= x0 || y1 <= y0 {
+        return (x0, y0, 0, 0);
+    }
+    (x0, y0, x1 - x0, y1 - y0)
+}
+
+/// 10, 11, 13, 14, 15.
+pub fn response_refusal(
+    image: View<'_>,
+    ring_radius: i32,
+    ring: &Ring,
+    region: Region,
+    out: usize,
+) -> Option<u32> {
+    let far = |d: i32| i64::from(d).abs() > i64::from(ring_radius);
+    let (_, _, w, h) = clamped(image, region);
+    first(&[
+        (
+            bad_size(image.width, image.height, image.bytes.len()),
+            BAD_IMAGE,
+        ),
+        (!(1..=10).contains(&ring_radius), BAD_RADIUS),
+        (ring.iter().any(|&(dx, dy)| far(dx) || far(dy)), BAD_RING),
+        (region.x0 >= region.x1 || region.y0 >= region.y1, EMPTY_ROI),
+        (w.checked_mul(h) != Some(out as u64), BAD_OUT),
+    ])
+}
+
+/// The samples under one pixel: the ring, and the cross.
+fn samples(image: View<'_>, ring: &Ring, x: i64, y: i64) -> ([i32; 16], [i32; 5]) {
+    let at = |dx: i32, dy: i32| {
+        let place = (y + i64::from(dy)) * image.width as i64 + x + i64::from(dx);
+        i32::from(image.bytes[place as usize])
+    };
+    (
+        ring.map(|(dx, dy)| at(dx, dy)),
+        [(0, 0), (0, -1), (0, 1), (1, 0), (-1, 0)].map(|(dx, dy)| at(dx, dy)),
+    )
+}
+
+/// SR, DR, ring sum, cross sum.
+fn sums(ring: &[i32; 16], cross: &[i32; 5]) -> (i32, i32, i32, i32) {
+    let sr = (0..4)
+        .map(|k| ((ring[k] + ring[k + 8]) - (ring[k + 4] + ring[k + 12])).abs())
+        .sum();
+    let dr = (0..8).map(|k| (ring[k] - ring[k + 8]).abs()).sum();
+    (sr, dr, ring.iter().sum(), cross.iter().sum())
+}
+
+/// The written value: one binary32 rounding per operation, in that order.
+fn written(sr: i32, dr: i32, ring: i32, cross: i32) -> f32 {
+    (sr as f32 - dr as f32) - 16.0 * (ring as f32 / 16.0 - cross as f32 / 5.0).abs()
+}
+
+/// N, five times the exact response.
+pub fn whole(ring: &[i32; 16], cross: &[i32; 5]) -> i32 {
+    let (sr, dr, r, c) = sums(ring, cross);
+    5 * sr - 5 * dr - (5 * r - 16 * c).abs()
+}
+
+/// N at a pixel whose ring fits.
+pub fn whole_at(image: View<'_>, ring: &Ring, x: i64, y: i64) -> i32 {
+    let (r, c) = samples(image, ring, x, y);
+    whole(&r, &c)
+}
+
+/// Whether the ring fits at (x, y): the radius in pixels on all four sides.
+pub fn ring_fits(image: View<'_>, radius: i32, x: u64, y: u64) -> bool {
+    let r = radius as u64;
+    x >= r && y >= r && x + r < image.width && y + r < image.height
+}
+
+/// The response of an accepted call: width, height, values.
+pub fn response(
+    image: View<'_>,
+    ring_radius: i32,
+    ring: &Ring,
+    region: Region,
+) -> (u64, u64, Vec<f32>) {
+    let (x0, y0, w, h) = clamped(image, region);
+    let mut out = Vec::new();
+    for y in y0..y0 + h {
+        for x in x0..x0 + w {
+            out.push(if ring_fits(image, ring_radius, x, y) {
+                let (r, c) = samples(image, ring, x as i64, y as i64);
+                let (sr, dr, ring_sum, cross_sum) = sums(&r, &c);
+                written(sr, dr, ring_sum, cross_sum)
+            } else {
+                0.0
+            });
+        }
+    }
+    (w, h, out)
+}
+
+// --- refine -----------------------------------------------------------------
+
+/// 10, 11, 12: what refuses a seed before it is looked at.
+pub fn refine_refusal(image: View<'_>, s: &Settings) -> Option<u32> {
+    first(&[
+        (
+            bad_size(image.width, image.height, image.bytes.len()),
+            BAD_IMAGE,
+        ),
+        (bad_refiner_radius(s), BAD_RADIUS),
+        (bad_settings(s), BAD_LIMIT),
+    ])
+}
+
+/// Whether the patch at the rounded seed leaves the image, in whole numbers.
+pub fn patch_leaves(image: View<'_>, s: &Settings, seed: [f32; 2]) -> bool {
+    let reach = i64::from(s.radius);
+    let leaves = |seed: f32, size: u64| {
+        let centre = i64::from(seed.round() as i32);
+        centre - reach < 0 || centre + reach > size as i64 - 1
+    };
+    leaves(seed[0], image.width) || leaves(seed[1], image.height)
+}
+
+/// 10, 11, 12, 19, 16, 15. Lengths are counted in floats.
+pub fn refine_list_refusal(
+    image: View<'_>,
+    s: &Settings,
+    length: usize,
+    out: usize,
+) -> Option<u32> {
+    refine_refusal(image, s).or_else(|| {
+        first(&[
+            (length % 3 != 0, BAD_LENGTH),
+            (length / 3 > MOST, TOO_MANY),
+            (out < length, BAD_OUT),
+        ])
+    })
+}
+
+/// W-209: as for a list, with 11 for either radius before 12 for either
+/// setting, and 15 also for fewer pass bytes than seeds.
+pub fn fallback_refusal(
+    image: View<'_>,
+    one: &Settings,
+    two: &Settings,
+    length: usize,
+    out: usize,
+    passes: usize,
+) -> Option<u32> {
+    first(&[
+        (
+            bad_size(image.width, image.height, image.bytes.len()),
+            BAD_IMAGE,
+        ),
+        (
+            bad_refiner_radius(one) || bad_refiner_radius(two),
+            BAD_RADIUS,
+        ),
+        (bad_settings(one) || bad_settings(two), BAD_LIMIT),
+        (length % 3 != 0, BAD_LENGTH),
+        (length / 3 > MOST, TOO_MANY),
+        (out < length || passes < length / 3, BAD_OUT),
+    ])
+}
+
+// --- fit operator -----------------------------------------------------------
+
+/// The inverse of the normal matrix of a x² + b xy + c y² + d x + e y + f over
+/// the square of a radius: binary64, Gauss and Jordan, partial pivoting. Of
+/// equal pivots the last row wins, or the first, to see where that matters.
+pub fn inverse_normal(radius: i32, last_wins: bool) -> Option<[[f64; 6]; 6]> {
+    let mut m = [[0.0f64; 12]; 6];
+    for y in -radius..=radius {
+        for x in -radius..=radius {
+            let (x, y) = (f64::from(x), f64::from(y));
+            let basis = [x * x, x * y, y * y, x, y, 1.0];
+            for row in 0..6 {
+                for col in 0..6 {
+                    m[row][col] += basis[row] * basis[col];
+                }
+            }
+        }
+    }
+    for (row, values) in m.iter_mut().enumerate() {
+        values[6 + row] = 1.0;
+    }
+    for col in 0..6 {
+        let mut pivot = col;
+        for row in col..6 {
+            let (here, best) = (m[row][col].abs(), m[pivot][col].abs());
+            if here > best || (last_wins && here == best) {
+                pivot = row;
+            }
+        }
+        if m[pivot][col].abs() < 1e-9 {
+            return None;
+        }
+        m.swap(col, pivot);
+        let scale = 1.0 / m[col][col];
+        let lead = m[col].map(|v| v * scale);
+        m[col] = lead;
+        for (row, values) in m.iter_mut().enumerate() {
+            let factor = values[col];
+            for (v, l) in values.iter_mut().zip(lead) {
+                if row != col {
+                    *v -= factor * l;
+                }
+            }
+        }
+    }
+    Some(m.map(|row| core::array::from_fn(|k| row[6 + k])))
+}
+
+// --- solve ------------------------------------------------------------------
+
+/// Which test of `solve` fails first on a refused determinant, by the numbers
+/// of W-205: 5 above the margin, 6 too small, 7 offset not finite.
+pub fn why_refused(s: &Settings, det: f32) -> u32 {
+    if det > -s.det_margin {
+        5
+    } else if det.abs() < s.min_abs_det {
+        6
+    } else {
+        7
+    }
+}
+
+// --- peaks ------------------------------------------------------------------
+
+/// Which window rule: document 01 as it began, or as W-201 leaves it.
+#[derive(Clone, Copy, PartialEq)]
+pub enum WindowRule {
+    Strict,
+    FirstOfEqual,
+}
+
+/// 10, 11, 12, 19; 16 is known only when the peaks are counted.
+pub fn peaks_refusal(
+    width: u64,
+    height: u64,
+    response: &[f32],
+    s: &PeakSettings,
+    out: usize,
+) -> Option<u32> {
+    first(&[
+        (bad_size(width, height, response.len()), BAD_IMAGE),
+        (
+            !(1..=10).contains(&s.ring_radius)
+                || !(1..=8).contains(&s.window_radius)
+                || !(0..=7).contains(&s.refiner_radius),
+            BAD_RADIUS,
+        ),
+        (!s.threshold.is_finite(), BAD_LIMIT),
+        (out % 3 != 0, BAD_LENGTH),
+    ])
+}
+
+/// The peaks, by row, of a call that no number up to 19 refuses.
+pub fn peaks(
+    width: usize,
+    height: usize,
+    response: &[f32],
+    s: &PeakSettings,
+    rule: WindowRule,
+) -> Vec<Triple> {
+    let border = (s.ring_radius + s.window_radius + s.refiner_radius) as usize;
+    if width <= 2 * border || height <= 2 * border {
+        return Vec::new();
+    }
+    let reach = s.window_radius as usize;
+    let floor = if s.threshold > 0.0 { s.threshold } else { 0.0 };
+    let mut out = Vec::new();
+    for y in border..height - border {
+        for x in border..width - border {
+            let value = response[y * width + x];
+            let mut greatest = true;
+            let mut positive = 0;
+            for yy in y - reach..=y + reach {
+                for xx in x - reach..=x + reach {
+                    if (xx, yy) == (x, y) {
+                        continue;
+                    }
+                    let other = response[yy * width + xx];
+                    let later = (yy, xx) > (y, x);
+                    greatest &= match rule {
+                        WindowRule::FirstOfEqual if later => value >= other,
+                        _ => value > other,
+                    };
+                    positive += u32::from(other > 0.0);
+                }
+            }
+            if value > floor && greatest && positive >= s.min_cluster_size {
+                out.push([x as f32, y as f32, value]);
+            }
+        }
+    }
+    out
+}
+
+// --- merge ------------------------------------------------------------------
+
+/// How a merge goes.
+#[derive(Clone, Copy, Debug, PartialEq, Eq)]
+pub enum Way {
+    Refused(u32),
+    /// The empty list.
+    Empty,
+    /// Radius NaN, infinite, or not above zero.
+    Unchanged,
+    /// A box that is not finite.
+    Plain,
+    Grid,
+}
+
+/// The box of the corners: least and greatest x and y. A NaN stretches
+/// nothing.
+fn bounds(list: &[Triple]) -> ([f32; 2], [f32; 2]) {
+    let mut low = [f32::INFINITY; 2];
+    let mut high = [f32::NEG_INFINITY; 2];
+    for c in list {
+        for k in 0..2 {
+            if c[k] < low[k] {
+                low[k] = c[k];
+            }
+            if c[k] > high[k] {
+                high[k] = c[k];
+            }
+        }
+    }
+    (low, high)
+}
+
+/// Cells across and down, without wrap.
+pub fn cells(list: &[Triple], radius: f32) -> [u128; 2] {
+    let (low, high) = bounds(list);
+    let inv = 1.0 / radius;
+    [0, 1].map(|k| ((high[k] - low[k]) * inv).floor() as usize as u128 + 1)
+}
+
+/// 19, 16, 18, then what needs no merging, then the box, then 17. `length`
+/// counts floats; the list has the corners of it.
+pub fn merge_way(length: usize, list: &[Triple], radius: f32, heads: usize, links: usize) -> Way {
+    if length % 3 != 0 {
+        return Way::Refused(BAD_LENGTH);
+    }
+    if length / 3 > MOST {
+        return Way::Refused(TOO_MANY);
+    }
+    if links < length / 3 {
+        return Way::Refused(BAD_SCRATCH);
+    }
+    if list.is_empty() {
+        return Way::Empty;
+    }
+    if !radius.is_finite() || radius <= 0.0 {
+        return Way::Unchanged;
+    }
+    let (low, high) = bounds(list);
+    if !(low.iter().chain(&high).all(|v| v.is_finite())) {
+        return Way::Plain;
+    }
+    let [across, down] = cells(list, radius);
+    let most = heads as u128;
+    if across > most || down > most || across * down > most {
+        return Way::Refused(GRID_TOO_BIG);
+    }
+    Way::Grid
+}
+
+/// The kept corners of an accepted merge.
+pub fn merged(list: &[Triple], radius: f32, way: Way) -> Vec<Triple> {
+    if way == Way::Unchanged || way == Way::Empty {
+        return list.to_vec();
+    }
+    let (low, _) = bounds(list);
+    let inv = 1.0 / radius;
+    let most = if way == Way::Grid {
+        cells(list, radius)
+    } else {
+        [1, 1]
+    };
+    let cell = |c: &Triple| {
+        [0, 1].map(|k| (((c[k] - low[k]) * inv) as usize as i128).min(most[k] as i128 - 1))
+    };
+    let near = |a: &Triple, b: &Triple| {
+        let (p, q) = (cell(a), cell(b));
+        way == Way::Plain || ((p[0] - q[0]).abs() <= 1 && (p[1] - q[1]).abs() <= 1)
+    };
+    let r2 = radius * radius;
+    let mut kept: Vec<Triple> = Vec::new();
+    for c in list {
+        let met = kept.iter().position(|k| {
+            let (dx, dy) = (c[0] - k[0], c[1] - k[1]);
+            near(c, k) && dx * dx + dy * dy <= r2
+        });
+        match met {
+            None => kept.push(*c),
+            Some(i) if c[2] > kept[i][2] => kept[i] = *c,
+            Some(_) => {}
+        }
+    }
+    kept
+}
+
+// --- gradient (W-213) -------------------------------------------------------
+
+/// 10, 13, 15. `tile` and `grads` are lengths.
+pub fn gradient_refusal(
+    side: u32,
+    tile: usize,
+    ring: &Ring,
+    x: u32,
+    y: u32,
+    grads: usize,
+) -> Option<u32> {
+    let square = u64::from(side) * u64::from(side);
+    let leaves = |dx: i32, dy: i32| {
+        let inside =
+            |at: u32, d: i32| (0..i64::from(side)).contains(&(i64::from(at) + i64::from(d)));
+        !inside(x, dx) || !inside(y, dy)
+    };
+    let cross = [(0, 0), (0, -1), (0, 1), (1, 0), (-1, 0)];
+    first(&[
+        (tile as u64 != square, BAD_IMAGE),
+        (
+            ring.iter().chain(&cross).any(|&(dx, dy)| leaves(dx, dy)),
+            BAD_RING,
+        ),
+        (grads as u64 != 2 * square, BAD_OUT),
+    ])
+}
+
+/// The gradient by W-213: whole coefficients, and only the scaled additions
+/// round, ring places in order and then the cross.
+pub fn gradient(
+    side: usize,
+    tile: &[u8],
+    ring: &Ring,
+    x: usize,
+    y: usize,
+    scale: [f32; 2],
+    before: &[[f32; 2]],
+) -> Vec<[f32; 2]> {
+    let place = |(dx, dy): (i32, i32)| {
+        ((y as i64 + i64::from(dy)) * side as i64 + x as i64 + i64::from(dx)) as usize
+    };
+    let cross = [(0, 0), (0, -1), (0, 1), (1, 0), (-1, 0)];
+    let s = ring.map(|d| i32::from(tile[place(d)]));
+    let c = cross.map(|d| i32::from(tile[place(d)]));
+    let mean = (5 * s.iter().sum::<i32>() - 16 * c.iter().sum::<i32>()).signum();
+    let mut out = before.to_vec();
+    let mut add = |at: usize, c: f32| {
+        out[at][0] += scale[0] * c;
+        out[at][1] += scale[1] * c;
+    };
+    for (k, &at) in ring.iter().enumerate() {
+        // The square that sample k belongs to, and its sign there.
+        let j = k % 4;
+        let square = ((s[j] + s[j + 8]) - (s[j + 4] + s[j + 12])).signum();
+        let mut whole = if k % 8 < 4 { square } else { -square };
+        // The edge from k to its opposite.
+        let i = k % 8;
+        let edge = (s[i] - s[i + 8]).signum();
+        whole += if k < 8 { -edge } else { edge };
+        add(place(at), (whole - mean) as f32);
+    }
+    if mean != 0 {
+        for d in cross {
+            add(place(d), 3.2 * mean as f32);
+        }
+    }
+    out
+}

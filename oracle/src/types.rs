@@ -1,0 +1,150 @@
+//! The plain records that go in and out of the oracle.
+
+/// Sixteen (dx, dy) pairs.
+pub type Ring = [(i32, i32); 16];
+
+/// The paper's ring at `scale` times 5 pixels: a quarter, and the same three
+/// more times, each turned by a right angle.
+pub fn paper_ring(scale: i32) -> Ring {
+    let quarter = [(0, -5), (2, -5), (3, -3), (5, -2)];
+    let mut ring = [(0, 0); 16];
+    for k in 0..16 {
+        let (mut dx, mut dy) = quarter[k % 4];
+        for _ in 0..k / 4 {
+            (dx, dy) = (-dy, dx);
+        }
+        ring[k] = (scale * dx, scale * dy);
+    }
+    ring
+}
+
+/// An image as it is handed in: nothing is checked yet.
+#[derive(Clone, Debug)]
+pub struct Image {
+    pub width: u64,
+    pub height: u64,
+    pub bytes: Vec<u8>,
+}
+
+impl Image {
+    pub fn new(width: usize, height: usize, bytes: Vec<u8>) -> Self {
+        Image {
+            width: width as u64,
+            height: height as u64,
+            bytes,
+        }
+    }
+}
+
+/// The same, lent: bytes, width, height.
+#[derive(Clone, Copy, Debug)]
+pub struct View<'a> {
+    pub width: u64,
+    pub height: u64,
+    pub bytes: &'a [u8],
+}
+
+impl<'a> View<'a> {
+    pub fn new(width: usize, height: usize, bytes: &'a [u8]) -> Self {
+        View {
+            width: width as u64,
+            height: height as u64,
+            bytes,
+        }
+    }
+}
+
+impl<'a> From<&'a Image> for View<'a> {
+    fn from(image: &'a Image) -> Self {
+        View {
+            width: image.width,
+            height: image.height,
+            bytes: &image.bytes,
+        }
+    }
+}
+
+/// The refiner's settings.
+#[derive(Clone, Copy, Debug, PartialEq)]
+pub struct Settings {
+    pub radius: i32,
+    pub det_margin: f32,
+    pub max_offset: f32,
+    pub min_abs_det: f32,
+}
+
+impl Default for Settings {
+    fn default() -> Self {
+        Settings {
+            radius: 2,
+            det_margin: 1e-3,
+            max_offset: 1.5,
+            min_abs_det: 1e-4,
+        }
+    }
+}
+
+/// One seed's answer. Status 0 to 3, or a refusal number from 10 up with
+/// nothing else set.
+#[derive(Clone, Copy, Debug, Default)]
+pub struct Refined {
+    pub status: u32,
+    pub x: f32,
+    pub y: f32,
+    pub score: f32,
+    pub converged: bool,
+    pub covariance: Option<[f32; 3]>,
+}
+
+/// x, y and strength, three floats a corner.
+pub type Triple = [f32; 3];
+
+/// A region of the image, as handed in.
+#[derive(Clone, Copy, Debug)]
+pub struct Region {
+    pub x0: u64,
+    pub y0: u64,
+    pub x1: u64,
+    pub y1: u64,
+}
+
+/// The settings of the peak scan.
+#[derive(Clone, Copy, Debug)]
+pub struct PeakSettings {
+    pub threshold: f32,
+    pub ring_radius: i32,
+    pub window_radius: i32,
+    pub refiner_radius: i32,
+    pub min_cluster_size: u32,
+}
+
+/// A saddle as `solve` gives it.
+#[derive(Clone, Copy, Debug)]
+pub struct Saddle {
+    pub u: [f32; 2],
+    pub quad: [f32; 3],
+    pub det: f32,
+}
+
+/// The fit operator: five coefficients a sample, nine overlaps, and the
+/// inverse of the normal matrix that they come from.
+#[derive(Clone, Debug)]
+pub struct Operator {
+    pub columns: Vec<[f32; 5]>,
+    pub overlap: [[[f32; 5]; 5]; 9],
+    pub inverse: [[f64; 6]; 6],
+}
+
+/// What the mirror of the steps counts. Tries are the candidates tried; far
+/// ones have a base that leaves 32 bits; reach is the greatest offset of one.
+#[derive(Clone, Copy, Debug, Default)]
+pub struct Run {
+    pub tries: u32,
+    pub steps: u32,
+    pub newtons: u32,
+    pub far: u32,
+    pub fits: usize,
+    pub stuck: bool,
+    pub fresh_slope: bool,
+    pub reach: f32,
+}
