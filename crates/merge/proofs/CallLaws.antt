@@ -1,0 +1,146 @@
+-- The public call's tests one after the other, and what each way leaves behind.
+use mathlib.Core.Path.{_≡_, refl, sym, ap, _∙_, subst}
+use mathlib.Core.Bool.{Bool, true, false, not, _||_, cond}
+use mathlib.Core.List.{List, [], _∷_, _++_}
+use Prim.Native.Nat.{ℕ, _+_, _-_, _*_, _/_, _%_, _≤_, _<_}
+use native.Mathlib.Nat.{le-trans, le-mul-of-pos-right, mul-comm}
+use native.Mathlib.Omega.{arith}
+use lib.Dec.{eqb, ltb}
+use lib.ListN.{length, getD, take, drop, replicate, getD-replicate, length-replicate, List·getD-append}
+use lib.Seq.{length-take-le, length-front}
+use lib.Ieee.{Float, binary32, mul, le}
+use lib.Ieee.Scale.{finite}
+use borrow.Author.Tests.{eq-eqb, ne-eqb, lt-ltb, le-ltb, ltb-false}
+use Rattle.merge.specs.declared.Merge.{Merge}
+use Rattle.merge.specs.declared.Merge.the-variants.{Merged}
+use Rattle.merge.specs.declared.Cells.{Cells}
+use Rattle.merge.specs.declared.Extent.{Extent}
+use Rattle.merge.specs.Corners.{Corner, cornersOf}
+use Rattle.merge.specs.Meets.{Box, boxOf, finiteBox, inverse, along, cellAlong, gridOf, cellsAcross, cellsDown, neighbours, plainMeets, gridMeets}
+use Rattle.merge.specs.Fold.{merged}
+use Rattle.merge.specs.Call.{Way, badLength, tooMany, badScratch, gridTooBig, unmerged, scanned, gridded, zeroFloat, idle, mergingWay, wayOf, Done}
+use Rattle.merge.specs.Steps.{asBox, columnIn, rowIn, total, meetsIn, Roomy, Filled, Left}
+
+-- ---- the merge itself
+module _ (l : List Corner) (radius : Float) (heads : ℕ) where
+  abbrev grid : Way
+  grid = gridded (merged (gridMeets (gridOf radius l) (mul binary32 radius radius)) l)
+
+  abbrev plain : Way
+  plain = scanned (merged (plainMeets (mul binary32 radius radius)) l)
+
+  abbrev cells : ℕ
+  cells = cellsAcross (gridOf radius l) * cellsDown (gridOf radius l)
+
+  pub way-plain : finiteBox (boxOf l) ≡ false → mergingWay l radius heads ≡ plain
+  unfolding mergingWay
+  way-plain e = ap (λ (b : Bool). cond (not b) plain (cond (ltb heads cells) gridTooBig grid)) e
+
+  pub way-big : finiteBox (boxOf l) ≡ true → ltb heads cells ≡ true → mergingWay l radius heads ≡ gridTooBig
+  unfolding mergingWay
+  way-big e f = ap (λ (b : Bool). cond (not b) plain (cond (ltb heads cells) gridTooBig grid)) e ∙ ap (λ (b : Bool). cond b gridTooBig grid) f
+
+  pub way-grid : finiteBox (boxOf l) ≡ true → ltb heads cells ≡ false → mergingWay l radius heads ≡ grid
+  unfolding mergingWay
+  way-grid e f = ap (λ (b : Bool). cond (not b) plain (cond (ltb heads cells) gridTooBig grid)) e ∙ ap (λ (b : Bool). cond b gridTooBig grid) f
+
+-- the cells that the code works with are those of the grid
+module _ (radius : Float) (l : List Corner) (e : Extent) (across down : ℕ)
+    (same : asBox e ≡ boxOf l) (wide : across ≡ along (inverse radius) (e .left) (e .right)) (high : down ≡ along (inverse radius) (e .top) (e .bottom)) where
+  pub cells-count : cellsAcross (gridOf radius l) * cellsDown (gridOf radius l) ≡ across * down
+  cells-count =
+      ap (λ (b : Box). along (inverse radius) (b .minX) (b .maxX) * along (inverse radius) (b .minY) (b .maxY)) (sym same)
+      ∙ ap (λ (m : ℕ). m * along (inverse radius) (e .top) (e .bottom)) (sym wide)
+      ∙ ap (λ (m : ℕ). across * m) (sym high)
+
+  pub grid-rule : (r2 : Float) → merged (meetsIn (record { left = e .left; top = e .top; inv = inverse radius; across = across; down = down }) r2) l ≡ merged (gridMeets (gridOf radius l) r2) l
+  unfolding columnIn rowIn cellAlong neighbours
+  grid-rule r2 =
+      ap (λ (m : ℕ). merged (meetsIn (record { left = e .left; top = e .top; inv = inverse radius; across = m; down = down }) r2) l) wide
+      ∙ ap (λ (m : ℕ). merged (meetsIn (record { left = e .left; top = e .top; inv = inverse radius; across = along (inverse radius) (e .left) (e .right); down = m }) r2) l) high
+      ∙ ap (λ (b : Box). merged (gridMeets (record { box = b; inv = inverse radius }) r2) l) same
+
+-- few enough cells
+pub few-cells : (most a b : ℕ) → ltb most ((a + 1) * (b + 1)) ≡ false → ((a + 1) * (b + 1) ≤ most) × (a + 1 ≤ most) × (b + 1 ≤ most)
+few-cells most a b e =
+    let h = ltb-false most ((a + 1) * (b + 1)) e in
+    (h, le-trans (le-mul-of-pos-right (a + 1) (omega arith)) h, le-trans (subst (λ (n : ℕ). b + 1 ≤ n) (mul-comm (b + 1) (a + 1)) (le-mul-of-pos-right (b + 1) (omega arith))) h)
+
+-- ---- what is left behind
+pub left-by : {way way' : Way} (list : List Float) (heads links : List ℕ) (r : Merge) (list' : List Float) (heads' links' : List ℕ) → way ≡ way' → Left way' list heads links r list' heads' links' → Left way list heads links r list' heads' links'
+left-by list heads links r list' heads' links' e = subst (λ (w : Way). Left w list heads links r list' heads' links') (sym e)
+
+pub left-plain : (kept : List Corner) (list : List Float) (heads links : List ℕ) (count : ℕ) (list' : List Float) → Filled list kept count list' → Left (scanned kept) list heads links (Merged count) list' heads links
+left-plain kept list heads links count list' f = record { answers = ap Merged (f .counts); leaves-list = f .holds; leaves-heads = refl; leaves-links = refl }
+
+pub left-grid : (kept : List Corner) (list : List Float) (heads links : List ℕ) (count : ℕ) (list' : List Float) (heads' links' : List ℕ) → Filled list kept count list' → heads' ≡ replicate (length heads) 0 → links' ≡ replicate (length links) 0 → Left (gridded kept) list heads links (Merged count) list' heads' links'
+left-grid kept list heads links count list' heads' links' f h l = record { answers = ap Merged (f .counts); leaves-list = f .holds; leaves-heads = h; leaves-links = l }
+
+-- the heads of the grid, cleared
+module _ (g : Cells) (heads front : List ℕ) (r : Roomy g heads) (clear : front ≡ replicate (length (take (total g) heads)) 0) where
+  front-length : length front ≡ total g
+  front-length = ap length clear ∙ length-replicate (length (take (total g) heads)) 0 ∙ length-take-le (total g) heads (r .room)
+
+  pub cleared-length : length (front ++ drop (total g) heads) ≡ length heads
+  cleared-length = length-front heads front (total g) (front-length ∙ sym (length-take-le (total g) heads (r .room)))
+
+  pub cleared-roomy : Roomy g (front ++ drop (total g) heads)
+  cleared-roomy = record { wide = r .wide; high = r .high; room = subst (λ (n : ℕ). total g ≤ n) (sym cleared-length) (r .room) }
+
+  pub cleared-zero : (c : ℕ) → c < total g → getD (front ++ drop (total g) heads) c 0 ≡ 0
+  cleared-zero c h = List·getD-append front (drop (total g) heads) 0 c (subst (λ (n : ℕ). c < n) (sym front-length) h) ∙ ap (λ (l : List ℕ). getD l c 0) clear ∙ getD-replicate (length (take (total g) heads)) c 0 0 (subst (λ (n : ℕ). c < n) (sym (length-take-le (total g) heads (r .room))) h)
+
+-- ---- the public call
+module _ (list : List Float) (radius : Float) (heads links : ℕ) where
+  abbrev merging : Way
+  merging = mergingWay (cornersOf list) radius heads
+
+  abbrev resting : Way
+  resting = cond (eqb (length list) 0 || idle radius) unmerged merging
+
+  abbrev linked : Way
+  linked = cond (ltb links (length list / 3)) badScratch resting
+
+  abbrev counted : Way
+  counted = cond (ltb 4096 (length list / 3)) tooMany linked
+
+  pub way-length : (length list % 3 ≡ 0 → ⊥) → wayOf list radius heads links ≡ badLength
+  unfolding wayOf
+  way-length h = ap (λ (b : Bool). cond (not b) badLength counted) (ne-eqb (length list % 3) 0 h)
+
+  whole : length list % 3 ≡ 0 → wayOf list radius heads links ≡ counted
+  unfolding wayOf
+  whole h = ap (λ (b : Bool). cond (not b) badLength counted) (eq-eqb (length list % 3) 0 h)
+
+  pub way-many : length list % 3 ≡ 0 → 4096 < length list / 3 → wayOf list radius heads links ≡ tooMany
+  way-many h m = whole h ∙ ap (λ (b : Bool). cond b tooMany linked) (lt-ltb 4096 (length list / 3) m)
+
+  few : length list % 3 ≡ 0 → length list / 3 ≤ 4096 → wayOf list radius heads links ≡ linked
+  few h m = whole h ∙ ap (λ (b : Bool). cond b tooMany linked) (le-ltb 4096 (length list / 3) m)
+
+  pub way-scratch : length list % 3 ≡ 0 → length list / 3 ≤ 4096 → links < length list / 3 → wayOf list radius heads links ≡ badScratch
+  way-scratch h m s = few h m ∙ ap (λ (b : Bool). cond b badScratch resting) (lt-ltb links (length list / 3) s)
+
+  roomy : length list % 3 ≡ 0 → length list / 3 ≤ 4096 → length list / 3 ≤ links → wayOf list radius heads links ≡ resting
+  roomy h m s = few h m ∙ ap (λ (b : Bool). cond b badScratch resting) (le-ltb links (length list / 3) s)
+
+  module _ (h : length list % 3 ≡ 0) (m : length list / 3 ≤ 4096) (s : length list / 3 ≤ links) where
+    pub way-empty : length list ≡ 0 → wayOf list radius heads links ≡ unmerged
+    way-empty e = roomy h m s ∙ ap (λ (b : Bool). cond (b || idle radius) unmerged merging) (eq-eqb (length list) 0 e)
+
+    full : (length list ≡ 0 → ⊥) → wayOf list radius heads links ≡ cond (idle radius) unmerged merging
+    full e = roomy h m s ∙ ap (λ (b : Bool). cond (b || idle radius) unmerged merging) (ne-eqb (length list) 0 e)
+
+    pub way-infinite : (length list ≡ 0 → ⊥) → finite radius ≡ false → wayOf list radius heads links ≡ unmerged
+    way-infinite e f = full e ∙ ap (λ (b : Bool). cond (not b || le radius zeroFloat) unmerged merging) f
+
+    pub way-idle : (length list ≡ 0 → ⊥) → finite radius ≡ true → le radius zeroFloat ≡ true → wayOf list radius heads links ≡ unmerged
+    way-idle e f g = full e ∙ ap (λ (b : Bool). cond (not b || le radius zeroFloat) unmerged merging) f ∙ ap (λ (b : Bool). cond b unmerged merging) g
+
+    pub way-merging : (length list ≡ 0 → ⊥) → finite radius ≡ true → le radius zeroFloat ≡ false → wayOf list radius heads links ≡ merging
+    way-merging e f g = full e ∙ ap (λ (b : Bool). cond (not b || le radius zeroFloat) unmerged merging) f ∙ ap (λ (b : Bool). cond b unmerged merging) g
+
+pub done-by : (way : Way) (list : List Float) (radius : Float) (heads links : List ℕ) (r : Merge) (list' : List Float) (heads' links' : List ℕ) → wayOf list radius (length heads) (length links) ≡ way → Left way list heads links r list' heads' links' → Done list radius heads links r list' heads' links'
+done-by way list radius heads links r list' heads' links' e l =
+    let k = left-by list heads links r list' heads' links' e l in
+    record { answers = k .answers; leaves-list = k .leaves-list; leaves-heads = k .leaves-heads; leaves-links = k .leaves-links }

@@ -1,0 +1,92 @@
+-- The public call: document 01's tests in their order (`wayOf`), what each way answers, and what it leaves in the three lent buffers.
+-- No refusal writes. The plain scan and a list or radius that needs no merging leave heads and links as they were; a grid merge leaves both all zero.
+use mathlib.Core.Path.{_≡_}
+use mathlib.Core.Bool.{Bool, true, false, not, _||_, cond}
+use mathlib.Core.List.{List, [], _∷_, _++_}
+use Prim.Native.Nat.{ℕ, _-_, _*_, _/_, _%_}
+use lib.Dec.{eqb, ltb}
+use lib.IntN.{pos}
+use lib.ListN.{length, replicate}
+use lib.Ieee.{Float, fin, binary32, mul, le}
+use lib.Ieee.Scale.{finite}
+use Rattle.merge.specs.declared.Merge.{Merge}
+use Rattle.merge.specs.declared.Merge.the-variants.{Merged, BadLength, TooMany, BadScratch, GridTooBig}
+use Rattle.merge.specs.Corners.{Corner, cornersOf, flat}
+use Rattle.merge.specs.Meets.{boxOf, finiteBox, gridOf, cellsAcross, cellsDown, plainMeets, gridMeets}
+use Rattle.merge.specs.Fold.{merged}
+
+-- document 01's number of each case; 0 is done
+abbrev pub numberOf : Merge → ℕ
+numberOf (Merged n) = 0
+numberOf BadLength = 19
+numberOf TooMany = 16
+numberOf BadScratch = 18
+numberOf GridTooBig = 17
+
+pub data Way : Type 0 where
+  badLength tooMany badScratch gridTooBig : Way
+  unmerged : Way
+  scanned : List Corner → Way
+  gridded : List Corner → Way
+
+abbrev pub zeroFloat : Float
+zeroFloat = fin false 0 (pos 0)
+
+-- a radius that merges nothing: NaN, infinite or at most zero
+abbrev pub idle : Float → Bool
+idle radius = not (finite radius) || le radius zeroFloat
+
+unfoldable pub mergingWay : List Corner → Float → ℕ → Way
+mergingWay l radius heads =
+    let g = gridOf radius l in
+    let r2 = mul binary32 radius radius in
+    cond (not (finiteBox (boxOf l))) (scanned (merged (plainMeets r2) l))
+    (cond (ltb heads (cellsAcross g * cellsDown g)) gridTooBig
+    (gridded (merged (gridMeets g r2) l)))
+
+unfoldable pub wayOf : List Float → Float → ℕ → ℕ → Way
+unfolding mergingWay
+wayOf list radius heads links =
+    cond (not (eqb (length list % 3) 0)) badLength
+    (cond (ltb 4096 (length list / 3)) tooMany
+    (cond (ltb links (length list / 3)) badScratch
+    (cond (eqb (length list) 0 || idle radius) unmerged
+    (mergingWay (cornersOf list) radius heads))))
+
+abbrev pub answerOf : List Float → Way → Merge
+answerOf list badLength = BadLength
+answerOf list tooMany = TooMany
+answerOf list badScratch = BadScratch
+answerOf list gridTooBig = GridTooBig
+answerOf list unmerged = Merged (length list / 3)
+answerOf list (scanned kept) = Merged (length kept)
+answerOf list (gridded kept) = Merged (length kept)
+
+-- the kept corners, and +0.0 in the freed tail
+abbrev pub filled : List Float → List Corner → List Float
+filled list kept = flat kept ++ replicate (length list - 3 * length kept) zeroFloat
+
+abbrev pub listAfter : List Float → Way → List Float
+listAfter list badLength = list
+listAfter list tooMany = list
+listAfter list badScratch = list
+listAfter list gridTooBig = list
+listAfter list unmerged = list
+listAfter list (scanned kept) = filled list kept
+listAfter list (gridded kept) = filled list kept
+
+-- of heads and of links
+abbrev pub scratchAfter : List ℕ → Way → List ℕ
+scratchAfter s badLength = s
+scratchAfter s tooMany = s
+scratchAfter s badScratch = s
+scratchAfter s gridTooBig = s
+scratchAfter s unmerged = s
+scratchAfter s (scanned kept) = s
+scratchAfter s (gridded kept) = replicate (length s) 0
+
+pub record Done (list : List Float) (radius : Float) (heads links : List ℕ) (answer : Merge) (list' : List Float) (heads' links' : List ℕ) : Type 0 where
+  pub answers : answer ≡ answerOf list (wayOf list radius (length heads) (length links))
+  pub leaves-list : list' ≡ listAfter list (wayOf list radius (length heads) (length links))
+  pub leaves-heads : heads' ≡ scratchAfter heads (wayOf list radius (length heads) (length links))
+  pub leaves-links : links' ≡ scratchAfter links (wayOf list radius (length heads) (length links))

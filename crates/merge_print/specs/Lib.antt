@@ -1,0 +1,2 @@
+-- What merge-print reads and prints.
+pub mod Text
