@@ -76,9 +76,9 @@ fn one(case: &[u8], at: usize, list: &mut [f32], heads: &mut [u16], links: &mut 
     paint::load(case, words::word(case, 4) as usize, list);
     paint::paint(heads);
     paint::paint(links);
-    let radius = floats::f32_from_bits(paint::word_from(case, at, 0));
+    let radius = floats::f32_from_bits(replay::word_from(case, at, 0));
     let answer = merge::merge_corners_simple(list, radius, heads, links);
-    let want = paint::word_from(case, at, 3);
+    let want = replay::word_from(case, at, 3);
     match answer {
         Merge::Merged(count) => want == 0 && merged(case, at, count, list, heads, links),
         Merge::BadLength => want == 19 && untouched(case, list, heads, links),
@@ -97,8 +97,8 @@ fn merged(
     heads: &[u16],
     links: &[u16],
 ) -> bool {
-    let way = paint::word_from(case, at, 6);
-    let kept = paint::word_from(case, at, 7) as usize;
+    let way = replay::word_from(case, at, 6);
+    let kept = replay::word_from(case, at, 7) as usize;
     if count != kept {
         return false;
     }

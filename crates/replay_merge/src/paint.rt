@@ -1,16 +1,5 @@
 // Lists and scratch: loaded and painted before a call, looked at after it.
 
-// The word number i after a place in the case.
-pub fn word_from(case: &[u8], at: usize, i: usize) -> u32 {
-    if 0x1000_0000 < at {
-        return 0;
-    }
-    if 0x1000_0000 < i {
-        return 0;
-    }
-    words::word(case, at + 4 * i)
-}
-
 // The numbers given in the case, from its third word on, and +0.0 behind them.
 pub fn load(case: &[u8], given: usize, list: &mut [f32]) {
     let mut i = 0;
@@ -22,7 +11,7 @@ pub fn load(case: &[u8], given: usize, list: &mut [f32]) {
 
 fn loaded(case: &[u8], given: usize, i: usize) -> f32 {
     if i < given {
-        return floats::f32_from_bits(word_from(case, 8, i));
+        return floats::f32_from_bits(replay::word_from(case, 8, i));
     }
     0.0
 }
@@ -40,7 +29,7 @@ pub fn same(case: &[u8], at: usize, first: usize, n: usize, list: &[f32]) -> boo
         if list.len() <= i {
             return false;
         }
-        if floats::f32_to_bits(list[i]) != word_from(case, at, first + i) {
+        if floats::f32_to_bits(list[i]) != replay::word_from(case, at, first + i) {
             return false;
         }
         i += 1;

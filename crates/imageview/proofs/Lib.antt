@@ -1,0 +1,2 @@
+-- Laws of images that more than one proof cites.
+pub mod ImageLaws

@@ -1,0 +1,22 @@
+-- An image is its samples, row after row, with a width and a height. Every definition that reads an image reads it through `pixel`.
+use mathlib.Core.Bool.{Bool, _&&_}
+use mathlib.Core.List.{List}
+use Prim.Native.Nat.{ℕ, _+_, _*_}
+use lib.Dec.{leb, eqb}
+use lib.ListN.{length, getD}
+
+pub record Image : Type 0 where
+  pub samples : List ℕ
+  pub width : ℕ
+  pub height : ℕ
+
+unfoldable pub pixel : Image → ℕ → ℕ → ℕ
+pixel img x y = getD (img .samples) (y * img .width + x) 0
+
+-- the greatest width and height
+abbrev pub most : ℕ
+most = 4096
+
+-- width and height in 1..=4096, and as many samples as width times height: else refusal 10
+unfoldable pub isImage : Image → Bool
+isImage img = leb 1 (img .width) && leb (img .width) most && leb 1 (img .height) && leb (img .height) most && eqb (length (img .samples)) (img .width * img .height)

@@ -1,0 +1,2 @@
+-- What an image is.
+pub mod Image

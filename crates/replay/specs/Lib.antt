@@ -1,0 +1,2 @@
+-- Where the words of a case stand.
+pub mod Place

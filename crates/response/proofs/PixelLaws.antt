@@ -1,0 +1,103 @@
+-- The arithmetic of one pixel: distances, and the sums of the ring taken quarter by quarter.
+use mathlib.Core.Path.{_≡_, refl, sym, ap, _∙_}
+use Prim.Native.Nat.{ℕ, zero, suc, _+_, _-_, _*_, _≤_, _<_}
+use native.Mathlib.Nat.{zero-add}
+use native.Mathlib.Numerals.{add-one}
+use native.Mathlib.Omega.{arith}
+use Rattle.response.specs.Samples.{total, apart, squareSum, edgeSum, ringSum, crossSum, valueOf, responseOf}
+use Rattle.response.specs.Steps.{Bounded, squareOf, edgesOf, sumOf, crossOf, quarterOf}
+
+pub apart-below : (a b : ℕ) → a < b → b - a ≡ apart a b
+unfolding apart
+apart-below a b h = omega arith
+
+pub apart-above : (a b : ℕ) → b ≤ a → a - b ≡ apart a b
+unfolding apart
+apart-above a b h = omega arith
+
+pub apart-most : (a b m : ℕ) → a ≤ m → b ≤ m → apart a b ≤ m
+unfolding apart
+apart-most a b m p q = omega arith
+
+pub four : (f : ℕ → ℕ → ℕ → ℕ → ℕ) (a b c d a' b' c' d' : ℕ) → a ≡ a' → b ≡ b' → c ≡ c' → d ≡ d' → f a b c d ≡ f a' b' c' d'
+four f a b c d a' b' c' d' p q r s = cc
+
+-- one more term
+pub total-more : (n : ℕ) (f : ℕ → ℕ) → total n f + f n ≡ total (n + 1) f
+unfolding total
+total-more n f = ap (λ (k : ℕ). total k f) (sym (add-one n))
+
+pub total-cong : (n : ℕ) (f g : ℕ → ℕ) → ((k : ℕ) → k < n → f k ≡ g k) → total n f ≡ total n g
+unfolding total
+total-cong zero f g h = refl
+total-cong (suc n) f g h = ap (λ (z : ℕ). z + f n) (total-cong n f g (λ k l. h k (omega arith))) ∙ ap (λ (z : ℕ). total n g + z) (h n (omega arith))
+
+-- the sums of the ring, by quarters
+pub squares : (s : ℕ → ℕ) → total 4 (quarterOf squareOf s) ≡ squareSum s
+unfolding squareSum total squareOf
+squares s = refl
+
+edges-added : (a b c d e f g h : ℕ) → 0 + (a + e) + (b + f) + (c + g) + (d + h) ≡ 0 + a + b + c + d + e + f + g + h
+edges-added a b c d e f g h = omega arith
+
+pub edges : (s : ℕ → ℕ) → total 4 (quarterOf edgesOf s) ≡ edgeSum s
+unfolding edgeSum total edgesOf
+edges s = edges-added (apart (s 0) (s 8)) (apart (s 1) (s 9)) (apart (s 2) (s 10)) (apart (s 3) (s 11)) (apart (s 4) (s 12)) (apart (s 5) (s 13)) (apart (s 6) (s 14)) (apart (s 7) (s 15))
+
+pub sums : (s : ℕ → ℕ) → total 4 (quarterOf sumOf s) ≡ ringSum s
+unfolding ringSum total
+sums s = omega arith
+
+pub crosses : (c : ℕ → ℕ) → crossOf (c 0) (c 1) (c 2) (c 3) (c 4) ≡ crossSum c
+unfolding crossSum total
+crosses c = ap (λ (z : ℕ). z + c 1 + c 2 + c 3 + c 4) (sym (zero-add (c 0)))
+
+-- ---- the sums of the first k quarters, with their bounds
+pub record Quarters (s : ℕ → ℕ) (k square edge sum : ℕ) : Type 0 where
+  pub square-is : square ≡ total k (quarterOf squareOf s)
+  pub edge-is : edge ≡ total k (quarterOf edgesOf s)
+  pub sum-is : sum ≡ total k (quarterOf sumOf s)
+  pub square-most : square ≤ 510 * k
+  pub edge-most : edge ≤ 510 * k
+  pub sum-most : sum ≤ 1020 * k
+
+pub none : (s : ℕ → ℕ) → Quarters s 0 0 0 0
+unfolding total
+none s = record { square-is = refl; edge-is = refl; sum-is = refl; square-most = omega arith; edge-most = omega arith; sum-most = omega arith }
+
+added : (f : ℕ → ℕ) (k a v : ℕ) → a ≡ total k f → v ≡ f k → a + v ≡ total (k + 1) f
+added f k a v p q = ap (λ (z : ℕ). z + v) p ∙ ap (λ (z : ℕ). total k f + z) q ∙ total-more k f
+
+pub more : (s : ℕ → ℕ) (k square edge sum x y z : ℕ) → Quarters s k square edge sum
+    → Bounded (quarterOf squareOf s k) 510 x → Bounded (quarterOf edgesOf s k) 510 y → Bounded (quarterOf sumOf s k) 1020 z
+    → Quarters s (k + 1) (square + x) (edge + y) (sum + z)
+more s k square edge sum x y z q a b c =
+    record {
+      square-is = added (quarterOf squareOf s) k square x (q .square-is) (a .is);
+      edge-is = added (quarterOf edgesOf s) k edge y (q .edge-is) (b .is);
+      sum-is = added (quarterOf sumOf s) k sum z (q .sum-is) (c .is);
+      square-most = omega (arith, q .square-most, a .most);
+      edge-most = omega (arith, q .edge-most, b .most);
+      sum-most = omega (arith, q .sum-most, c .most);
+    }
+
+-- all four give the response
+pub all : (s c : ℕ → ℕ) (k square edge sum five : ℕ) → k ≡ 4 → Quarters s k square edge sum → five ≡ crossOf (c 0) (c 1) (c 2) (c 3) (c 4) → valueOf square edge sum five ≡ responseOf s c
+unfolding responseOf
+all s c k square edge sum five e q t =
+    ap (λ (z : ℕ). valueOf z edge sum five) (q .square-is ∙ ap (λ (j : ℕ). total j (quarterOf squareOf s)) e ∙ squares s)
+    ∙ ap (λ (z : ℕ). valueOf (squareSum s) z sum five) (q .edge-is ∙ ap (λ (j : ℕ). total j (quarterOf edgesOf s)) e ∙ edges s)
+    ∙ ap (λ (z : ℕ). valueOf (squareSum s) (edgeSum s) z five) (q .sum-is ∙ ap (λ (j : ℕ). total j (quarterOf sumOf s)) e ∙ sums s)
+    ∙ ap (λ (z : ℕ). valueOf (squareSum s) (edgeSum s) (ringSum s) z) (t ∙ crosses c)
+
+-- ---- the response depends on its 21 samples alone
+pub response-cong : (s c s' c' : ℕ → ℕ) → ((k : ℕ) → k < 16 → s k ≡ s' k) → ((k : ℕ) → k < 5 → c k ≡ c' k) → responseOf s c ≡ responseOf s' c'
+unfolding responseOf squareSum edgeSum ringSum crossSum
+response-cong s c s' c' p q =
+    ap (λ (z : ℕ). valueOf z (edgeSum s) (ringSum s) (crossSum c))
+    (total-cong 4 (λ k. apart (s k + s (k + 8)) (s (k + 4) + s (k + 12))) (λ k. apart (s' k + s' (k + 8)) (s' (k + 4) + s' (k + 12)))
+    (λ k h. four (λ x y z w. apart (x + y) (z + w)) (s k) (s (k + 8)) (s (k + 4)) (s (k + 12)) (s' k) (s' (k + 8)) (s' (k + 4)) (s' (k + 12)) (p k (omega arith)) (p (k + 8) (omega arith)) (p (k + 4) (omega arith)) (p (k + 12) (omega arith))))
+    ∙ ap (λ (z : ℕ). valueOf (squareSum s') z (ringSum s) (crossSum c))
+    (total-cong 8 (λ k. apart (s k) (s (k + 8))) (λ k. apart (s' k) (s' (k + 8))) (λ k h. ap (λ (z : ℕ). apart z (s (k + 8))) (p k (omega arith)) ∙ ap (λ (z : ℕ). apart (s' k) z) (p (k + 8) (omega arith))))
+    ∙ ap (λ (z : ℕ). valueOf (squareSum s') (edgeSum s') z (crossSum c)) (total-cong 16 s s' p)
+    ∙ ap (λ (z : ℕ). valueOf (squareSum s') (edgeSum s') (ringSum s') z) (total-cong 5 c c' q)

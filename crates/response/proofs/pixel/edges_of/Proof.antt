@@ -1,0 +1,27 @@
+-- `response::pixel::edges_of` meets its contract.
+use mathlib.Core.Path.{ap, _∙_}
+use Prim.Native.Nat.{ℕ, _+_}
+use Rattle.response.specs.Samples.{apart}
+use Rattle.response.specs.Steps.{edgesOf}
+use borrow.Author.Needs.{needs}
+use Rattle.response.proofs.pixel.edges_of.Statement.{statement}
+use Rattle.response.proofs.pixel.edges_of.Tie as tie
+
+apart-u8-requires : tie.Need-apart-u8-requires
+apart-u8-requires c κs = search needs
+
+apart-u8-requires-2 : tie.Need-apart-u8-requires-2
+apart-u8-requires-2 c κs = search needs
+
+both-requires : tie.Need-both-requires
+both-requires c κs = search needs
+
+returns : tie.Need-returns
+unfolding edgesOf
+returns c =
+    let l = c .before .before .apart-u8 in
+    let r = c .before .apart-u82 in
+    record { is = c .both .ensures .is ∙ ap (λ (z : ℕ). z + r .result) (l .ensures) ∙ ap (λ (z : ℕ). apart (c .before .before .before .args .a) (c .before .before .before .args .c) + z) (r .ensures); most = c .both .ensures .most }
+
+pub edges-of-spec : {M : Type 1} → statement M
+edges-of-spec = tie.close (tie.spec apart-u8-requires apart-u8-requires-2 both-requires returns)

@@ -1,0 +1,75 @@
+-- The response at a pixel of an image and over a region. A ring is sixteen pairs (dx, dy), flat; the cross is the pixel and its four neighbours.
+use mathlib.Core.Bool.{Bool, _&&_, _||_, true, false, cond}
+use mathlib.Core.List.{List, [], _∷_, _++_}
+use Prim.Native.Nat.{ℕ, zero, suc, _+_, _-_, _*_, _/_, _%_, min}
+use lib.Dec.{leb, ltb}
+use lib.IntN.{ℤ, pos, negsuc, natAbs}
+use lib.ListN.{getD}
+use lib.Ieee.{Float, fin}
+use Rattle.imageview.specs.Image.{Image, pixel}
+use Rattle.response.specs.Samples.{responseOf}
+
+-- a coordinate moved by a component
+abbrev pub moved : ℕ → ℤ → ℕ
+moved x (pos n) = x + n
+moved x (negsuc n) = x - suc n
+
+unfoldable pub ringSample : Image → List ℤ → ℕ → ℕ → ℕ → ℕ
+unfolding pixel
+ringSample img ring x y k = pixel img (moved x (getD ring (2 * k) (pos 0))) (moved y (getD ring (2 * k + 1) (pos 0)))
+
+-- the pixel, above, below, right, left
+unfoldable pub crossSample : Image → ℕ → ℕ → ℕ → ℕ
+unfolding pixel
+crossSample img x y zero = pixel img x y
+crossSample img x y (suc zero) = pixel img x (y - 1)
+crossSample img x y (suc (suc zero)) = pixel img x (y + 1)
+crossSample img x y (suc (suc (suc zero))) = pixel img (x + 1) y
+crossSample img x y (suc (suc (suc (suc k)))) = pixel img (x - 1) y
+
+-- at least the ring radius of pixels on all four sides
+unfoldable pub ringFits : Image → ℕ → ℕ → ℕ → Bool
+ringFits img radius x y = leb radius x && ltb (x + radius) (img .width) && leb radius y && ltb (y + radius) (img .height)
+
+abbrev pub zeroFloat : Float
+zeroFloat = fin false 0 (pos 0)
+
+-- what is written for a pixel: the response where the ring fits, +0.0 elsewhere
+unfoldable pub writtenAt : Image → List ℤ → ℕ → ℕ → ℕ → Float
+unfolding ringFits
+writtenAt img ring radius x y = cond (ringFits img radius x y) (responseOf (ringSample img ring x y) (crossSample img x y)) zeroFloat
+
+-- ---- a region from (x0, y0) up to but without (x1, y1)
+pub record Region : Type 0 where
+  pub x0 : ℕ
+  pub y0 : ℕ
+  pub x1 : ℕ
+  pub y1 : ℕ
+
+abbrev pub clamped : Image → Region → Region
+clamped img r = record { x0 = min (r .x0) (img .width); y0 = min (r .y0) (img .height); x1 = min (r .x1) (img .width); y1 = min (r .y1) (img .height) }
+
+-- one that is empty either way has neither width nor height
+abbrev pub isEmpty : Region → Bool
+isEmpty r = leb (r .x1) (r .x0) || leb (r .y1) (r .y0)
+
+abbrev pub widthOf : Region → ℕ
+widthOf r = cond (isEmpty r) 0 (r .x1 - r .x0)
+
+abbrev pub heightOf : Region → ℕ
+heightOf r = cond (isEmpty r) 0 (r .y1 - r .y0)
+
+-- f 0, f 1, .., f (n - 1)
+unfoldable pub tabulated : ℕ → (ℕ → Float) → List Float
+tabulated zero f = []
+tabulated (suc n) f = tabulated n f ++ (f n ∷ [])
+
+-- the region's values, row after row
+unfoldable pub written : Image → List ℤ → ℕ → Region → List Float
+unfolding tabulated writtenAt
+written img ring radius r = tabulated (widthOf r * heightOf r) (λ i. writtenAt img ring radius (r .x0 + i % widthOf r) (r .y0 + i / widthOf r))
+
+-- ---- every component within the radius
+unfoldable pub ringWithin : ℕ → List ℤ → Bool
+ringWithin radius [] = true
+ringWithin radius (z ∷ l) = leb (natAbs z) radius && ringWithin radius l

@@ -1,0 +1,85 @@
+// The ChESS response of an image over a region, after `response.rs`.
+ghost use mathlib.Core.Path.{_≡_};
+ghost use lib.ListN.{getD};
+ghost use Rattle.response.specs.Call.{Done, regionOf};
+ghost use Rattle.response.specs.Samples.{responseOf};
+
+mod pixel;
+mod region;
+mod ring;
+mod row;
+
+// A region from (x0, y0) up to but without (x1, y1).
+pub struct Roi {
+    pub x0: usize,
+    pub y0: usize,
+    pub x1: usize,
+    pub y1: usize,
+}
+
+// How the call ended, by document 01's names.
+pub enum Response {
+    Written { width: usize, height: usize },
+    BadImage,
+    BadRadius,
+    BadRing,
+    EmptyRoi,
+    BadOut,
+}
+
+// The response over the region, written to `out`, which has the size of the region that is left within the image. The ring is sixteen
+// pairs (dx, dy); +0.0 is written where the pixel has not the radius of pixels on all four sides.
+pub fn chess_response_u8_patch(
+    img: &[u8],
+    width: usize,
+    height: usize,
+    ring: &[i32; 32],
+    radius: usize,
+    roi: Roi,
+    out: &mut [f32],
+) -> Response
+    ensures { λ r. ⌜ Done (record { samples = now (img .entry); width = width; height = height }) (now (ring .entry)) radius (regionOf roi) (now (out .entry)) r (now (out .exit)) ⌝ }
+{
+    if !imageview::is_image(img, width, height) {
+        return Response::BadImage;
+    }
+    if radius < 1 {
+        return Response::BadRadius;
+    }
+    if 10 < radius {
+        return Response::BadRadius;
+    }
+    let offsets = ring::offsets_of(ring);
+    if !ring::are_around(&offsets, radius) {
+        return Response::BadRing;
+    }
+    if roi.x1 <= roi.x0 {
+        return Response::EmptyRoi;
+    }
+    if roi.y1 <= roi.y0 {
+        return Response::EmptyRoi;
+    }
+    region::write_clamped(img, width, height, &offsets, radius, roi, out)
+}
+
+// The arithmetic of one pixel: the sixteen samples of the ring, and the pixel with those above, below, right and left of it.
+pub fn chess_response_at_u8(ring: &[u8; 16], cross: &[u8; 5]) -> f32
+    ensures { λ r. ⌜ r ≡ responseOf (λ k. getD (now (ring .entry)) k 0) (λ k. getD (now (cross .entry)) k 0) ⌝ }
+{
+    let mut square: u16 = 0;
+    let mut edge: u16 = 0;
+    let mut sum: u16 = 0;
+    let mut k: usize = 0;
+    while k < 4 {
+        let a = ring[k];
+        let b = ring[k + 4];
+        let c = ring[k + 8];
+        let d = ring[k + 12];
+        square = square + pixel::square_of(a, b, c, d);
+        edge = edge + pixel::edges_of(a, b, c, d);
+        sum = sum + pixel::sum_of(a, b, c, d);
+        k = k + 1;
+    }
+    let five = pixel::cross_of(cross[0], cross[1], cross[2], cross[3], cross[4]);
+    pixel::value_of(square, edge, sum, five)
+}
