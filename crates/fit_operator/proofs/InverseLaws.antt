@@ -1,0 +1,122 @@
+-- Laws of the inverse: each way through an entry of a stage, and one turn of the search for the pivot and of the reduction.
+use mathlib.Core.Path.{_≡_, sym, ap, _∙_}
+use mathlib.Core.Bool.{Bool, true, false, cond}
+use mathlib.Core.List.{List}
+use Prim.Native.Nat.{ℕ, suc, _+_, _-_, _*_, _/_, _%_, _≤_, _<_}
+use native.Mathlib.Nat.{sub-eq-zero-of-le}
+use native.Mathlib.Omega.{arith}
+use lib.Dec.{eqb}
+use lib.Ieee.{Float, binary64, add, sub, mul, div, lt}
+use borrow.Author.Tests.{eq-eqb, ne-eqb, lt-ltb, le-ltb}
+use Rattle.floats.specs.Magnitude.{magnitude}
+use Rattle.floats.specs.TotalOrder.{totalCmp}
+use Rattle.floats.specs.declared.Order.{Order}
+use Rattle.fit_operator.specs.Loops.{turns, at, plusZero, one}
+use Rattle.fit_operator.specs.Basis.{samples, phi}
+use Rattle.fit_operator.specs.Inverse.{normalEntry, better, pivotFrom, pivotOf, exchanged, swapped, scaled, cleared, least, singular, reduced, reduceFrom}
+use Rattle.fit_operator.specs.Steps.{productTerm, normalAt, scaledAt, clearedAt}
+use Rattle.fit_operator.proofs.ListLaws.{turns-more}
+
+module _ {A : Type 0} (t : Bool) (x y : A) where
+  pub first-of : t ≡ true → cond t x y ≡ x
+  first-of e = ap (λ (b : Bool). cond b x y) e
+
+  pub second-of : t ≡ false → cond t x y ≡ y
+  second-of e = ap (λ (b : Bool). cond b x y) e
+
+-- ---- the normal matrix
+pub product-more : (radius row col k : ℕ) (sum x y : Float) → sum ≡ turns k (productTerm radius row col) plusZero → x ≡ phi radius row k → y ≡ phi radius col k
+    → add binary64 sum (mul binary64 x y) ≡ turns (k + 1) (productTerm radius row col) plusZero
+product-more radius row col k sum x y e p q =
+    ap (λ (z : Float). add binary64 z (mul binary64 x y)) e
+    ∙ ap (λ (z : Float). add binary64 (turns k (productTerm radius row col) plusZero) (mul binary64 z y)) p
+    ∙ ap (λ (z : Float). add binary64 (turns k (productTerm radius row col) plusZero) (mul binary64 (phi radius row k) z)) q
+    ∙ sym (turns-more k (productTerm radius row col) plusZero)
+
+pub normal-all : (radius row col k : ℕ) (sum : Float) → k ≡ samples radius → sum ≡ turns k (productTerm radius row col) plusZero → sum ≡ normalEntry radius row col
+unfolding normalEntry
+normal-all radius row col k sum e p = p ∙ ap (λ (n : ℕ). turns n (productTerm radius row col) plusZero) e
+
+pub normal-left : (radius i : ℕ) → i % 12 < 6 → normalEntry radius (i / 12) (i % 12) ≡ normalAt radius i
+normal-left radius i h = sym (first-of _ _ _ (lt-ltb (i % 12) 6 h))
+
+pub normal-one : (radius i : ℕ) → 6 ≤ i % 12 → i % 12 ≡ 6 + i / 12 → one ≡ normalAt radius i
+normal-one radius i h e = sym (second-of _ _ _ (le-ltb (i % 12) 6 h) ∙ first-of _ one plusZero (eq-eqb (i % 12) (6 + i / 12) e))
+
+pub normal-zero : (radius i : ℕ) → 6 ≤ i % 12 → (i % 12 ≡ 6 + i / 12 → ⊥) → plusZero ≡ normalAt radius i
+normal-zero radius i h e = sym (second-of _ _ _ (le-ltb (i % 12) 6 h) ∙ second-of _ one plusZero (ne-eqb (i % 12) (6 + i / 12) e))
+
+-- ---- the stages of a column
+pub exchanged-first : (a b r : ℕ) → r ≡ a → b ≡ exchanged a b r
+exchanged-first a b r e = sym (first-of (eqb r a) b _ (eq-eqb r a e))
+
+pub exchanged-second : (a b r : ℕ) → (r ≡ a → ⊥) → r ≡ b → a ≡ exchanged a b r
+exchanged-second a b r n e = sym (second-of (eqb r a) b _ (ne-eqb r a n) ∙ first-of (eqb r b) a r (eq-eqb r b e))
+
+pub exchanged-other : (a b r : ℕ) → (r ≡ a → ⊥) → (r ≡ b → ⊥) → r ≡ exchanged a b r
+exchanged-other a b r n e = sym (second-of (eqb r a) b _ (ne-eqb r a n) ∙ second-of (eqb r b) a r (ne-eqb r b e))
+
+pub scaled-pivot : (col i : ℕ) (m : List Float) (x y : Float) → i / 12 ≡ col → x ≡ at m i → y ≡ at m (12 * col + col) → mul binary64 x (div binary64 one y) ≡ scaledAt col m i
+scaled-pivot col i m x y e p q =
+    ap (λ (z : Float). mul binary64 z (div binary64 one y)) p
+    ∙ ap (λ (z : Float). mul binary64 (at m i) (div binary64 one z)) q
+    ∙ sym (first-of (eqb (i / 12) col) _ (at m i) (eq-eqb (i / 12) col e))
+
+pub scaled-other : (col i : ℕ) (m : List Float) (x : Float) → (i / 12 ≡ col → ⊥) → x ≡ at m i → x ≡ scaledAt col m i
+scaled-other col i m x e p = p ∙ sym (second-of (eqb (i / 12) col) _ (at m i) (ne-eqb (i / 12) col e))
+
+pub cleared-pivot : (col i : ℕ) (m : List Float) (x : Float) → i / 12 ≡ col → x ≡ at m i → x ≡ clearedAt col m i
+cleared-pivot col i m x e p = p ∙ sym (first-of (eqb (i / 12) col) (at m i) _ (eq-eqb (i / 12) col e))
+
+pub cleared-other : (col i : ℕ) (m : List Float) (x y z : Float) → (i / 12 ≡ col → ⊥) → x ≡ at m i → y ≡ at m (12 * (i / 12) + col) → z ≡ at m (12 * col + i % 12)
+    → sub binary64 x (mul binary64 y z) ≡ clearedAt col m i
+cleared-other col i m x y z e p q r =
+    ap (λ (w : Float). sub binary64 w (mul binary64 y z)) p
+    ∙ ap (λ (w : Float). sub binary64 (at m i) (mul binary64 w z)) q
+    ∙ ap (λ (w : Float). sub binary64 (at m i) (mul binary64 (at m (12 * (i / 12) + col)) w)) r
+    ∙ sym (second-of (eqb (i / 12) col) (at m i) _ (ne-eqb (i / 12) col e))
+
+-- ---- the pivot
+pub better-is : (m : List Float) (col best p : ℕ) (x y : Float) (o : Order) → x ≡ at m (12 * best + col) → y ≡ at m (12 * p + col) → o ≡ totalCmp x y
+    → better m col best p o ≡ better m col best p (totalCmp (at m (12 * best + col)) (at m (12 * p + col)))
+better-is m col best p x y o e d q =
+    ap (λ (z : Order). better m col best p z) (q ∙ ap (λ (z : Float). totalCmp z y) e ∙ ap (λ (z : Float). totalCmp (at m (12 * best + col)) z) d)
+
+pub pivot-none : (m : List Float) (col : ℕ) → pivotFrom (6 - (col + 1)) m col col (col + 1) ≡ pivotOf m col
+unfolding pivotOf
+pivot-none m col = ap (λ (left : ℕ). pivotFrom left m col col (col + 1)) (let e : 6 - (col + 1) ≡ 5 - col = omega arith in e)
+
+pub pivot-more : (m : List Float) (col best p r : ℕ) → p < 6 → r ≡ better m col best p (totalCmp (at m (12 * best + col)) (at m (12 * p + col)))
+    → pivotFrom (6 - (p + 1)) m col r (p + 1) ≡ pivotFrom (6 - p) m col best p
+unfolding pivotFrom
+pivot-more m col best p r h e =
+    ap (λ (b : ℕ). pivotFrom (6 - (p + 1)) m col b (p + 1)) e ∙ ap (λ (left : ℕ). pivotFrom left m col best p) (let q : suc (6 - (p + 1)) ≡ 6 - p = omega arith in q)
+
+pub pivot-all : (m : List Float) (col best p : ℕ) → 6 ≤ p → pivotFrom (6 - p) m col best p ≡ best
+unfolding pivotFrom
+pivot-all m col best p h = ap (λ (left : ℕ). pivotFrom left m col best p) (sub-eq-zero-of-le h)
+
+-- ---- the reduction
+module _ (m : List Float) (col p : ℕ) (h : col < 6) (e : p ≡ pivotOf m col) where
+  left-is : 6 - col ≡ suc (6 - (col + 1))
+  left-is = omega arith
+
+  pub reduce-stop : lt (magnitude (at m (12 * p + col))) least ≡ true → reduceFrom (6 - col) col m ≡ singular
+  unfolding reduceFrom
+  reduce-stop s =
+      ap (λ (left : ℕ). reduceFrom left col m) left-is
+      ∙ ap (λ (q : ℕ). cond (lt (magnitude (at m (12 * q + col))) least) singular (reduceFrom (6 - (col + 1)) (col + 1) (cleared col (scaled col (swapped col q m))))) (sym e)
+      ∙ first-of (lt (magnitude (at m (12 * p + col))) least) singular _ s
+
+  pub reduce-more : (m' : List Float) → lt (magnitude (at m (12 * p + col))) least ≡ false → m' ≡ cleared col (scaled col (swapped col p m))
+      → reduceFrom (6 - (col + 1)) (col + 1) m' ≡ reduceFrom (6 - col) col m
+  unfolding reduceFrom
+  reduce-more m' s d =
+      ap (λ (l : List Float). reduceFrom (6 - (col + 1)) (col + 1) l) d
+      ∙ sym (second-of (lt (magnitude (at m (12 * p + col))) least) singular _ s)
+      ∙ ap (λ (q : ℕ). cond (lt (magnitude (at m (12 * q + col))) least) singular (reduceFrom (6 - (col + 1)) (col + 1) (cleared col (scaled col (swapped col q m))))) e
+      ∙ ap (λ (left : ℕ). reduceFrom left col m) (sym left-is)
+
+pub reduce-all : (m : List Float) (col : ℕ) → 6 ≤ col → reduceFrom (6 - col) col m ≡ reduced m
+unfolding reduceFrom
+reduce-all m col h = ap (λ (left : ℕ). reduceFrom left col m) (sub-eq-zero-of-le h)

@@ -1,0 +1,7 @@
+-- Laws of the fit operator and its closed cases.
+pub mod ListLaws
+pub mod BasisLaws
+pub mod InverseLaws
+pub mod RowLaws
+pub mod CallLaws
+pub mod Cases

@@ -1,0 +1,83 @@
+-- The steps of the work: what each hands to the next.
+use mathlib.Core.Path.{_≡_}
+use mathlib.Core.Bool.{Bool, true, false, _&&_, cond}
+use mathlib.Core.List.{List, _++_}
+use Prim.Native.Nat.{ℕ, _+_, _*_, _/_, _%_, _≤_, _<_}
+use lib.Dec.{ltb, eqb}
+use lib.ListN.{drop}
+use lib.Ieee.{Float, binary32, binary64, add, sub, mul, div}
+use Rattle.floats.specs.Convert.{convert}
+use Rattle.floats.specs.TotalOrder.{totalCmp}
+use Rattle.fit_operator.specs.Loops.{turns, tabulated, at, plusZero, one}
+use Rattle.fit_operator.specs.Basis.{side, samples, phi}
+use Rattle.fit_operator.specs.Rows.{rowEntry, columnsOf, stays, shifted, overlapOf}
+use Rattle.fit_operator.specs.Inverse.{Reduced, singular, reduced, normalEntry, better, pivotOf, exchanged}
+
+-- the number of samples, with an upper bound
+pub record Count (radius n : ℕ) : Type 0 where
+  pub is : n ≡ samples radius
+  pub most : n ≤ 225
+
+-- a list whose first n entries were written
+unfoldable pub filled : ℕ → (ℕ → Float) → List Float → List Float
+unfolding tabulated
+filled n f old = tabulated n f ++ drop n old
+
+-- a sum's next term: the regressors `row` and `col` at the sample k, multiplied
+abbrev pub productTerm : ℕ → ℕ → ℕ → ℕ → Float → Float
+productTerm radius row col k a = add binary64 a (mul binary64 (phi radius row k) (phi radius col k))
+
+-- ---- one entry of the normal matrix, and of the matrix after each stage of a column
+abbrev pub normalAt : ℕ → ℕ → Float
+normalAt radius i = cond (ltb (i % 12) 6) (normalEntry radius (i / 12) (i % 12)) (cond (eqb (i % 12) (6 + i / 12)) one plusZero)
+
+abbrev pub swappedAt : ℕ → ℕ → List Float → ℕ → Float
+swappedAt a b m i = at m (12 * exchanged a b (i / 12) + i % 12)
+
+abbrev pub scaledAt : ℕ → List Float → ℕ → Float
+scaledAt col m i = cond (eqb (i / 12) col) (mul binary64 (at m i) (div binary64 one (at m (12 * col + col)))) (at m i)
+
+abbrev pub clearedAt : ℕ → List Float → ℕ → Float
+clearedAt col m i = cond (eqb (i / 12) col) (at m i) (sub binary64 (at m i) (mul binary64 (at m (12 * (i / 12) + col)) (at m (12 * col + i % 12))))
+
+-- ---- the pivot
+-- the better of two rows, which is a row
+pub record Better (m : List Float) (col best p r : ℕ) : Type 0 where
+  pub is : r ≡ better m col best p (totalCmp (at m (12 * best + col)) (at m (12 * p + col)))
+  pub row : r < 6
+
+pub record Pivot (m : List Float) (col r : ℕ) : Type 0 where
+  pub is : r ≡ pivotOf m col
+  pub row : r < 6
+
+-- ---- what reducing says and leaves
+abbrev pub reducedBy : Bool → List Float → Reduced
+reducedBy true m = reduced m
+reducedBy false m = singular
+
+-- ---- the rows, kept sample by sample: row c at the sample k stands at 5 * k + c
+abbrev pub rowTerm : ℕ → List Float → ℕ → ℕ → ℕ → Float → Float
+rowTerm radius m c k j a = add binary64 a (mul binary64 (at m (12 * c + (6 + j))) (phi radius j k))
+
+abbrev pub rowAt : ℕ → List Float → ℕ → Float
+rowAt radius m i = rowEntry radius m (i % 5) (i / 5)
+
+abbrev pub columnAt : List Float → ℕ → Float
+columnAt rows i = convert binary32 (at rows i)
+
+-- an overlap's sum after the sample k
+abbrev pub overlapTerm : ℕ → List Float → ℕ → ℕ → ℕ → ℕ → Float → Float
+overlapTerm radius rows d r s k a =
+    cond (stays radius (k % side radius) (d % 3) && stays radius (k / side radius) (d / 3))
+    (add binary64 a (mul binary64 (at rows (5 * k + r)) (at rows (5 * shifted radius d k + s)))) a
+
+unfoldable pub overlapSum : ℕ → List Float → ℕ → ℕ → ℕ → Float
+overlapSum radius rows d r s = turns (samples radius) (overlapTerm radius rows d r s) plusZero
+
+abbrev pub overlapAt : ℕ → List Float → ℕ → Float
+overlapAt radius rows i = convert binary32 (overlapSum radius rows (i / 25) (i % 25 / 5) (i % 5))
+
+-- ---- what is left of a reduced matrix
+pub record Kept (radius : ℕ) (m columns columns' overlap' : List Float) : Type 0 where
+  pub columns-is : columns' ≡ columnsOf radius m ++ drop (5 * samples radius) columns
+  pub overlap-is : overlap' ≡ overlapOf radius m
