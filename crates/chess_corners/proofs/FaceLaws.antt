@@ -1,0 +1,32 @@
+-- From what a wrapped call promises to what its exported function does: once for all of its answers.
+use mathlib.Core.Path.{_≡_, sym, ap, _∙_}
+use mathlib.Core.List.{List}
+use Prim.Native.Nat.{ℕ}
+use lib.IntN.{ℤ}
+use lib.Ieee.{Float}
+use Rattle.imageview.specs.Image.{Image}
+use Rattle.response.specs.declared.Response.{Response}
+use Rattle.response.specs.Region.{Region}
+use Rattle.response.specs.Call as R
+use Rattle.merge.specs.declared.Merge.{Merge}
+use Rattle.merge.specs.Call as M
+use Rattle.chess_corners.specs.Face.{Responded, Merging, widthAfter, heightAfter, countAfter}
+
+pub responded : {img : Image} {ring : List ℤ} {radius : ℕ} {r : Region} {out : List Float} {answer : Response} {out' : List Float} (w h : ℕ) (known : Response)
+    → answer ≡ known → R.Done img ring radius r out answer out' → Responded img ring radius r out w h (R.numberOf known) out' (widthAfter w known) (heightAfter h known)
+responded w h known e d = record {
+  says = ap R.numberOf (sym e ∙ d .answers);
+  leaves = d .leaves;
+  width = ap (widthAfter w) (sym e ∙ d .answers);
+  height = ap (heightAfter h) (sym e ∙ d .answers);
+}
+
+pub merging : {list : List Float} {radius : Float} {heads links : List ℕ} {answer : Merge} {list' : List Float} {heads' links' : List ℕ} (count : ℕ) (known : Merge)
+    → answer ≡ known → M.Done list radius heads links answer list' heads' links' → Merging list radius heads links count (M.numberOf known) list' heads' links' (countAfter count known)
+merging count known e d = record {
+  says = ap M.numberOf (sym e ∙ d .answers);
+  leaves-list = d .leaves-list;
+  leaves-heads = d .leaves-heads;
+  leaves-links = d .leaves-links;
+  counts = ap (countAfter count) (sym e ∙ d .answers);
+}

@@ -1,0 +1,54 @@
+-- The exported face: each function returns document 01's number of the wrapped call's answer, 0 where it is done, and writes its further answers
+-- through references only then. The lent buffers are as the wrapped call leaves them.
+use mathlib.Core.Path.{_≡_}
+use mathlib.Core.List.{List}
+use Prim.Native.Nat.{ℕ}
+use lib.IntN.{ℤ}
+use lib.ListN.{length}
+use lib.Ieee.{Float}
+use Rattle.imageview.specs.Image.{Image}
+use Rattle.response.specs.declared.Response.{Response}
+use Rattle.response.specs.declared.Response.the-variants.{Written, BadImage, BadRadius, BadRing, EmptyRoi, BadOut}
+use Rattle.response.specs.Region.{Region}
+use Rattle.response.specs.Call as R
+use Rattle.merge.specs.declared.Merge.{Merge}
+use Rattle.merge.specs.declared.Merge.the-variants.{Merged, BadLength, TooMany, BadScratch, GridTooBig}
+use Rattle.merge.specs.Call as M
+
+-- ---- the response: the clamped width and height
+abbrev pub widthAfter : ℕ → Response → ℕ
+widthAfter old (Written w h) = w
+widthAfter old BadImage = old
+widthAfter old BadRadius = old
+widthAfter old BadRing = old
+widthAfter old EmptyRoi = old
+widthAfter old BadOut = old
+
+abbrev pub heightAfter : ℕ → Response → ℕ
+heightAfter old (Written w h) = h
+heightAfter old BadImage = old
+heightAfter old BadRadius = old
+heightAfter old BadRing = old
+heightAfter old EmptyRoi = old
+heightAfter old BadOut = old
+
+pub record Responded (img : Image) (ring : List ℤ) (radius : ℕ) (r : Region) (out : List Float) (w h : ℕ) (number : ℕ) (out' : List Float) (w' h' : ℕ) : Type 0 where
+  pub says : number ≡ R.numberOf (R.answerOf (R.wayOf img ring radius r (length out)))
+  pub leaves : out' ≡ R.outAfter img ring radius out (R.wayOf img ring radius r (length out))
+  pub width : w' ≡ widthAfter w (R.answerOf (R.wayOf img ring radius r (length out)))
+  pub height : h' ≡ heightAfter h (R.answerOf (R.wayOf img ring radius r (length out)))
+
+-- ---- the merge: the count of kept corners
+abbrev pub countAfter : ℕ → Merge → ℕ
+countAfter old (Merged n) = n
+countAfter old BadLength = old
+countAfter old TooMany = old
+countAfter old BadScratch = old
+countAfter old GridTooBig = old
+
+pub record Merging (list : List Float) (radius : Float) (heads links : List ℕ) (count : ℕ) (number : ℕ) (list' : List Float) (heads' links' : List ℕ) (count' : ℕ) : Type 0 where
+  pub says : number ≡ M.numberOf (M.answerOf list (M.wayOf list radius (length heads) (length links)))
+  pub leaves-list : list' ≡ M.listAfter list (M.wayOf list radius (length heads) (length links))
+  pub leaves-heads : heads' ≡ M.scratchAfter heads (M.wayOf list radius (length heads) (length links))
+  pub leaves-links : links' ≡ M.scratchAfter links (M.wayOf list radius (length heads) (length links))
+  pub counts : count' ≡ countAfter count (M.answerOf list (M.wayOf list radius (length heads) (length links)))

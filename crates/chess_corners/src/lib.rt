@@ -1,0 +1,72 @@
+// The public face for C and Rust: one exported function a call, over numbers, references and slices. Each returns document 01's number, 0 where it is
+// done, and writes its further answers only then.
+use merge::Merge;
+use response::Response;
+use response::Roi;
+ghost use Rattle.response.specs.Call.{regionOf};
+ghost use Rattle.chess_corners.specs.Face.{Responded, Merging};
+
+// The ChESS response of the region (x0, y0) to (x1, y1), clamped to the image; 0, 10, 11, 13, 14 or 15.
+#[no_mangle]
+pub extern "C" fn chess_corners_response(
+    img: &[u8],
+    width: usize,
+    height: usize,
+    ring: &[i32; 32],
+    radius: usize,
+    x0: usize,
+    y0: usize,
+    x1: usize,
+    y1: usize,
+    out: &mut [f32],
+    out_width: &mut usize,
+    out_height: &mut usize,
+) -> u32
+    ensures { λ r. ⌜ Responded (record { samples = now (img .entry); width = width; height = height }) (now (ring .entry)) radius (record { x0 = x0; y0 = y0; x1 = x1; y1 = y1 }) (now (out .entry)) (now («out_width» .entry)) (now («out_height» .entry)) r (now (out .exit)) (now («out_width» .exit)) (now («out_height» .exit)) ⌝ }
+{
+    let answer = response::chess_response_u8_patch(
+        img,
+        width,
+        height,
+        ring,
+        radius,
+        Roi { x0, y0, x1, y1 },
+        out,
+    );
+    match answer {
+        Response::Written { width, height } => {
+            *out_width = width;
+            *out_height = height;
+            0
+        }
+        Response::BadImage => 10,
+        Response::BadRadius => 11,
+        Response::BadRing => 13,
+        Response::EmptyRoi => 14,
+        Response::BadOut => 15,
+    }
+}
+
+// Corners within the radius of each other merged in place; 0, 19, 16, 18 or 17.
+#[no_mangle]
+pub extern "C" fn chess_corners_merge(
+    corners: &mut [f32],
+    radius: f32,
+    heads: &mut [u16],
+    links: &mut [u16],
+    count: &mut usize,
+) -> u32
+    ensures { λ r. ⌜ Merging (now (corners .entry)) radius (now (heads .entry)) (now (links .entry)) (now (count .entry)) r (now (corners .exit)) (now (heads .exit)) (now (links .exit)) (now (count .exit)) ⌝ }
+{
+    let answer = merge::merge_corners_simple(corners, radius, heads, links);
+    match answer {
+        Merge::Merged(n) => {
+            *count = n;
+            0
+        }
+        Merge::BadLength => 19,
+        Merge::TooMany => 16,
+        Merge::BadScratch => 18,
+        Merge::GridTooBig => 17,
+    }
+}
