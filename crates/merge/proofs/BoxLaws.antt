@@ -1,7 +1,7 @@
 -- The box as it is stretched corner by corner, and the tests on it.
-use mathlib.Core.Path.{_≡_, refl, sym, ap, _∙_, subst}
-use mathlib.Core.Bool.{Bool, true, false, not, _&&_, cond}
-use mathlib.Core.List.{List, [], _∷_}
+use mathlib.Core.Path.{_≡_, sym, ap, _∙_, subst}
+use mathlib.Core.Bool.{Bool, true, false, _&&_, cond}
+use mathlib.Core.List.{List}
 use Prim.Native.Nat.{ℕ, suc, _+_, _*_, _/_, _≤_, _<_}
 use native.Mathlib.Nat.{le-mul-of-pos-right, mul-comm, div-lt-iff-lt-mul}
 use native.Mathlib.Numerals.{add-one}
@@ -9,10 +9,10 @@ use native.Mathlib.Omega.{arith}
 use lib.Dec.{ltb}
 use lib.ListN.{length, getD, drop, drop-of-length-le}
 use lib.Seq.{drop-cons}
-use lib.Ieee.{Float, lt}
+use lib.Ieee.{Float}
 use borrow.Author.Tests.{lt-ltb, ltb-true}
 use Rattle.merge.specs.Corners.{Corner, cornersOf}
-use Rattle.merge.specs.Meets.{Box, lesser, greater, stretched, boxFrom, boxOf, finiteBox}
+use Rattle.merge.specs.Meets.{Box, lesser, greater, boxFrom}
 use Rattle.merge.specs.Claims.{nowhere, at}
 use Rattle.merge.proofs.FlatLaws.{length-corners, corner-at}
 use Rattle.merge.proofs.LeastLaws.{same-bool}
@@ -27,7 +27,11 @@ abbrev made : Float → Float → Float → Float → Box
 made a b c d = record { minX = a; minY = b; maxX = c; maxY = d }
 
 same-box : (a b c d p q r s : Float) → a ≡ p → b ≡ q → c ≡ r → d ≡ s → made a b c d ≡ made p q r s
-same-box a b c d p q r s e f g h = ap (λ (z : Float). made z b c d) e ∙ ap (λ (z : Float). made p z c d) f ∙ ap (λ (z : Float). made p q z d) g ∙ ap (λ (z : Float). made p q r z) h
+same-box a b c d p q r s e f g h =
+    ap (λ (z : Float). made z b c d) e
+    ∙ ap (λ (z : Float). made p z c d) f
+    ∙ ap (λ (z : Float). made p q z d) g
+    ∙ ap (λ (z : Float). made p q r z) h
 
 -- the box b' is b stretched by corner i
 pub box-turn :
@@ -39,8 +43,12 @@ unfolding boxFrom
 box-turn l i d b b' h p q r s =
     let c = at (cornersOf l) i in
     let k = corner-at l i d h in
+    let left = p ∙ ap (λ (z : Corner). lesser (z .x) (b .minX)) (sym k) in
+    let top = q ∙ ap (λ (z : Corner). lesser (z .y) (b .minY)) (sym k) in
+    let right = r ∙ ap (λ (z : Corner). greater (z .x) (b .maxX)) (sym k) in
+    let bottom = s ∙ ap (λ (z : Corner). greater (z .y) (b .maxY)) (sym k) in
     ap (λ (n : ℕ). boxFrom (drop n (cornersOf l)) b') (add-one i)
-    ∙ ap (boxFrom (drop (suc i) (cornersOf l))) (same-box (b' .minX) (b' .minY) (b' .maxX) (b' .maxY) (lesser (c .x) (b .minX)) (lesser (c .y) (b .minY)) (greater (c .x) (b .maxX)) (greater (c .y) (b .maxY)) (p ∙ ap (λ (z : Corner). lesser (z .x) (b .minX)) (sym k)) (q ∙ ap (λ (z : Corner). lesser (z .y) (b .minY)) (sym k)) (r ∙ ap (λ (z : Corner). greater (z .x) (b .maxX)) (sym k)) (s ∙ ap (λ (z : Corner). greater (z .y) (b .maxY)) (sym k)))
+    ∙ ap (boxFrom (drop (suc i) (cornersOf l))) (same-box (b' .minX) (b' .minY) (b' .maxX) (b' .maxY) (lesser (c .x) (b .minX)) (lesser (c .y) (b .minY)) (greater (c .x) (b .maxX)) (greater (c .y) (b .maxY)) left top right bottom)
     ∙ ap (λ (m : List Corner). boxFrom m b) (sym (drop-cons (cornersOf l) i nowhere (omega (arith, length-corners l))))
 
 pub box-end : (l : List Float) (i : ℕ) (b : Box) → length l / 3 ≤ i → boxFrom (drop i (cornersOf l)) b ≡ b
@@ -69,7 +77,8 @@ pub many-across : (most a b : ℕ) → most ≤ a → true ≡ ltb most ((a + 1)
 many-across most a b h = sym (lt-ltb most ((a + 1) * (b + 1)) (let z = above-product a b in omega arith))
 
 pub many-down : (most a b : ℕ) → most ≤ b → true ≡ ltb most ((a + 1) * (b + 1))
-many-down most a b h = sym (lt-ltb most ((a + 1) * (b + 1)) (let z : b + 1 ≤ (a + 1) * (b + 1) = subst (λ (n : ℕ). b + 1 ≤ n) (mul-comm (b + 1) (a + 1)) (above-product b a) in omega arith))
+many-down most a b h =
+    sym (lt-ltb most ((a + 1) * (b + 1)) (let z : b + 1 ≤ (a + 1) * (b + 1) = subst (λ (n : ℕ). b + 1 ≤ n) (mul-comm (b + 1) (a + 1)) (above-product b a) in omega arith))
 
 pub many-product : (most a b : ℕ) → ltb (most / (a + 1)) (b + 1) ≡ ltb most ((a + 1) * (b + 1))
 many-product most a b =

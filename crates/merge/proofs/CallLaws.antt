@@ -1,8 +1,8 @@
 -- The public call's tests one after the other, and what each way leaves behind.
 use mathlib.Core.Path.{_≡_, refl, sym, ap, _∙_, subst}
 use mathlib.Core.Bool.{Bool, true, false, not, _||_, cond}
-use mathlib.Core.List.{List, [], _∷_, _++_}
-use Prim.Native.Nat.{ℕ, _+_, _-_, _*_, _/_, _%_, _≤_, _<_}
+use mathlib.Core.List.{List, _++_}
+use Prim.Native.Nat.{ℕ, _+_, _*_, _/_, _%_, _≤_, _<_}
 use native.Mathlib.Nat.{le-trans, le-mul-of-pos-right, mul-comm}
 use native.Mathlib.Omega.{arith}
 use lib.Dec.{eqb, ltb}
@@ -53,7 +53,9 @@ module _ (radius : Float) (l : List Corner) (e : Extent) (across down : ℕ)
       ∙ ap (λ (m : ℕ). m * along (inverse radius) (e .top) (e .bottom)) (sym wide)
       ∙ ap (λ (m : ℕ). across * m) (sym high)
 
-  pub grid-rule : (r2 : Float) → merged (meetsIn (record { left = e .left; top = e .top; inv = inverse radius; across = across; down = down }) r2) l ≡ merged (gridMeets (gridOf radius l) r2) l
+  pub grid-rule :
+      (r2 : Float)
+      → merged (meetsIn (record { left = e .left; top = e .top; inv = inverse radius; across = across; down = down }) r2) l ≡ merged (gridMeets (gridOf radius l) r2) l
   unfolding columnIn rowIn cellAlong neighbours
   grid-rule r2 =
       ap (λ (m : ℕ). merged (meetsIn (record { left = e .left; top = e .top; inv = inverse radius; across = m; down = down }) r2) l) wide
@@ -67,17 +69,24 @@ few-cells most a b e =
     (h, le-trans (le-mul-of-pos-right (a + 1) (omega arith)) h, le-trans (subst (λ (n : ℕ). b + 1 ≤ n) (mul-comm (b + 1) (a + 1)) (le-mul-of-pos-right (b + 1) (omega arith))) h)
 
 -- ---- what is left behind
-pub left-by : {way way' : Way} (list : List Float) (heads links : List ℕ) (r : Merge) (list' : List Float) (heads' links' : List ℕ) → way ≡ way' → Left way' list heads links r list' heads' links' → Left way list heads links r list' heads' links'
-left-by list heads links r list' heads' links' e = subst (λ (w : Way). Left w list heads links r list' heads' links') (sym e)
+pub left-by :
+    {way way' : Way} {list : List Float} {heads links : List ℕ} {r : Merge} {list' : List Float} {heads' links' : List ℕ} → way ≡ way'
+    → Left way' list heads links r list' heads' links' → Left way list heads links r list' heads' links'
+left-by {list} {heads} {links} {r} {list'} {heads'} {links'} e = subst (λ (w : Way). Left w list heads links r list' heads' links') (sym e)
 
-pub left-plain : (kept : List Corner) (list : List Float) (heads links : List ℕ) (count : ℕ) (list' : List Float) → Filled list kept count list' → Left (scanned kept) list heads links (Merged count) list' heads links
-left-plain kept list heads links count list' f = record { answers = ap Merged (f .counts); leaves-list = f .holds; leaves-heads = refl; leaves-links = refl }
+pub left-plain :
+    {kept : List Corner} {list : List Float} {heads links : List ℕ} {count : ℕ} {list' : List Float} → Filled list kept count list'
+    → Left (scanned kept) list heads links (Merged count) list' heads links
+left-plain f = record { answers = ap Merged (f .counts); leaves-list = f .holds; leaves-heads = refl; leaves-links = refl }
 
-pub left-grid : (kept : List Corner) (list : List Float) (heads links : List ℕ) (count : ℕ) (list' : List Float) (heads' links' : List ℕ) → Filled list kept count list' → heads' ≡ replicate (length heads) 0 → links' ≡ replicate (length links) 0 → Left (gridded kept) list heads links (Merged count) list' heads' links'
-left-grid kept list heads links count list' heads' links' f h l = record { answers = ap Merged (f .counts); leaves-list = f .holds; leaves-heads = h; leaves-links = l }
+pub left-grid :
+    {kept : List Corner} {list : List Float} {heads links : List ℕ} {count : ℕ} {list' : List Float} {heads' links' : List ℕ}
+    → Filled list kept count list' → heads' ≡ replicate (length heads) 0 → links' ≡ replicate (length links) 0
+    → Left (gridded kept) list heads links (Merged count) list' heads' links'
+left-grid f h l = record { answers = ap Merged (f .counts); leaves-list = f .holds; leaves-heads = h; leaves-links = l }
 
 -- the heads of the grid, cleared
-module _ (g : Cells) (heads front : List ℕ) (r : Roomy g heads) (clear : front ≡ replicate (length (take (total g) heads)) 0) where
+module _ {g : Cells} {heads front : List ℕ} (r : Roomy g heads) (clear : front ≡ replicate (length (take (total g) heads)) 0) where
   front-length : length front ≡ total g
   front-length = ap length clear ∙ length-replicate (length (take (total g) heads)) 0 ∙ length-take-le (total g) heads (r .room)
 
@@ -88,7 +97,10 @@ module _ (g : Cells) (heads front : List ℕ) (r : Roomy g heads) (clear : front
   cleared-roomy = record { wide = r .wide; high = r .high; room = subst (λ (n : ℕ). total g ≤ n) (sym cleared-length) (r .room) }
 
   pub cleared-zero : (c : ℕ) → c < total g → getD (front ++ drop (total g) heads) c 0 ≡ 0
-  cleared-zero c h = List·getD-append front (drop (total g) heads) 0 c (subst (λ (n : ℕ). c < n) (sym front-length) h) ∙ ap (λ (l : List ℕ). getD l c 0) clear ∙ getD-replicate (length (take (total g) heads)) c 0 0 (subst (λ (n : ℕ). c < n) (sym (length-take-le (total g) heads (r .room))) h)
+  cleared-zero c h =
+      List·getD-append front (drop (total g) heads) 0 c (subst (λ (n : ℕ). c < n) (sym front-length) h)
+      ∙ ap (λ (l : List ℕ). getD l c 0) clear
+      ∙ getD-replicate (length (take (total g) heads)) c 0 0 (subst (λ (n : ℕ). c < n) (sym (length-take-le (total g) heads (r .room))) h)
 
 -- ---- the public call
 module _ (list : List Float) (radius : Float) (heads links : ℕ) where
@@ -140,7 +152,11 @@ module _ (list : List Float) (radius : Float) (heads links : ℕ) where
     pub way-merging : (length list ≡ 0 → ⊥) → finite radius ≡ true → le radius zeroFloat ≡ false → wayOf list radius heads links ≡ merging
     way-merging e f g = full e ∙ ap (λ (b : Bool). cond (not b || le radius zeroFloat) unmerged merging) f ∙ ap (λ (b : Bool). cond b unmerged merging) g
 
-pub done-by : (way : Way) (list : List Float) (radius : Float) (heads links : List ℕ) (r : Merge) (list' : List Float) (heads' links' : List ℕ) → wayOf list radius (length heads) (length links) ≡ way → Left way list heads links r list' heads' links' → Done list radius heads links r list' heads' links'
-done-by way list radius heads links r list' heads' links' e l =
-    let k = left-by list heads links r list' heads' links' e l in
+pub done-by :
+    {way : Way} {list : List Float} {radius : Float} {heads links : List ℕ} {r : Merge} {list' : List Float} {heads' links' : List ℕ}
+    → wayOf list radius (length heads) (length links) ≡ way
+    → Left way list heads links r list' heads' links'
+    → Done list radius heads links r list' heads' links'
+done-by e l =
+    let k = left-by e l in
     record { answers = k .answers; leaves-list = k .leaves-list; leaves-heads = k .leaves-heads; leaves-links = k .leaves-links }

@@ -1,12 +1,11 @@
 -- Placing a corner, by the number of its place.
-use mathlib.Core.Path.{_≡_, refl, sym, ap, _∙_, subst}
-use mathlib.Core.Logic.{_⊎_, inl, inr, ⊎-elim}
+use mathlib.Core.Path.{_≡_, refl, sym, ap, _∙_}
+use mathlib.Core.Logic.{inl, inr, ⊎-elim}
 use mathlib.Core.Bool.{Bool, true, false, cond, false≢true}
 use mathlib.Core.List.{List, [], _∷_, _++_}
-use Prim.Native.Nat.{ℕ, zero, suc, _≤_, _<_, zero-le, suc-le-suc}
+use Prim.Native.Nat.{zero, suc, _≤_, _<_, zero-le, suc-le-suc}
 use native.Mathlib.Nat.{not-suc-le-zero, le-of-suc-le-suc}
-use native.Mathlib.Omega.{arith}
-use lib.ListN.{length, getD, set}
+use lib.ListN.{length, set}
 use Rattle.merge.specs.Corners.{Corner}
 use Rattle.merge.specs.Fold.{stronger, place, placeOf}
 use Rattle.merge.specs.Claims.{at}
@@ -20,7 +19,10 @@ module _ (meets : Corner → Corner → Bool) (c : Corner) where
   place-hit [] h = absurd (not-suc-le-zero h)
   place-hit (k ∷ l) h = go (place-hit l) (meets c k) h
     where
-      go : (placeOf meets c l < length l → place meets c l ≡ set l (placeOf meets c l) (stronger c (at l (placeOf meets c l)))) → (b : Bool) → cond b zero (suc (placeOf meets c l)) < suc (length l) → cond b (stronger c k ∷ l) (k ∷ place meets c l) ≡ set (k ∷ l) (cond b zero (suc (placeOf meets c l))) (stronger c (at (k ∷ l) (cond b zero (suc (placeOf meets c l)))))
+      go :
+          (placeOf meets c l < length l → place meets c l ≡ set l (placeOf meets c l) (stronger c (at l (placeOf meets c l)))) → (b : Bool)
+          → cond b zero (suc (placeOf meets c l)) < suc (length l)
+          → cond b (stronger c k ∷ l) (k ∷ place meets c l) ≡ set (k ∷ l) (cond b zero (suc (placeOf meets c l))) (stronger c (at (k ∷ l) (cond b zero (suc (placeOf meets c l)))))
       go ih true h = refl
       go ih false h = ap (λ (t : List Corner). k ∷ t) (ih (le-of-suc-le-suc h))
 
@@ -30,7 +32,9 @@ module _ (meets : Corner → Corner → Bool) (c : Corner) where
   place-none [] h = refl
   place-none (k ∷ l) h = go (place-none l) (meets c k) h
     where
-      go : (length l ≤ placeOf meets c l → place meets c l ≡ l ++ c ∷ []) → (b : Bool) → suc (length l) ≤ cond b zero (suc (placeOf meets c l)) → cond b (stronger c k ∷ l) (k ∷ place meets c l) ≡ k ∷ (l ++ c ∷ [])
+      go :
+          (length l ≤ placeOf meets c l → place meets c l ≡ l ++ c ∷ []) → (b : Bool)
+          → suc (length l) ≤ cond b zero (suc (placeOf meets c l)) → cond b (stronger c k ∷ l) (k ∷ place meets c l) ≡ k ∷ (l ++ c ∷ [])
       go ih true h = absurd (not-suc-le-zero h)
       go ih false h = ap (λ (t : List Corner). k ∷ t) (ih (le-of-suc-le-suc h))
 
@@ -39,7 +43,9 @@ module _ (meets : Corner → Corner → Bool) (c : Corner) where
   place-is [] = record { lower = zero-le; below = λ j h. absurd (not-suc-le-zero h); found = inl refl }
   place-is (k ∷ l) = go (meets c k) refl (place-is l)
     where
-      go : (b : Bool) → meets c k ≡ b → IsLeast (λ j. meets c (at l j)) (length l) (length l) (placeOf meets c l) → IsLeast (λ j. meets c (at (k ∷ l) j)) (suc (length l)) (suc (length l)) (cond b zero (suc (placeOf meets c l)))
+      go :
+          (b : Bool) → meets c k ≡ b → IsLeast (λ j. meets c (at l j)) (length l) (length l) (placeOf meets c l)
+          → IsLeast (λ j. meets c (at (k ∷ l) j)) (suc (length l)) (suc (length l)) (cond b zero (suc (placeOf meets c l)))
       go true e ih = record { lower = zero-le; below = λ j h t. zero-le; found = inr (suc-le-suc zero-le, e) }
       go false e ih =
           record {

@@ -1,25 +1,25 @@
 -- The grid: cells and their numbers, the nine cells round a corner, and the chains as corners are put into cells.
 use mathlib.Core.Path.{_≡_, refl, sym, ap, _∙_, subst}
-use mathlib.Core.Logic.{_⊎_, inl, inr, ⊎-elim}
-use mathlib.Core.Bool.{Bool, true, false, _&&_, _||_, cond}
+use mathlib.Core.Logic.{⊎-elim}
+use mathlib.Core.Bool.{Bool, true, false, _&&_, _||_}
 use mathlib.Core.List.{List, [], _∷_, _++_, map}
-use Prim.Native.Nat.{ℕ, zero, suc, _+_, _-_, _*_, _/_, _%_, _≤_, _<_, min}
+use Prim.Native.Nat.{ℕ, zero, suc, _+_, _-_, _*_, _/_, _%_, _≤_, _<_}
 use native.Mathlib.Nat.{not-suc-le-zero, le-of-suc-le-suc, le-trans, lt-of-lt-of-le, le-mul-of-pos-right, suc-mul, mul-comm, mul-le-mul-right, min-le-right, mul-add-div-right, div-eq-of-lt, mul-add-mod-self-right, mod-eq-of-lt, add-zero}
 use native.Mathlib.Numerals.{add-one}
 use native.Mathlib.Decide.{ℕ-discrete}
 use native.Mathlib.Omega.{arith}
 use lib.Dec.{eqb, leb}
-use lib.ListN.{length, getD, set, take, drop, length-map, length-set, length-append}
+use lib.ListN.{length, getD, set, take, length-map, length-set, length-append}
 use lib.Seq.{length-take-le, getD-take, take-set-lt, take-suc-set, getD-set-same, getD-set-other, set-set, set-at, getD-at}
-use lib.Ieee.{Float, nan, binary32, sub, mul, toUnsigned}
+use lib.Ieee.{Float, binary32, sub, mul, toUnsigned}
 use borrow.Author.Tests.{eq-eqb, ne-eqb, eqb-true, leb-true, le-leb}
 use Rattle.merge.specs.declared.Cells.{Cells}
 use Rattle.merge.specs.declared.Disc.{Disc}
 use Rattle.merge.specs.Corners.{Corner, cornersOf}
 use Rattle.merge.specs.Meets.{near, touch}
 use Rattle.merge.specs.Claims.{nowhere, at}
-use Rattle.merge.specs.Steps.{corner, within, least, top, Chains, Falling, inCell, Walked, Member, Unlinked, Joinable, Linked, columnIn, rowIn, cellIn, total, cellsOf, meetsIn, Roomy, Chained, columnAt, rowAt, inOneCell, inThreeCells, inNineCells}
-use Rattle.merge.proofs.FlatLaws.{length-corners, corner-at}
+use Rattle.merge.specs.Steps.{within, least, top, Chains, Falling, inCell, Walked, Member, Unlinked, Joinable, Linked, columnIn, rowIn, cellIn, total, cellsOf, meetsIn, Roomy, Chained, columnAt, rowAt, inOneCell, inThreeCells, inNineCells}
+use Rattle.merge.proofs.FlatLaws.{length-corners}
 use Rattle.merge.proofs.LeastLaws.{both-true, either-true, or-left, or-right, same-bool, least-three, least-same, least-none}
 use Rattle.merge.proofs.ChainLaws.{top-le, top-hit, top-above, chain-falling, chains-more}
 
@@ -60,21 +60,34 @@ common-first t a b c s q e =
     ∙ ap (λ (z : Bool). z && q) (and-comm s t)
 
 -- the three numbers that touch a, each one more than it is
-touch-three : (a b : ℕ) → (eqb (b + 1) a || eqb (b + 1) (a + 1) || eqb (b + 1) (a + 2)) ≡ touch a b
-touch-three a b = same-bool (eqb (b + 1) a || eqb (b + 1) (a + 1) || eqb (b + 1) (a + 2)) (touch a b) there back
+abbrev oneOfThree : ℕ → ℕ → Bool
+oneOfThree a b = eqb (b + 1) a || eqb (b + 1) (a + 1) || eqb (b + 1) (a + 2)
+
+touch-three : (a b : ℕ) → oneOfThree a b ≡ touch a b
+touch-three a b = same-bool (oneOfThree a b) (touch a b) there back
   where
     near-by : a ≤ b + 1 → b ≤ a + 1 → touch a b ≡ true
     near-by p q = and-true (leb a (b + 1)) (leb b (a + 1)) (le-leb a (b + 1) p) (le-leb b (a + 1) q)
 
-    there : (eqb (b + 1) a || eqb (b + 1) (a + 1) || eqb (b + 1) (a + 2)) ≡ true → touch a b ≡ true
-    there t = ⊎-elim (λ u. ⊎-elim (λ v. let e = eqb-true (b + 1) a v in near-by (omega arith) (omega arith)) (λ v. let e = eqb-true (b + 1) (a + 1) v in near-by (omega arith) (omega arith)) (either-true (eqb (b + 1) a) (eqb (b + 1) (a + 1)) u)) (λ u. let e = eqb-true (b + 1) (a + 2) u in near-by (omega arith) (omega arith)) (either-true (eqb (b + 1) a || eqb (b + 1) (a + 1)) (eqb (b + 1) (a + 2)) t)
+    low : (eqb (b + 1) a || eqb (b + 1) (a + 1)) ≡ true → touch a b ≡ true
+    low t =
+        ⊎-elim
+        (λ u. let e = eqb-true (b + 1) a u in near-by (omega arith) (omega arith))
+        (λ u. let e = eqb-true (b + 1) (a + 1) u in near-by (omega arith) (omega arith))
+        (either-true (eqb (b + 1) a) (eqb (b + 1) (a + 1)) t)
 
-    pick : a ≤ b + 1 → b ≤ a + 1 → Dec (b + 1 ≡ a) → Dec (b ≡ a) → (eqb (b + 1) a || eqb (b + 1) (a + 1) || eqb (b + 1) (a + 2)) ≡ true
-    pick p q (yes e) d = or-left (eqb (b + 1) a || eqb (b + 1) (a + 1)) (eqb (b + 1) (a + 2)) (or-left (eqb (b + 1) a) (eqb (b + 1) (a + 1)) (eq-eqb (b + 1) a e))
-    pick p q (no e) (yes d) = or-left (eqb (b + 1) a || eqb (b + 1) (a + 1)) (eqb (b + 1) (a + 2)) (or-right (eqb (b + 1) a) (eqb (b + 1) (a + 1)) (eq-eqb (b + 1) (a + 1) (omega arith)))
+    there : oneOfThree a b ≡ true → touch a b ≡ true
+    there t = ⊎-elim low (λ u. let e = eqb-true (b + 1) (a + 2) u in near-by (omega arith) (omega arith)) (either-true (eqb (b + 1) a || eqb (b + 1) (a + 1)) (eqb (b + 1) (a + 2)) t)
+
+    first : (eqb (b + 1) a || eqb (b + 1) (a + 1)) ≡ true → oneOfThree a b ≡ true
+    first = or-left (eqb (b + 1) a || eqb (b + 1) (a + 1)) (eqb (b + 1) (a + 2))
+
+    pick : a ≤ b + 1 → b ≤ a + 1 → Dec (b + 1 ≡ a) → Dec (b ≡ a) → oneOfThree a b ≡ true
+    pick p q (yes e) d = first (or-left (eqb (b + 1) a) (eqb (b + 1) (a + 1)) (eq-eqb (b + 1) a e))
+    pick p q (no e) (yes d) = first (or-right (eqb (b + 1) a) (eqb (b + 1) (a + 1)) (eq-eqb (b + 1) (a + 1) (omega arith)))
     pick p q (no e) (no d) = or-right (eqb (b + 1) a || eqb (b + 1) (a + 1)) (eqb (b + 1) (a + 2)) (eq-eqb (b + 1) (a + 2) (omega arith))
 
-    back : touch a b ≡ true → (eqb (b + 1) a || eqb (b + 1) (a + 1) || eqb (b + 1) (a + 2)) ≡ true
+    back : touch a b ≡ true → oneOfThree a b ≡ true
     back t = let w = both-true (leb a (b + 1)) (leb b (a + 1)) t in pick (leb-true a (b + 1) (w .0)) (leb-true b (a + 1) (w .1)) (ℕ-discrete (b + 1) a) (ℕ-discrete b a)
 
 -- ---- cells and their numbers
@@ -94,6 +107,11 @@ cell-lt w h r a p q =
     go : (m s n : ℕ) → s ≡ m + w → s ≤ n → m + a < n
     go m s n e l = omega arith
 
+pub cell-inside : (g : Cells) {heads : List ℕ} → Roomy g heads → (new : Corner) (c : ℕ) → c ≡ cellIn g new → c < total g
+cell-inside g r new c e =
+    subst (λ (m : ℕ). m < total g) (sym e)
+    (cell-lt (g .across) (g .down) (rowIn g (new .y)) (columnIn g (new .x)) (row-lt g (new .y) (r .high)) (column-lt g (new .x) (r .wide)))
+
 row-part : (w r a : ℕ) → a < w → (r * w + a) / w ≡ r
 row-part w r a h = mul-add-div-right {m = w} (let z : 0 < w = omega arith in z) r a ∙ ap (λ (k : ℕ). r + k) (div-eq-of-lt h) ∙ add-zero r
 
@@ -109,7 +127,8 @@ same-cell w r a s b p q =
 
 -- a number and one more than it
 one-more : (a b : ℕ) → 0 < b → eqb a (b - 1) ≡ eqb (a + 1) b
-one-more a b h = same-bool (eqb a (b - 1)) (eqb (a + 1) b) (λ t. let e = eqb-true a (b - 1) t in eq-eqb (a + 1) b (omega arith)) (λ t. let e = eqb-true (a + 1) b t in eq-eqb a (b - 1) (omega arith))
+one-more a b h =
+    same-bool (eqb a (b - 1)) (eqb (a + 1) b) (λ t. let e = eqb-true a (b - 1) t in eq-eqb (a + 1) b (omega arith)) (λ t. let e = eqb-true (a + 1) b t in eq-eqb a (b - 1) (omega arith))
 
 -- ---- the cells of the kept corners
 getD-map : {A : Type 0} (f : A → ℕ) (l : List A) (j z : ℕ) (d : A) → j < length l → getD (map f l) j z ≡ f (getD l j d)
@@ -137,24 +156,34 @@ module _ (g : Cells) (list : List Float) (n : ℕ) (there : 3 * n ≤ length lis
   cells-at j h = getD-map (cellIn g) (take n (cornersOf list)) j 0 nowhere (omega (arith, counted)) ∙ ap (cellIn g) (getD-take n (cornersOf list) j nowhere h)
 
   pub cells-in : 0 < g .across → 0 < g .down → (j : ℕ) → j < n → getD (cellsOf g list n) j 0 < total g
-  cells-in wide high j h = subst (λ (k : ℕ). k < total g) (sym (cells-at j h)) (cell-lt (g .across) (g .down) (rowAt g list j) (columnAt g list j) (row-lt g (at (cornersOf list) j .y) high) (column-lt g (at (cornersOf list) j .x) wide))
+  cells-in wide high j h =
+      subst (λ (k : ℕ). k < total g) (sym (cells-at j h)) (cell-lt (g .across) (g .down) (rowAt g list j) (columnAt g list j) (row-lt g (at (cornersOf list) j .y) high) (column-lt g (at (cornersOf list) j .x) wide))
 
 -- ---- one cell, three cells, nine cells
-module _ (g : Cells) (list : List Float) (n : ℕ) (heads links : List ℕ) (k : Chained g list n heads links) where
+module _ {g : Cells} {list : List Float} {n : ℕ} {heads links : List ℕ} (k : Chained g list n heads links) where
   pub cell-falling : (c : ℕ) → c < total g → Falling links 0 (getD heads c 0)
-  cell-falling c h = chain-falling (total g) (cellsOf g list n) heads links 0 c (k .chains) (omega (arith, cells-length g list n (k .there))) h (λ i a b. cells-in g list n (k .there) (k .roomy .wide) (k .roomy .high) i (omega (arith, cells-length g list n (k .there))))
+  cell-falling c h =
+      chain-falling (total g) (cellsOf g list n) heads links 0 c (k .chains) (omega (arith, cells-length g list n (k .there))) h (λ i a b. cells-in g list n (k .there) (k .roomy .wide) (k .roomy .high) i (omega (arith, cells-length g list n (k .there))))
 
   pub cell-few : (c : ℕ) → c < total g → getD heads c 0 ≤ n
-  cell-few c h = subst (λ (m : ℕ). m ≤ n) (sym (k .chains .tops c h)) (omega (arith, top-le (cellsOf g list n) c (length (cellsOf g list n)), cells-length g list n (k .there)))
+  cell-few c h =
+      subst (λ (m : ℕ). m ≤ n) (sym (k .chains .tops c h)) (omega (arith, top-le (cellsOf g list n) c (length (cellsOf g list n)), cells-length g list n (k .there)))
 
   module _ (d : Disc) (best : ℕ) where
+    other-column : (column row : ℕ) → ((j : ℕ) → columnAt g list j + 1 ≡ column → ⊥) → best ≡ least (inOneCell g list d column row) n best
+    other-column column row none =
+        least-none (inOneCell g list d column row) n best
+        (λ j h. ap (λ (t : Bool). t && eqb (rowAt g list j) row && within d list j) (ne-eqb (columnAt g list j + 1) column (none j)))
+
     pub no-column : (column row : ℕ) → column ≡ 0 → best ≡ least (inOneCell g list d column row) n best
-    no-column column row e = least-none (inOneCell g list d column row) n best (λ j h. ap (λ (t : Bool). t && eqb (rowAt g list j) row && within d list j) (ne-eqb (columnAt g list j + 1) column (λ q. let z : ⊥ = omega arith in z)))
+    no-column column row e = other-column column row (λ j q. let z : ⊥ = omega arith in z)
 
     pub past-column : (column row : ℕ) → g .across < column → best ≡ least (inOneCell g list d column row) n best
-    past-column column row e = least-none (inOneCell g list d column row) n best (λ j h. ap (λ (t : Bool). t && eqb (rowAt g list j) row && within d list j) (ne-eqb (columnAt g list j + 1) column (λ q. let z : ⊥ = omega (arith, column-lt g (at (cornersOf list) j .x) (k .roomy .wide)) in z)))
+    past-column column row e = other-column column row (λ j q. let z : ⊥ = omega (arith, column-lt g (at (cornersOf list) j .x) (k .roomy .wide)) in z)
 
-    pub walked-cell : (column row r : ℕ) → 0 < column → column ≤ g .across → row < g .down → Walked list links (getD heads (row * g .across + (column - 1)) 0) d best r → r ≡ least (inOneCell g list d column row) n best
+    pub walked-cell :
+        (column row r : ℕ) → 0 < column → column ≤ g .across → row < g .down
+        → Walked list links (getD heads (row * g .across + (column - 1)) 0) d best r → r ≡ least (inOneCell g list d column row) n best
     walked-cell column row r low high inside walked =
         let c = row * g .across + (column - 1) in
         let l : c < total g = cell-lt (g .across) (g .down) row (column - 1) inside (omega arith) in
@@ -168,36 +197,61 @@ module _ (g : Cells) (list : List Float) (n : ℕ) (heads links : List ℕ) (k :
             ∙ same-cell (g .across) (rowAt g list j) (columnAt g list j) row (column - 1) (column-lt g (at (cornersOf list) j .x) (k .roomy .wide)) (omega arith)
             ∙ ap (λ (t : Bool). t && eqb (rowAt g list j) row) (one-more (columnAt g list j) column low)
 
+    other-row : (column row : ℕ) → ((j : ℕ) → rowAt g list j + 1 ≡ row → ⊥) → best ≡ least (inThreeCells g list d column row) n best
+    other-row column row none = least-none (inThreeCells g list d column row) n best fails
+      where
+        fails : (j : ℕ) → j < n → inThreeCells g list d column row j ≡ false
+        fails j h =
+            ap (λ (t : Bool). touch column (columnAt g list j) && t && within d list j) (ne-eqb (rowAt g list j + 1) row (none j))
+            ∙ ap (λ (t : Bool). t && within d list j) (and-false (touch column (columnAt g list j)))
+
     pub no-row : (column row : ℕ) → row ≡ 0 → best ≡ least (inThreeCells g list d column row) n best
-    no-row column row e = least-none (inThreeCells g list d column row) n best (λ j h. ap (λ (t : Bool). touch column (columnAt g list j) && t && within d list j) (ne-eqb (rowAt g list j + 1) row (λ q. let z : ⊥ = omega arith in z)) ∙ ap (λ (t : Bool). t && within d list j) (and-false (touch column (columnAt g list j))))
+    no-row column row e = other-row column row (λ j q. let z : ⊥ = omega arith in z)
 
     pub past-row : (column row : ℕ) → g .down < row → best ≡ least (inThreeCells g list d column row) n best
-    past-row column row e = least-none (inThreeCells g list d column row) n best (λ j h. ap (λ (t : Bool). touch column (columnAt g list j) && t && within d list j) (ne-eqb (rowAt g list j + 1) row (λ q. let z : ⊥ = omega (arith, row-lt g (at (cornersOf list) j .y) (k .roomy .high)) in z)) ∙ ap (λ (t : Bool). t && within d list j) (and-false (touch column (columnAt g list j))))
+    past-row column row e = other-row column row (λ j q. let z : ⊥ = omega (arith, row-lt g (at (cornersOf list) j .y) (k .roomy .high)) in z)
 
-    pub three-cells : (column row a b r : ℕ) → 0 < row → a ≡ least (inOneCell g list d column (row - 1)) n best → b ≡ least (inOneCell g list d (column + 1) (row - 1)) n a → r ≡ least (inOneCell g list d (column + 2) (row - 1)) n b → r ≡ least (inThreeCells g list d column row) n best
+    pub three-cells :
+        (column row a b r : ℕ) → 0 < row → a ≡ least (inOneCell g list d column (row - 1)) n best
+        → b ≡ least (inOneCell g list d (column + 1) (row - 1)) n a → r ≡ least (inOneCell g list d (column + 2) (row - 1)) n b
+        → r ≡ least (inThreeCells g list d column row) n best
     three-cells column row a b r low ea eb er =
         er
         ∙ ap (least (inOneCell g list d (column + 2) (row - 1)) n) (eb ∙ ap (least (inOneCell g list d (column + 1) (row - 1)) n) ea)
         ∙ least-three (inOneCell g list d column (row - 1)) (inOneCell g list d (column + 1) (row - 1)) (inOneCell g list d (column + 2) (row - 1)) (inThreeCells g list d column row) n best
-        (λ j h. common (eqb (columnAt g list j + 1) column) (eqb (columnAt g list j + 1) (column + 1)) (eqb (columnAt g list j + 1) (column + 2)) (touch column (columnAt g list j)) (eqb (rowAt g list j) (row - 1)) (within d list j) (touch-three column (columnAt g list j)) ∙ ap (λ (t : Bool). touch column (columnAt g list j) && t && within d list j) (one-more (rowAt g list j) row low))
+        (λ j h. any (columnAt g list j) (rowAt g list j) (within d list j))
+      where
+        any : (a b : ℕ) (q : Bool) → (eqb (a + 1) column && eqb b (row - 1) && q || eqb (a + 1) (column + 1) && eqb b (row - 1) && q || eqb (a + 1) (column + 2) && eqb b (row - 1) && q) ≡ (touch column a && eqb (b + 1) row && q)
+        any a b q =
+            common (eqb (a + 1) column) (eqb (a + 1) (column + 1)) (eqb (a + 1) (column + 2)) (touch column a) (eqb b (row - 1)) q (touch-three column a)
+            ∙ ap (λ (t : Bool). touch column a && t && q) (one-more b row low)
 
-    pub nine-cells : (column row a b r : ℕ) → a ≡ least (inThreeCells g list d column row) n best → b ≡ least (inThreeCells g list d column (row + 1)) n a → r ≡ least (inThreeCells g list d column (row + 2)) n b → r ≡ least (inNineCells g list d column row) n best
+    pub nine-cells :
+        (column row a b r : ℕ) → a ≡ least (inThreeCells g list d column row) n best
+        → b ≡ least (inThreeCells g list d column (row + 1)) n a → r ≡ least (inThreeCells g list d column (row + 2)) n b
+        → r ≡ least (inNineCells g list d column row) n best
     nine-cells column row a b r ea eb er =
         er
         ∙ ap (least (inThreeCells g list d column (row + 2)) n) (eb ∙ ap (least (inThreeCells g list d column (row + 1)) n) ea)
         ∙ least-three (inThreeCells g list d column row) (inThreeCells g list d column (row + 1)) (inThreeCells g list d column (row + 2)) (inNineCells g list d column row) n best
-        (λ j h. common-first (touch column (columnAt g list j)) (eqb (rowAt g list j + 1) row) (eqb (rowAt g list j + 1) (row + 1)) (eqb (rowAt g list j + 1) (row + 2)) (touch row (rowAt g list j)) (within d list j) (touch-three row (rowAt g list j)))
+        (λ j h. any (touch column (columnAt g list j)) (rowAt g list j) (within d list j))
+      where
+        any : (t : Bool) (b : ℕ) (q : Bool) → (t && eqb (b + 1) row && q || t && eqb (b + 1) (row + 1) && q || t && eqb (b + 1) (row + 2) && q) ≡ (t && touch row b && q)
+        any t b q = common-first t (eqb (b + 1) row) (eqb (b + 1) (row + 1)) (eqb (b + 1) (row + 2)) (touch row b) q (touch-three row b)
 
 -- ---- a corner's number changes its cell, or is new
-module _ (g : Cells) (list : List Float) (n : ℕ) (heads links : List ℕ) (k : Chained g list n heads links) where
+module _ {g : Cells} {list : List Float} {n : ℕ} {heads links : List ℕ} (k : Chained g list n heads links) where
   long : length (cellsOf g list n) ≡ n
   long = cells-length g list n (k .there)
+
+  all-in : (i : ℕ) → i < length (cellsOf g list n) → getD (cellsOf g list n) i 0 < total g
+  all-in i h = cells-in g list n (k .there) (k .roomy .wide) (k .roomy .high) i (omega (arith, long))
 
   -- a kept corner stands in the chain of its cell
   pub kept-member : (j : ℕ) → j < n → (c : ℕ) → c ≡ cellIn g (at (cornersOf list) j) → Member heads links c j
   kept-member j h c e =
       let here : getD (cellsOf g list n) j 0 ≡ c = cells-at g list n (k .there) j h ∙ sym e in
-      let inside : c < total g = subst (λ (m : ℕ). m < total g) here (cells-in g list n (k .there) (k .roomy .wide) (k .roomy .high) j h) in
+      let inside : c < total g = subst (λ (m : ℕ). m < total g) here (all-in j (omega (arith, long))) in
       let room = k .roomy .room in
       let linked = k .linked in
       let high : j < top (cellsOf g list n) c (length (cellsOf g list n)) = top-above (cellsOf g list n) c (length (cellsOf g list n)) j (omega (arith, long)) here in
@@ -205,92 +259,118 @@ module _ (g : Cells) (list : List Float) (n : ℕ) (heads links : List ℕ) (k :
         cell = omega arith;
         own = omega arith;
         high = subst (λ (m : ℕ). j < m) (sym (k .chains .tops c inside)) high;
-        falling = chain-falling (total g) (cellsOf g list n) heads links (j + 1) c (k .chains) (omega (arith, long)) inside (λ i a b. cells-in g list n (k .there) (k .roomy .wide) (k .roomy .high) i (omega (arith, long)));
+        falling =
+            chain-falling (total g) (cellsOf g list n) heads links (j + 1) c (k .chains) (omega (arith, long)) inside (λ i a. all-in i);
       }
 
-  pub kept-leaves : (j : ℕ) → j < n → (c : ℕ) → c ≡ cellIn g (at (cornersOf list) j) → (heads' links' : List ℕ) → Unlinked heads links c j heads' links' → Chains (total g) (set (cellsOf g list n) j (total g)) heads' links'
+  pub kept-leaves :
+      (j : ℕ) → j < n → (c : ℕ) → c ≡ cellIn g (at (cornersOf list) j) → (heads' links' : List ℕ)
+      → Unlinked heads links c j heads' links' → Chains (total g) (set (cellsOf g list n) j (total g)) heads' links'
   kept-leaves j h c e heads' links' unlinked =
       let here : getD (cellsOf g list n) j 0 ≡ c = cells-at g list n (k .there) j h ∙ sym e in
-      unlinked (total g) (cellsOf g list n) (k .chains) (subst (λ (m : ℕ). m < total g) here (cells-in g list n (k .there) (k .roomy .wide) (k .roomy .high) j h)) (omega (arith, long)) here
+      unlinked (total g) (cellsOf g list n) (k .chains) (subst (λ (m : ℕ). m < total g) here (all-in j (omega (arith, long)))) (omega (arith, long)) here
 
   -- one that left can join any chain
-  pub left-joins : (j : ℕ) → j < n → j < 4096 → (c : ℕ) → c < total g → (heads' links' : List ℕ) → length heads' ≡ length heads → length links' ≡ length links → Chains (total g) (set (cellsOf g list n) j (total g)) heads' links' → Joinable heads' links' c j
+  pub left-joins :
+      (j : ℕ) → j < n → j < 4096 → (c : ℕ) → c < total g → (heads' links' : List ℕ) → length heads' ≡ length heads
+      → length links' ≡ length links → Chains (total g) (set (cellsOf g list n) j (total g)) heads' links' → Joinable heads' links' c j
   left-joins j h small c inside heads' links' hs ls chains =
       let room = k .roomy .room in
       let linked = k .linked in
       let same : length (set (cellsOf g list n) j (total g)) ≡ length (cellsOf g list n) = length-set (cellsOf g list n) j (total g) in
+      let own : j < length (cellsOf g list n) = omega (arith, long) in
       record {
         cell = omega arith;
         own = omega arith;
         small = small;
-        absent = λ e. let z : total g ≡ c = sym (getD-set-same (cellsOf g list n) j (total g) 0 (let z : j < length (cellsOf g list n) = omega (arith, long) in z)) ∙ top-hit (set (cellsOf g list n) j (total g)) c (length (set (cellsOf g list n) j (total g))) j (sym (chains .tops c inside) ∙ e ∙ add-one j) in let y : ⊥ = omega arith in y;
-        falling = chain-falling (total g) (set (cellsOf g list n) j (total g)) heads' links' (j + 1) c chains (omega (arith, long)) inside (λ i a b. subst (λ (m : ℕ). m < total g) (sym (getD-set-other (cellsOf g list n) j i (total g) 0 (λ q. let z : ⊥ = omega arith in z))) (cells-in g list n (k .there) (k .roomy .wide) (k .roomy .high) i (omega (arith, long))));
+        absent =
+            λ e. let z : total g ≡ c = sym (getD-set-same (cellsOf g list n) j (total g) 0 own) ∙ top-hit (set (cellsOf g list n) j (total g)) c (length (set (cellsOf g list n) j (total g))) j (sym (chains .tops c inside) ∙ e ∙ add-one j) in let y : ⊥ = omega arith in y;
+        falling =
+            chain-falling (total g) (set (cellsOf g list n) j (total g)) heads' links' (j + 1) c chains (omega (arith, long)) inside
+            (λ i a b. subst (λ (m : ℕ). m < total g) (sym (getD-set-other (cellsOf g list n) j i (total g) 0 (λ q. let z : ⊥ = omega arith in z))) (all-in i (omega arith)));
       }
 
-  pub joined-again : (j : ℕ) → j < n → (new : Corner) (c : ℕ) → c ≡ cellIn g new → (heads' links' heads'' links'' : List ℕ) (list' : List Float) → length heads'' ≡ length heads → length links'' ≡ length links → length list' ≡ length list → cornersOf list' ≡ set (cornersOf list) j new → Chains (total g) (set (cellsOf g list n) j (total g)) heads' links' → Linked heads' links' c j heads'' links'' → Chained g list' n heads'' links''
+  pub joined-again :
+      (j : ℕ) → j < n → (new : Corner) (c : ℕ) → c ≡ cellIn g new → (heads' links' heads'' links'' : List ℕ) (list' : List Float)
+      → length heads'' ≡ length heads → length links'' ≡ length links → length list' ≡ length list
+      → cornersOf list' ≡ set (cornersOf list) j new → Chains (total g) (set (cellsOf g list n) j (total g)) heads' links'
+      → Linked heads' links' c j heads'' links'' → Chained g list' n heads'' links''
   joined-again j h new c e heads' links' heads'' links'' list' hs ls same put chains linked =
       let room = k .roomy .room in
       let lk = k .linked in
       let th = k .there in
       let cs = cellsOf g list n in
-      let inside : c < total g = subst (λ (m : ℕ). m < total g) (sym e) (cell-lt (g .across) (g .down) (rowIn g (new .y)) (columnIn g (new .x)) (row-lt g (new .y) (k .roomy .high)) (column-lt g (new .x) (k .roomy .wide))) in
+      let inside : c < total g = cell-inside g (k .roomy) new c e in
       let own : j < length cs = omega (arith, long) in
       record {
         roomy = record { wide = k .roomy .wide; high = k .roomy .high; room = omega arith };
         linked = omega arith;
         there = omega arith;
-        chains = subst (λ (l : List ℕ). Chains (total g) l heads'' links'') (set-set cs j (total g) c ∙ ap (set cs j) e ∙ sym (map-set (cellIn g) (take n (cornersOf list)) j new) ∙ ap (map (cellIn g)) (sym (take-set-lt n (cornersOf list) j new h) ∙ ap (take n) (sym put))) (linked (total g) (set cs j (total g)) chains inside (subst (λ (m : ℕ). j < m) (sym (length-set cs j (total g))) own) (getD-set-same cs j (total g) 0 own));
+        chains =
+            subst (λ (l : List ℕ). Chains (total g) l heads'' links'')
+            (set-set cs j (total g) c ∙ ap (set cs j) e ∙ sym (map-set (cellIn g) (take n (cornersOf list)) j new) ∙ ap (map (cellIn g)) (sym (take-set-lt n (cornersOf list) j new h) ∙ ap (take n) (sym put)))
+            (linked (total g) (set cs j (total g)) chains inside (subst (λ (m : ℕ). j < m) (sym (length-set cs j (total g))) own) (getD-set-same cs j (total g) 0 own));
       }
 
   -- the next number is in no chain
   pub new-joins : n < 4096 → n < length links → (c : ℕ) → c < total g → Joinable heads links c n
   new-joins small own c inside =
       let room = k .roomy .room in
-      let few : getD heads c 0 ≤ n = cell-few g list n heads links k c inside in
+      let few : getD heads c 0 ≤ n = cell-few k c inside in
       record { cell = omega arith; own = own; small = small; absent = λ e. let z : ⊥ = omega arith in z; falling = record { room = omega arith; falls = λ j a b. absurd (let z : ⊥ = omega arith in z) } }
 
-  pub joined-new : (new : Corner) (c : ℕ) → c ≡ cellIn g new → (heads' links' : List ℕ) (list' : List Float) → length heads' ≡ length heads → length links' ≡ length links → length list' ≡ length list → n < length links → 3 * n + 2 < length list → cornersOf list' ≡ set (cornersOf list) n new → Linked heads links c n heads' links' → Chained g list' (n + 1) heads' links'
+  pub joined-new :
+      (new : Corner) (c : ℕ) → c ≡ cellIn g new → (heads' links' : List ℕ) (list' : List Float) → length heads' ≡ length heads
+      → length links' ≡ length links → length list' ≡ length list → n < length links → 3 * n + 2 < length list
+      → cornersOf list' ≡ set (cornersOf list) n new → Linked heads links c n heads' links' → Chained g list' (n + 1) heads' links'
   joined-new new c e heads' links' list' hs ls same own room' put linked =
       let room = k .roomy .room in
       let cs = cellsOf g list n in
-      let inside : c < total g = subst (λ (m : ℕ). m < total g) (sym e) (cell-lt (g .across) (g .down) (rowIn g (new .y)) (columnIn g (new .x)) (row-lt g (new .y) (k .roomy .high)) (column-lt g (new .x) (k .roomy .wide))) in
-      let n-in : n < length (cornersOf list) = omega (arith, length-corners list) in
+      let inside : c < total g = cell-inside g (k .roomy) new c e in
+      let one-longer : take n (cornersOf list) ++ new ∷ [] ≡ take (n + 1) (cornersOf list') = sym (take-suc-set (cornersOf list) n new (omega (arith, length-corners list))) ∙ ap (λ (m : ℕ). take m (set (cornersOf list) n new)) (sym (add-one n)) ∙ ap (take (n + 1)) (sym put) in
       record {
         roomy = record { wide = k .roomy .wide; high = k .roomy .high; room = omega arith };
         linked = omega arith;
         there = omega arith;
-        chains = subst (λ (l : List ℕ). Chains (total g) l heads' links') (set-at cs (total g) [] c n long ∙ ap (λ (m : ℕ). cs ++ m ∷ []) e ∙ sym (map-snoc (cellIn g) (take n (cornersOf list)) new) ∙ ap (map (cellIn g)) (sym (take-suc-set (cornersOf list) n new n-in) ∙ ap (λ (m : ℕ). take m (set (cornersOf list) n new)) (sym (add-one n)) ∙ ap (take (n + 1)) (sym put))) (linked (total g) (cs ++ total g ∷ []) (chains-more (total g) cs heads links (k .chains)) inside (omega (arith, long, length-append cs (total g ∷ []))) (getD-at cs (total g) [] 0 n long));
+        chains =
+            subst (λ (l : List ℕ). Chains (total g) l heads' links')
+            (set-at cs (total g) [] c n long ∙ ap (λ (m : ℕ). cs ++ m ∷ []) e ∙ sym (map-snoc (cellIn g) (take n (cornersOf list)) new) ∙ ap (map (cellIn g)) one-longer)
+            (linked (total g) (cs ++ total g ∷ []) (chains-more (total g) cs heads links (k .chains)) inside (omega (arith, long, length-append cs (total g ∷ []))) (getD-at cs (total g) [] 0 n long));
       }
 
 -- no corner is kept at first
-pub none-chained : (g : Cells) (list : List Float) (heads links : List ℕ) → Roomy g heads → ((c : ℕ) → c < total g → getD heads c 0 ≡ 0) → Chained g list 0 heads links
+pub none-chained : {g : Cells} {list : List Float} {heads links : List ℕ} → Roomy g heads → ((c : ℕ) → c < total g → getD heads c 0 ≡ 0) → Chained g list 0 heads links
 unfolding top
-none-chained g list heads links roomy zeros = record { roomy = roomy; linked = omega arith; there = omega arith; chains = record { tops = zeros; nexts = λ j h. absurd (not-suc-le-zero h) } }
+none-chained roomy zeros =
+    record { roomy = roomy; linked = omega arith; there = omega arith; chains = record { tops = zeros; nexts = λ j h. absurd (not-suc-le-zero h) } }
 
 -- what is found in the nine cells is whom the corner meets
-pub nine-meets : (g : Cells) (list : List Float) (x y s r2 : Float) (count column row met : ℕ) → column ≡ columnIn g x → row ≡ rowIn g y → met ≡ least (inNineCells g list (record { x = x; y = y; r2 = r2 }) column row) count count → met ≡ least (λ j. meetsIn g r2 (corner x y s) (at (cornersOf list) j)) count count
+pub nine-meets :
+    (g : Cells) (list : List Float) (new : Corner) (r2 : Float) (count column row met : ℕ)
+    → column ≡ columnIn g (new .x) → row ≡ rowIn g (new .y)
+    → met ≡ least (inNineCells g list (record { x = new .x; y = new .y; r2 = r2 }) column row) count count
+    → met ≡ least (λ j. meetsIn g r2 new (at (cornersOf list) j)) count count
 unfolding near within
-nine-meets g list x y s r2 count column row met ec er e = e ∙ ap (λ (m : ℕ). least (inNineCells g list (record { x = x; y = y; r2 = r2 }) m row) count count) ec ∙ ap (λ (m : ℕ). least (inNineCells g list (record { x = x; y = y; r2 = r2 }) (columnIn g x) m) count count) er
+nine-meets g list new r2 count column row met ec er e =
+    e
+    ∙ ap (λ (m : ℕ). least (inNineCells g list (record { x = new .x; y = new .y; r2 = r2 }) m row) count count) ec
+    ∙ ap (λ (m : ℕ). least (inNineCells g list (record { x = new .x; y = new .y; r2 = r2 }) (columnIn g (new .x)) m) count count) er
 
 -- ---- what fits the heads
-pub across-room : (g : Cells) (heads : List ℕ) → Roomy g heads → g .across ≤ length heads
-across-room g heads r = le-trans (le-mul-of-pos-right (g .across) (r .high)) (r .room)
+pub across-room : (g : Cells) {heads : List ℕ} → Roomy g heads → g .across ≤ length heads
+across-room g r = le-trans (le-mul-of-pos-right (g .across) (r .high)) (r .room)
 
-pub down-room : (g : Cells) (heads : List ℕ) → Roomy g heads → g .down ≤ length heads
-down-room g heads r = le-trans (subst (λ (m : ℕ). g .down ≤ m) (mul-comm (g .down) (g .across)) (le-mul-of-pos-right (g .down) (r .wide))) (r .room)
+pub down-room : (g : Cells) {heads : List ℕ} → Roomy g heads → g .down ≤ length heads
+down-room g r = le-trans (subst (λ (m : ℕ). g .down ≤ m) (mul-comm (g .down) (g .across)) (le-mul-of-pos-right (g .down) (r .wide))) (r .room)
 
-pub cell-room : (g : Cells) (heads : List ℕ) → Roomy g heads → (row a : ℕ) → row < g .down → a < g .across → row * g .across + a < length heads
-cell-room g heads r row a p q = lt-of-lt-of-le (cell-lt (g .across) (g .down) row a p q) (r .room)
+pub cell-room : (g : Cells) {heads : List ℕ} → Roomy g heads → (row a : ℕ) → row < g .down → a < g .across → row * g .across + a < length heads
+cell-room g r row a p q = lt-of-lt-of-le (cell-lt (g .across) (g .down) row a p q) (r .room)
 
--- ---- a corner's cell, worked out from the floats
-pub cell-of : (g : Cells) (x y s : Float) (column row : ℕ) → column ≡ columnIn g x → row ≡ rowIn g y → row * g .across + column ≡ cellIn g (corner x y s)
-cell-of g x y s column row ec er = ap (λ (m : ℕ). m * g .across + column) er ∙ ap (λ (m : ℕ). rowIn g y * g .across + m) ec
+-- ---- a corner's cell, by its column and row
+pub cell-of : (g : Cells) (new : Corner) (column row : ℕ) → column ≡ columnIn g (new .x) → row ≡ rowIn g (new .y) → row * g .across + column ≡ cellIn g new
+cell-of g new column row ec er = ap (λ (m : ℕ). m * g .across + column) er ∙ ap (λ (m : ℕ). rowIn g (new .y) * g .across + m) ec
 
-pub cell-at : (g : Cells) (list : List Float) (j : ℕ) (d : Float) (column row : ℕ) → 3 * j + 2 < length list → column ≡ columnIn g (getD list (3 * j) d) → row ≡ rowIn g (getD list (3 * j + 1) d) → row * g .across + column ≡ cellIn g (at (cornersOf list) j)
-cell-at g list j d column row room ec er = cell-of g (getD list (3 * j) d) (getD list (3 * j + 1) d) (getD list (3 * j + 2) d) column row ec er ∙ ap (cellIn g) (sym (corner-at list j d room))
-
-pub cell-inside : (g : Cells) (heads : List ℕ) → Roomy g heads → (new : Corner) (c : ℕ) → c ≡ cellIn g new → c < total g
-cell-inside g heads r new c e = subst (λ (m : ℕ). m < total g) (sym e) (cell-lt (g .across) (g .down) (rowIn g (new .y)) (columnIn g (new .x)) (row-lt g (new .y) (r .high)) (column-lt g (new .x) (r .wide)))
-
-pub placed-room : (g : Cells) (heads : List ℕ) → Roomy g heads → (x y : Float) (column row : ℕ) → column ≡ columnIn g x → row ≡ rowIn g y → row * g .across + column < length heads
-placed-room g heads r x y column row ec er = cell-room g heads r row column (subst (λ (m : ℕ). m < g .down) (sym er) (row-lt g y (r .high))) (subst (λ (m : ℕ). m < g .across) (sym ec) (column-lt g x (r .wide)))
+pub placed-room :
+    (g : Cells) {heads : List ℕ} → Roomy g heads → (new : Corner) (column row : ℕ) → column ≡ columnIn g (new .x)
+    → row ≡ rowIn g (new .y) → row * g .across + column < length heads
+placed-room g r new column row ec er = lt-of-lt-of-le (cell-inside g r new (row * g .across + column) (cell-of g new column row ec er)) (r .room)

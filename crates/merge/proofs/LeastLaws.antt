@@ -45,7 +45,9 @@ least-is test (suc n) best = go (test n && ltb n best) refl (λ b. least-is test
     at-n true e r h t = h
     at-n false e r h t = let l : best ≤ n = ltb-false n best (sym (ap (λ (u : Bool). u && ltb n best) t) ∙ e) in omega arith
 
-    go : (b : Bool) → (test n && ltb n best) ≡ b → ((b : Bool) → IsLeast test n (cond b n best) (least test n (cond b n best))) → IsLeast test (suc n) best (least test n (cond b n best))
+    go :
+        (b : Bool) → (test n && ltb n best) ≡ b → ((b : Bool) → IsLeast test n (cond b n best) (least test n (cond b n best)))
+        → IsLeast test (suc n) best (least test n (cond b n best))
     go true e ih =
         let i = ih true in
         let l : n < best = ltb-true n best (both-true (test n) (ltb n best) e .1) in
@@ -53,14 +55,16 @@ least-is test (suc n) best = go (test n && ltb n best) refl (λ b. least-is test
         record {
           lower = omega arith;
           below = λ j h t. ⊎-elim (λ q. subst (λ (k : ℕ). least test n n ≤ k) (sym q) u) (λ k. i .below j k t) (eq-or-lt-of-le (le-of-suc-le-suc h));
-          found = inr (⊎-elim (λ q. (omega arith, subst (λ (k : ℕ). test k ≡ true) (sym q) (both-true (test n) (ltb n best) e .0))) (λ w. (omega arith, w .1)) (i .found));
+          found =
+              inr (⊎-elim (λ q. (omega arith, subst (λ (k : ℕ). test k ≡ true) (sym q) (both-true (test n) (ltb n best) e .0))) (λ w. (omega arith, w .1)) (i .found));
         }
     go false e ih =
         let i = ih false in
         let u = i .lower in
         record {
           lower = u;
-          below = λ j h t. ⊎-elim (λ q. subst (λ (k : ℕ). least test n best ≤ k) (sym q) (at-n false e (least test n best) u (subst (λ (k : ℕ). test k ≡ true) q t))) (λ k. i .below j k t) (eq-or-lt-of-le (le-of-suc-le-suc h));
+          below =
+              λ j h t. ⊎-elim (λ q. subst (λ (k : ℕ). least test n best ≤ k) (sym q) (at-n false e (least test n best) u (subst (λ (k : ℕ). test k ≡ true) q t))) (λ k. i .below j k t) (eq-or-lt-of-le (le-of-suc-le-suc h));
           found = ⊎-elim (λ q. inl q) (λ w. inr (omega arith, w .1)) (i .found);
         }
 
@@ -70,25 +74,27 @@ only test n best r s a b = ⊎-elim (λ q. subst (λ (k : ℕ). r ≤ k) (sym q)
 pub is-least : (test : ℕ → Bool) (n best r : ℕ) → IsLeast test n best r → r ≡ least test n best
 is-least test n best r a = le-antisymm (only test n best r (least test n best) a (least-is test n best)) (only test n best (least test n best) r (least-is test n best) a)
 
--- three parts one after the other
-pub least-three : (one two three test : ℕ → Bool) (n best : ℕ) → ((j : ℕ) → j < n → (one j || two j || three j) ≡ test j) → least three n (least two n (least one n best)) ≡ least test n best
-least-three one two three test n best same =
-    let r = least three n (least two n (least one n best)) in
+-- one part of the numbers after the other
+least-two : (one two test : ℕ → Bool) (n best : ℕ) → ((j : ℕ) → j < n → (one j || two j) ≡ test j) → least two n (least one n best) ≡ least test n best
+least-two one two test n best same =
     let a = least-is one n best in
     let b = least-is two n (least one n best) in
-    let c = least-is three n (least two n (least one n best)) in
-    let ab = b .lower in
-    let bc = c .lower in
-    let aa = a .lower in
-    is-least test n best r
+    let low = a .lower in
+    let lower = b .lower in
+    is-least test n best (least two n (least one n best))
     (record {
       lower = omega arith;
-      below = λ j h t. ⊎-elim (λ w. ⊎-elim (λ u. let z = a .below j h u in omega arith) (λ u. let z = b .below j h u in omega arith) (either-true (one j) (two j) w)) (λ w. c .below j h w) (either-true (one j || two j) (three j) (same j h ∙ t));
-      found = ⊎-elim (λ q. ⊎-elim (λ q'. ⊎-elim (λ q''. inl (q ∙ q' ∙ q'')) (λ w. hit (least one n best) (q ∙ q') (w .0) (or-left (one (least one n best) || two (least one n best)) (three (least one n best)) (or-left (one (least one n best)) (two (least one n best)) (w .1)))) (a .found)) (λ w. hit (least two n (least one n best)) q (w .0) (or-left (one (least two n (least one n best)) || two (least two n (least one n best))) (three (least two n (least one n best))) (or-right (one (least two n (least one n best))) (two (least two n (least one n best))) (w .1)))) (b .found)) (λ w. hit r refl (w .0) (or-right (one r || two r) (three r) (w .1))) (c .found);
+      below = λ j h t. ⊎-elim (λ u. let z = a .below j h u in omega arith) (λ u. b .below j h u) (either-true (one j) (two j) (same j h ∙ t));
+      found = ⊎-elim (λ q. ⊎-elim (λ p. inl (q ∙ p)) (λ w. hit (least one n best) q (w .0) (or-left (one (least one n best)) (two (least one n best)) (w .1))) (a .found)) (λ w. hit (least two n (least one n best)) refl (w .0) (or-right (one (least two n (least one n best))) (two (least two n (least one n best))) (w .1))) (b .found);
     })
   where
-    hit : (k : ℕ) → least three n (least two n (least one n best)) ≡ k → k < n → (one k || two k || three k) ≡ true → (least three n (least two n (least one n best)) ≡ best) ⊎ ((least three n (least two n (least one n best)) < n) × (test (least three n (least two n (least one n best))) ≡ true))
+    hit : (k : ℕ) → least two n (least one n best) ≡ k → k < n → (one k || two k) ≡ true → (least two n (least one n best) ≡ best) ⊎ ((least two n (least one n best) < n) × (test (least two n (least one n best)) ≡ true))
     hit k q h t = inr (subst (λ (m : ℕ). m < n) (sym q) h, subst (λ (m : ℕ). test m ≡ true) (sym q) (sym (same k h) ∙ t))
+
+pub least-three : (one two three test : ℕ → Bool) (n best : ℕ) → ((j : ℕ) → j < n → (one j || two j || three j) ≡ test j) → least three n (least two n (least one n best)) ≡ least test n best
+least-three one two three test n best same =
+    ap (least three n) (least-two one two (λ j. one j || two j) n best (λ j h. refl))
+    ∙ least-two (λ j. one j || two j) three test n best same
 
 -- tests that agree find the same
 pub least-same : (one two : ℕ → Bool) (n best : ℕ) → ((j : ℕ) → j < n → one j ≡ two j) → least one n best ≡ least two n best
@@ -123,7 +129,8 @@ pub first-found : (test : ℕ → Bool) (n j : ℕ) → j < n → ((k : ℕ) →
 first-found test n j h before t = is-least test n n j (record { lower = omega arith; below = λ i l u. not-before test j i before u; found = inr (h, t) })
 
 pub none-found : (test : ℕ → Bool) (n j : ℕ) → n ≤ j → ((k : ℕ) → k < j → test k ≡ false) → n ≡ least test n n
-none-found test n j h before = is-least test n n n (record { lower = le-refl n; below = λ i l u. let z : j ≤ i = not-before test j i before u in omega arith; found = inl refl })
+none-found test n j h before =
+    is-least test n n n (record { lower = le-refl n; below = λ i l u. let z : j ≤ i = not-before test j i before u in omega arith; found = inl refl })
 
 -- no number at all
 pub least-none : (test : ℕ → Bool) (n best : ℕ) → ((k : ℕ) → k < n → test k ≡ false) → best ≡ least test n best

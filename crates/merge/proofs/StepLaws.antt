@@ -1,20 +1,19 @@
 -- One corner, all corners and the filled list, over the corners in the flat list.
-use mathlib.Core.Path.{_≡_, refl, sym, ap, _∙_, subst}
+use mathlib.Core.Path.{_≡_, refl, sym, ap, _∙_}
 use mathlib.Core.Bool.{Bool, true, false, cond}
-use mathlib.Core.List.{List, [], _∷_, _++_}
-use Prim.Native.Nat.{ℕ, suc, _+_, _-_, _*_, _/_, _≤_, _<_}
+use mathlib.Core.List.{List, _++_}
+use Prim.Native.Nat.{ℕ, _+_, _-_, _*_, _≤_, _<_}
 use native.Mathlib.Numerals.{add-one}
 use native.Mathlib.Omega.{arith}
-use lib.ListN.{length, getD, set, take, drop, replicate, drop-of-length-le, length-set}
+use lib.ListN.{length, getD, set, take, drop, replicate, drop-of-length-le}
 use lib.Seq.{length-take-le, getD-take, take-set-lt, drop-set-lt, take-suc-set, set-getD, drop-cons}
 use lib.Ieee.{Float, lt}
 use Rattle.merge.specs.Corners.{Corner, cornersOf, flat}
-use Rattle.merge.specs.Meets.{near}
 use Rattle.merge.specs.Fold.{stronger, place, placeOf, mergeFrom, merged}
-use Rattle.merge.specs.Call.{zeroFloat, filled}
+use Rattle.merge.specs.Call.{zeroFloat}
 use Rattle.merge.specs.Claims.{nowhere, at}
-use Rattle.merge.specs.Steps.{corner, least, Stepped, Passed, Filled}
-use Rattle.merge.proofs.FlatLaws.{length-corners, corner-at, take-flat}
+use Rattle.merge.specs.Steps.{least, Stepped, Passed, Filled}
+use Rattle.merge.proofs.FlatLaws.{length-corners, read, corner-at, take-flat}
 use Rattle.merge.proofs.LeastLaws.{least-same}
 use Rattle.merge.proofs.FoldLaws.{place-hit, place-none, place-least}
 
@@ -28,7 +27,11 @@ module _ (meets : Corner → Corner → Bool) (l : List Corner) (i count met : �
 
   -- where the corner goes
   goes : placeOf meets new (take count l) ≡ met
-  goes = place-least meets new (take count l) ∙ ap (λ (n : ℕ). least (λ j. meets new (at (take count l) j)) n n) counted ∙ least-same (λ j. meets new (at (take count l) j)) (λ j. meets new (at l j)) count count (λ j h. ap (meets new) (kept-at j h)) ∙ sym found
+  goes =
+      place-least meets new (take count l)
+      ∙ ap (λ (n : ℕ). least (λ j. meets new (at (take count l) j)) n n) counted
+      ∙ least-same (λ j. meets new (at (take count l) j)) (λ j. meets new (at l j)) count count (λ j h. ap (meets new) (kept-at j h))
+      ∙ sym found
 
   rest-of : (j : ℕ) → j ≤ i → drop (i + 1) (set l j new) ≡ drop (i + 1) l
   rest-of j h = drop-set-lt (i + 1) l j new (omega arith)
@@ -51,7 +54,11 @@ module _ (meets : Corner → Corner → Bool) (l : List Corner) (i count met : �
   pub step-stays : met < count → lt (at l met .strength) (new .strength) ≡ false → Stepped meets i count l l count
   step-stays h strong =
       record {
-        kept = sym (set-getD (take count l) met nowhere) ∙ ap (λ (k : Corner). set (take count l) met k) (kept-at met h) ∙ ap (λ (b : Bool). set (take count l) met (cond b new (at l met))) (sym strong) ∙ sym (met-place h);
+        kept =
+            sym (set-getD (take count l) met nowhere)
+            ∙ ap (λ (k : Corner). set (take count l) met k) (kept-at met h)
+            ∙ ap (λ (b : Bool). set (take count l) met (cond b new (at l met))) (sym strong)
+            ∙ sym (met-place h);
         rest = refl;
         bound = omega arith;
       }
@@ -59,15 +66,22 @@ module _ (meets : Corner → Corner → Bool) (l : List Corner) (i count met : �
   pub step-adds : count ≤ met → (after : List Corner) → after ≡ set l count new → Stepped meets i count l after (count + 1)
   step-adds h after e =
       record {
-        kept = ap (take (count + 1)) e ∙ ap (λ (n : ℕ). take n (set l count new)) (add-one count) ∙ take-suc-set l count new (omega arith) ∙ sym (ap (λ (c : Corner). place meets c (take count l)) here ∙ place-none meets new (take count l) (omega (arith, goes, counted)));
+        kept =
+            ap (take (count + 1)) e
+            ∙ ap (λ (n : ℕ). take n (set l count new)) (add-one count)
+            ∙ take-suc-set l count new (omega arith)
+            ∙ sym (ap (λ (c : Corner). place meets c (take count l)) here ∙ place-none meets new (take count l) (omega (arith, goes, counted)));
         rest = ap (drop (i + 1)) e ∙ rest-of count order;
         bound = omega arith;
       }
 
 -- the corners that are left, merged into the kept ones, are what they were
-pub pass-turn : (meets : Corner → Corner → Bool) (i count : ℕ) (before after : List Corner) (count' : ℕ) → i < length before → Stepped meets i count before after count' → mergeFrom meets (take count' after) (drop (i + 1) after) ≡ mergeFrom meets (take count before) (drop i before)
+pub pass-turn :
+    {meets : Corner → Corner → Bool} {i count : ℕ} {before after : List Corner} {count' : ℕ} → i < length before
+    → Stepped meets i count before after count'
+    → mergeFrom meets (take count' after) (drop (i + 1) after) ≡ mergeFrom meets (take count before) (drop i before)
 unfolding mergeFrom
-pass-turn meets i count before after count' h s =
+pass-turn {meets} {i} {count} {before} {after} {count'} h s =
     ap (λ (k : List Corner). mergeFrom meets k (drop (i + 1) after)) (s .kept)
     ∙ ap (mergeFrom meets (place meets (at before i) (take count before))) (s .rest ∙ ap (λ (n : ℕ). drop n before) (add-one i))
     ∙ ap (mergeFrom meets (take count before)) (sym (drop-cons before i nowhere h))
@@ -81,19 +95,23 @@ unfolding mergeFrom
 pass-end meets i count l h = ap (mergeFrom meets (take count l)) (sym (drop-of-length-le l {i = i} h))
 
 -- the kept corners, then zeros
-pub fill-kept : (meets : Corner → Corner → Bool) (list list' list'' : List Float) (count : ℕ) → Passed meets list count list' → length list' ≡ length list → list'' ≡ take (3 * count) list' ++ replicate (length list' - 3 * count) zeroFloat → Filled list (merged meets (cornersOf list)) count list''
-fill-kept meets list list' list'' count p same e =
+pub fill-kept :
+    {meets : Corner → Corner → Bool} {list list' list'' : List Float} {count : ℕ} → Passed meets list count list'
+    → length list' ≡ length list → list'' ≡ take (3 * count) list' ++ replicate (length list' - 3 * count) zeroFloat
+    → Filled list (merged meets (cornersOf list)) count list''
+fill-kept {meets} {list} {list'} {list''} {count} p same e =
     let t = p .there in
     let n : count ≡ length (merged meets (cornersOf list)) = sym (length-take-le count (cornersOf list') (omega (arith, length-corners list'))) ∙ ap length (p .kept) in
     record {
       counts = n;
-      holds = e ∙ ap (λ (l : List Float). l ++ replicate (length list' - 3 * count) zeroFloat) (take-flat list' count (omega arith) ∙ ap flat (p .kept)) ∙ ap (λ (k : ℕ). flat (merged meets (cornersOf list)) ++ replicate (k - 3 * count) zeroFloat) same ∙ ap (λ (k : ℕ). flat (merged meets (cornersOf list)) ++ replicate (length list - 3 * k) zeroFloat) n;
+      holds =
+          e
+          ∙ ap (λ (l : List Float). l ++ replicate (length list' - 3 * count) zeroFloat) (take-flat list' count (omega arith) ∙ ap flat (p .kept))
+          ∙ ap (λ (k : ℕ). flat (merged meets (cornersOf list)) ++ replicate (k - 3 * count) zeroFloat) same
+          ∙ ap (λ (k : ℕ). flat (merged meets (cornersOf list)) ++ replicate (length list - 3 * k) zeroFloat) n;
     }
 
 -- ---- the same, with the floats as they are read
-abbrev read : List Float → ℕ → Float → Corner
-read list i d = corner (getD list (3 * i) d) (getD list (3 * i + 1) d) (getD list (3 * i + 2) d)
-
 module _ (meets : Corner → Corner → Bool) (list : List Float) (i count met : ℕ) (d : Float) (order : count ≤ i) (room : 3 * i + 2 < length list) (found : met ≡ least (λ j. meets (read list i d) (at (cornersOf list) j)) count count) where
   inside : i < length (cornersOf list)
   inside = omega (arith, length-corners list)
@@ -101,7 +119,9 @@ module _ (meets : Corner → Corner → Bool) (list : List Float) (i count met :
   weaker : (b : Bool) → met < count → lt (getD list (3 * met + 2) d) (getD list (3 * i + 2) d) ≡ b → lt (at (cornersOf list) met .strength) (getD list (3 * i + 2) d) ≡ b
   weaker b h e = ap (λ (k : Corner). lt (k .strength) (getD list (3 * i + 2) d)) (corner-at list met d (omega arith)) ∙ e
 
-  pub replaces : met < count → lt (getD list (3 * met + 2) d) (getD list (3 * i + 2) d) ≡ true → (after : List Corner) → after ≡ set (cornersOf list) met (read list i d) → Stepped meets i count (cornersOf list) after count
+  pub replaces :
+      met < count → lt (getD list (3 * met + 2) d) (getD list (3 * i + 2) d) ≡ true → (after : List Corner)
+      → after ≡ set (cornersOf list) met (read list i d) → Stepped meets i count (cornersOf list) after count
   replaces h weak = step-replaces meets (cornersOf list) i count met (read list i d) (corner-at list i d room) order inside found h (weaker true h weak)
 
   pub stays : met < count → lt (getD list (3 * met + 2) d) (getD list (3 * i + 2) d) ≡ false → Stepped meets i count (cornersOf list) (cornersOf list) count

@@ -2,13 +2,12 @@
 -- Each cell's kept corners form a chain from the highest number down: heads holds one more than the cell's highest number, links one more than
 -- the next lower number of the same cell, and 0 ends a chain. So both follow from the cells of the kept corners alone.
 use mathlib.Core.Path.{_≡_}
-use mathlib.Core.Bool.{Bool, true, false, _&&_, cond}
-use mathlib.Core.List.{List, [], _∷_, _++_, map}
-use Prim.Native.Nat.{ℕ, zero, suc, _+_, _-_, _*_, _/_, _%_, _≤_, _<_, min}
+use mathlib.Core.Bool.{Bool, _&&_, cond}
+use mathlib.Core.List.{List, map}
+use Prim.Native.Nat.{ℕ, zero, suc, _+_, _-_, _*_, _/_, _≤_, _<_, min}
 use lib.Dec.{eqb, ltb}
-use lib.IntN.{pos}
 use lib.ListN.{length, getD, set, take, drop}
-use lib.Ieee.{Float, fin, binary32, sub, mul, toUnsigned}
+use lib.Ieee.{Float, binary32, sub, mul, toUnsigned}
 use Rattle.merge.specs.declared.Merge.{Merge}
 use Rattle.merge.specs.declared.Disc.{Disc}
 use Rattle.merge.specs.declared.Cells.{Cells}
@@ -170,9 +169,8 @@ pub record Filled (list : List Float) (kept : List Corner) (count : ℕ) (list' 
   pub counts : count ≡ length kept
   pub holds : list' ≡ filled list kept
 
--- whole corners, few enough, and a link for each
-pub record Whole (list : List Float) (links : List ℕ) : Type 0 where
-  pub triples : length list % 3 ≡ 0
+-- few enough corners, and a link for each
+pub record Few (list : List Float) (links : List ℕ) : Type 0 where
   pub few : length list / 3 ≤ 4096
   pub linked : length list / 3 ≤ length links
 

@@ -3,7 +3,7 @@ use crate::Disc;
 use crate::corners;
 ghost use mathlib.Core.Path.{_≡_};
 ghost use Prim.Native.Nat.{_+_, _*_, _<_, _≤_};
-ghost use lib.ListN.{length, getD, replicate};
+ghost use lib.ListN.{length, replicate};
 ghost use Rattle.merge.specs.Steps.{Falling, Walked, Above, Member, Unlinked, Joinable, Linked, pick};
 
 // Zero in every place.

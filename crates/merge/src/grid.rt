@@ -9,8 +9,9 @@ ghost use Prim.Native.Nat.{ℕ, _+_, _*_, _<_, _≤_, min};
 ghost use lib.ListN.{length, set, replicate};
 ghost use Rattle.merge.specs.Corners.{cornersOf};
 ghost use Rattle.merge.specs.Fold.{merged};
-ghost use Rattle.merge.specs.Steps.{Whole, Roomy, Chains, Chained, Among, Joinable, Linked, total, cellsOf, columnIn, rowIn, cellIn, corner, meetsIn, Stepped, Passed, Filled};
+ghost use Rattle.merge.specs.Steps.{Few, Roomy, Chains, Chained, Among, Joinable, Linked, total, cellsOf, columnIn, rowIn, cellIn, corner, meetsIn, Stepped, Passed, Filled};
 
+// Only the heads of the grid's cells are cleared before, since a link is written before it is read; all of both after.
 pub fn merge(
     corners: &mut [f32],
     r2: f32,
@@ -18,7 +19,7 @@ pub fn merge(
     heads: &mut [u16],
     links: &mut [u16],
 ) -> usize
-    requires { ⌜ Whole (now corners) (now links) ⌝ ∗ ⌜ Roomy cells (now heads) ⌝ }
+    requires { ⌜ Few (now corners) (now links) ⌝ ∗ ⌜ Roomy cells (now heads) ⌝ }
     ensures { λ r. ⌜ Filled (now (corners .entry)) (merged (meetsIn cells r2) (cornersOf (now (corners .entry)))) r (now (corners .exit)) ⌝ }
     ensures { λ _. ⌜ now (heads .exit) ≡ replicate (length (now (heads .entry))) 0 ⌝ }
     ensures { λ _. ⌜ now (links .exit) ≡ replicate (length (now (links .entry))) 0 ⌝ }
@@ -32,8 +33,9 @@ pub fn merge(
     count
 }
 
+// All corners in order. The chains are those of the first `count`, at every turn.
 fn pass(corners: &mut [f32], r2: f32, cells: Cells, heads: &mut [u16], links: &mut [u16]) -> usize
-    requires { ⌜ Whole (now corners) (now links) ⌝ ∗ ⌜ Chained cells (now corners) 0 (now heads) (now links) ⌝ }
+    requires { ⌜ Few (now corners) (now links) ⌝ ∗ ⌜ Chained cells (now corners) 0 (now heads) (now links) ⌝ }
     ensures { λ r. ⌜ Passed (meetsIn cells r2) (now (corners .entry)) r (now (corners .exit)) ⌝ }
 {
     let n = corners.len() / 3;

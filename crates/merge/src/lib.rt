@@ -8,13 +8,12 @@ mod scan;
 mod seek;
 
 ghost use mathlib.Core.Path.{_≡_};
-ghost use mathlib.Core.Bool.{not};
 ghost use lib.Dec.{ltb};
-ghost use Prim.Native.Nat.{_+_, _*_, _<_, _≤_};
+ghost use Prim.Native.Nat.{_+_, _*_, _<_};
 ghost use lib.ListN.{length};
 ghost use Rattle.merge.specs.Corners.{cornersOf};
 ghost use Rattle.merge.specs.Call.{Done, mergingWay};
-ghost use Rattle.merge.specs.Steps.{Whole, Left};
+ghost use Rattle.merge.specs.Steps.{Few, Left};
 
 // How the call ended, by document 01's names.
 pub enum Merge {
@@ -81,9 +80,9 @@ pub fn merge_corners_simple(
     merge_within(corners, radius, heads, links)
 }
 
-// The merge itself: whole corners, few enough, and a radius that merges.
+// The merge itself: few enough corners, and a radius that merges.
 fn merge_within(corners: &mut [f32], radius: f32, heads: &mut [u16], links: &mut [u16]) -> Merge
-    requires { ⌜ Whole (now corners) (now links) ⌝ }
+    requires { ⌜ Few (now corners) (now links) ⌝ }
     ensures { λ r. ⌜ Left (mergingWay (cornersOf (now (corners .entry))) radius (length (now (heads .entry)))) (now (corners .entry)) (now (heads .entry)) (now (links .entry)) r (now (corners .exit)) (now (heads .exit)) (now (links .exit)) ⌝ }
 {
     let e = bounds::of(corners);

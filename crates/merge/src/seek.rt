@@ -1,10 +1,9 @@
-// The kept corners in the 3 by 3 cells round a corner's own. Rows and columns are one more here than elsewhere, so that 0 is the one before the first.
+// The kept corners in the 3 by 3 cells round a corner's own. Whatever the order of the cells, the lowest number is found.
 use crate::Cells;
 use crate::Disc;
 use crate::chains;
 ghost use mathlib.Core.Path.{_≡_};
-ghost use Prim.Native.Nat.{ℕ, _+_, _*_, _<_, _≤_};
-ghost use lib.ListN.{length};
+ghost use Prim.Native.Nat.{ℕ, _+_, _*_, _<_};
 ghost use Rattle.merge.specs.Steps.{least, Chained, SomeChained, inOneCell, inThreeCells, inNineCells};
 
 // The lowest number in the disc, or `count`.
@@ -26,6 +25,7 @@ pub fn lowest(
     row_of_three(corners, heads, links, cells, column, row + 2, disc, b)
 }
 
+// Three cells of a row that is given as one more, so that 0 stands for the one before the first.
 fn row_of_three(
     corners: &[f32],
     heads: &[u16],
@@ -50,6 +50,7 @@ fn row_of_three(
     one_cell(corners, heads, links, cells, column + 2, row - 1, disc, b)
 }
 
+// One cell of a row that is there, in a column that is given as one more.
 fn one_cell(
     corners: &[f32],
     heads: &[u16],

@@ -7,7 +7,7 @@ use Prim.Native.Nat.{ℕ, zero, suc, _+_, _-_, _*_, _/_, _%_, min, _≤_, _<_}
 use native.Mathlib.Nat.{zero-add, le-trans, eq-or-lt-of-le, le-of-suc-le-suc}
 use native.Mathlib.Numerals.{add-one}
 use native.Mathlib.Omega.{arith}
-use lib.Dec.{T, leb, eqb}
+use lib.Dec.{T, leb}
 use lib.IntN.{ℤ, pos, negsuc, natAbs}
 use lib.ListN.{length, getD, length-append, List·getD-append}
 use lib.Seq.{ext-getD, getD-at}
@@ -16,11 +16,11 @@ use borrow.Author.Tests.{le-leb, lt-leb, leb-false, eqb-true, eq-eqb, ne-eqb}
 use Rattle.imageview.specs.Image.{Image, isImage, pixel}
 use Rattle.response.specs.declared.Response.{Response}
 use Rattle.response.specs.declared.Response.the-variants.{Written, BadImage, BadRadius, BadRing, EmptyRoi, BadOut}
-use Rattle.response.specs.Samples.{responseOf}
 use Rattle.response.specs.Region.{Region, clamped, isEmpty, widthOf, heightOf, moved, ringSample, crossSample, ringFits, ringWithin, writtenAt, tabulated, written, zeroFloat}
 use Rattle.response.specs.Call.{Way, refused, wrote, wayOf, answerOf, outAfter, Done}
-use Rattle.response.specs.Steps.{offsetOf, Offsets, crossPairs, startOf, startedAt, shiftedAt, Wrote}
-use Rattle.response.specs.Settled.{sizeFits, Clamped}
+use Rattle.response.specs.Steps.{Wrote}
+use Rattle.response.specs.Starts.{Offsets, startOf, startedAt}
+use Rattle.response.specs.Frame.{shiftedAt, sizeFits, Clamped}
 use Rattle.response.proofs.PixelLaws.{response-cong}
 use Rattle.response.proofs.RingLaws.{inside, all-within}
 

@@ -1,10 +1,10 @@
 -- The region: a row by its starts, the columns and rows where the ring fits, and rows one after the other.
 use mathlib.Core.Path.{_≡_, refl, sym, ap, _∙_, subst}
-use mathlib.Core.Logic.{_⊎_, inl, inr, ⊎-elim}
+use mathlib.Core.Logic.{_⊎_, ⊎-elim}
 use mathlib.Core.Bool.{Bool, true, false, _&&_, cond}
 use mathlib.Core.List.{List, _++_}
-use Prim.Native.Nat.{ℕ, zero, suc, _+_, _-_, _*_, _/_, _%_, _≤_, _<_}
-use native.Mathlib.Nat.{zero-add, zero-mul, mul-le-mul-right, mul-comm, suc-mul, le-trans, add-assoc}
+use Prim.Native.Nat.{ℕ, suc, _+_, _-_, _*_, _/_, _%_, _≤_, _<_}
+use native.Mathlib.Nat.{zero-add, zero-mul, mul-le-mul-right, mul-comm, suc-mul, add-assoc}
 use native.Mathlib.Numerals.{add-one}
 use native.Mathlib.Omega.{arith}
 use lib.Arith.{digits-mod, digits-div}
@@ -13,9 +13,10 @@ use lib.ListN.{length, getD, take, drop, replicate}
 use lib.Ieee.{Float}
 use borrow.Author.Tests.{lt-ltb, le-ltb, le-leb, lt-leb}
 use Rattle.imageview.specs.Image.{Image}
-use Rattle.response.specs.Samples.{responseOf}
 use Rattle.response.specs.Region.{zeroFloat, ringFits}
-use Rattle.response.specs.Steps.{sampleOf, valueAt, Wrote, Reach, Around, startOf, Startable, startedAt, insideAt, shiftedAt, From, To, Framed, Started}
+use Rattle.response.specs.Steps.{Wrote}
+use Rattle.response.specs.Starts.{sampleOf, valueAt, Reach, startOf, Startable, startedAt, Started}
+use Rattle.response.specs.Frame.{insideAt, shiftedAt, From, To, Framed}
 use Rattle.response.proofs.PixelLaws.{response-cong}
 use Rattle.response.proofs.PassLaws.{lt-or-le, wrote-none, wrote-cong, wrote-next, part-count}
 

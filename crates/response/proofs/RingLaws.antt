@@ -6,17 +6,18 @@ use mathlib.Core.List.{List, [], _∷_}
 use Prim.Native.Nat.{ℕ, zero, suc, _+_, _-_, _*_, _^_, _≤_, _<_}
 use native.Mathlib.Nat.{add-comm, add-le-add, mul-le-mul, not-suc-le-zero, le-of-suc-le-suc}
 use native.Mathlib.Omega.{arith}
-use lib.Dec.{T, leb, ltb, leb→le}
+use lib.Dec.{T, leb, leb→le}
 use lib.Ieee.Fits.{and-l, and-r}
-use lib.IntN.{ℤ, pos, negsuc, natAbs, _+ℤ_, subℕ}
+use lib.IntN.{ℤ, pos, negsuc, natAbs, _+ℤ_}
 use lib.Signed.{ltZ}
 use lib.ListN.{length, getD}
-use mir.Syntax.{w8, w32}
+use mir.Syntax.{w32}
 use mir.Val.{SFits, toZ, ofZ}
 use mir.ValLaws.{toZ-ofZ}
 use borrow.Author.Tests.{ltb-true, ltb-false, le-leb, lt-leb, le-ltb, leb-true, leb-false}
 use Rattle.response.specs.Region.{moved, ringWithin}
-use Rattle.response.specs.Steps.{Decides, offsetOf, Offsets, Around, crossPairs}
+use Rattle.response.specs.Steps.{Decides}
+use Rattle.response.specs.Starts.{offsetOf, Offsets, Around, crossPairs}
 use Rattle.response.proofs.PassLaws.{lt-or-le}
 
 no : {A : Type 0} → false ≡ true → A

@@ -1,14 +1,14 @@
 -- A block of pixels: its parts of the image, and its sums after each quarter of the ring.
 use mathlib.Core.Path.{_≡_, refl, sym, ap, _∙_, subst}
 use mathlib.Core.List.{List}
-use Prim.Native.Nat.{ℕ, _+_, _-_, _*_, _≤_, _<_}
+use Prim.Native.Nat.{ℕ, _+_, _-_, _≤_, _<_}
 use native.Mathlib.Nat.{zero-add, add-assoc}
 use native.Mathlib.Omega.{arith}
-use lib.ListN.{length, getD, take, drop, replicate, length-drop, length-replicate, getD-replicate}
+use lib.ListN.{length, getD, take, drop, replicate, length-drop, getD-replicate}
 use lib.Seq.{getD-take, getD-drop, length-take-le}
-use lib.Ieee.{Float}
 use Rattle.response.specs.Samples.{valueOf}
-use Rattle.response.specs.Steps.{listed, squareOf, edgesOf, sumOf, crossOf, Bounded, Added, AddedQuarter, Room, Spare, Wrote, Part, SampledQuarter, SampledCross, sampleOf, valueAt}
+use Rattle.response.specs.Steps.{listed, squareOf, edgesOf, sumOf, crossOf, Added, AddedQuarter, Spare, Wrote}
+use Rattle.response.specs.Starts.{Part, SampledQuarter, SampledCross, sampleOf, valueAt}
 use Rattle.response.proofs.PixelLaws.{four, Quarters, none, more, all}
 use Rattle.response.proofs.PassLaws.{added-cong, wrote-cong}
 

@@ -2,7 +2,8 @@
 ghost use mathlib.Core.Path.{_≡_};
 ghost use Prim.Native.Nat.{_+_, _-_, _*_, _≤_, _<_};
 ghost use lib.ListN.{length, replicate};
-ghost use Rattle.response.specs.Steps.{Decides, offsetOf, Offsets, Around, Wrote, startOf, Startable};
+ghost use Rattle.response.specs.Steps.{Decides, Wrote};
+ghost use Rattle.response.specs.Starts.{offsetOf, Offsets, Around, startOf, Startable};
 
 fn offset_of(z: i32) -> u8
     ensures { λ r. ⌜ r ≡ offsetOf z ⌝ }

@@ -1,10 +1,11 @@
 // The row kernel: blocks of at most 64 pixels that lie side by side. Ring sample k of pixel i is element i of a part of the image.
 ghost use mathlib.Core.Path.{_≡_};
 ghost use Prim.Native.Nat.{_+_, _≤_, _<_};
-ghost use lib.ListN.{length, getD};
+ghost use lib.ListN.{length};
 ghost use Rattle.response.specs.Samples.{valueOf};
 ghost use Rattle.response.specs.Region.{zeroFloat};
-ghost use Rattle.response.specs.Steps.{listed, crossOf, AddedQuarter, Spare, Abreast, Wrote, Reach, Part, SampledQuarter, SampledCross, valueAt};
+ghost use Rattle.response.specs.Steps.{listed, crossOf, AddedQuarter, Spare, Abreast, Wrote};
+ghost use Rattle.response.specs.Starts.{Reach, Part, SampledQuarter, SampledCross, valueAt};
 use crate::pixel;
 
 // Adds one quarter of the ring, its square, its edges and its sum.

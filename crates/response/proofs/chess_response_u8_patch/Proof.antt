@@ -85,7 +85,6 @@ write-clamped-requires c κs =
       width-most = g .width-most;
       height-most = g .height-most;
       count = g .count;
-      radius-least = e .before .if2 .left;
       radius-most = e .if3 .left;
       around = f .before .are-around .ensures .yes (not-false (f .before .are-around .result) (f .if4 .left));
       right = search needs;

@@ -52,7 +52,11 @@ loop-less : tie.Need-loop-less Inv-loop μ-loop
 loop-less c = omega arith
 
 loop-again : tie.Need-loop-again Inv-loop μ-loop
-loop-again c = let i = c .before .before .before .before .loop .i in let s = c .stretched .ensures in box-turn (c .before .before .before .before .before .before .args .corners .now) i nan (asBox (c .before .before .before .before .loop .e)) (asBox (c .stretched .result)) (omega arith) (s .0) (s .1) (s .2) (s .3) ∙ c .before .before .before .before .loop .inv
+loop-again c =
+    let i = c .before .before .before .before .loop .i in
+    let s = c .stretched .ensures in
+    box-turn (c .before .before .before .before .before .before .args .corners .now) i nan (asBox (c .before .before .before .before .loop .e)) (asBox (c .stretched .result)) (omega arith) (s .0) (s .1) (s .2) (s .3)
+    ∙ c .before .before .before .before .loop .inv
 
 returns : tie.Need-returns Inv-loop μ-loop
 returns c = sym (box-end (c .before .before .before .args .corners .now) (c .before .loop .i) (asBox (c .before .loop .e)) (c .loop-test .left)) ∙ c .before .loop .inv

@@ -1,10 +1,11 @@
 -- `merge::chains::above` meets its contract: each number on the way stands in the chain, and the last has no link above j.
-use Rattle.merge.proofs.ChainLaws.{top-hit, top-le, link-on}
-use mathlib.Core.Path.{_≡_, refl, sym, ap, _∙_}
+use mathlib.Core.Path.{_≡_, refl}
 use mathlib.Core.List.{List}
 use Prim.Native.Nat.{ℕ, _-_, _<_}
 use lib.ListN.{length, getD}
 use Rattle.merge.specs.Steps.{Nexts, top}
+use Rattle.merge.proofs.ChainLaws.{top-hit, top-le, link-on}
+use native.Mathlib.Omega.{arith}
 use native.Mathlib.Omega.{arith}
 use Rattle.merge.proofs.chains.above.Statement.{statement}
 use Rattle.merge.proofs.chains.above.Tie as tie
@@ -49,7 +50,17 @@ loop-less : tie.Need-loop-less Inv-loop μ-loop
 loop-less c = let h = c .before .before .before .before .pre .0 .falls (c .before .before .loop .q) (omega arith) (omega arith) in omega arith
 
 loop-again : tie.Need-loop-again Inv-loop μ-loop
-loop-again c = let h = c .before .before .before .before .pre .0 .falls (c .before .before .loop .q) (omega arith) (omega arith) in (omega arith, omega arith, refl, λ most k cs nexts inside e. link-on most k cs (c .before .before .before .before .args .links .now) (c .before .before .loop .q) (c .before .before .loop .next - 1) nexts inside (omega (arith, top-le cs k (length cs))) (c .before .before .loop .inv .3 most k cs nexts inside e) (omega arith))
+loop-again c =
+    let l = c .before .before in
+    let s = l .before .before in
+    let q = l .loop .q in
+    let h = s .pre .0 .falls q (omega arith) (omega arith) in (
+      omega arith,
+      omega arith,
+      refl,
+      λ most k cs nexts inside e.
+          link-on most k cs (s .args .links .now) q (l .loop .next - 1) nexts inside (omega (arith, top-le cs k (length cs))) (l .loop .inv .3 most k cs nexts inside e) (omega arith),
+    )
 
 returns : tie.Need-returns Inv-loop μ-loop
 returns c = record { above = omega arith; below = omega arith; low = omega arith; on = c .before .loop .inv .3 }

@@ -31,7 +31,8 @@ loop-less : tie.Need-loop-less Inv-loop μ-loop
 loop-less c = simp length-set (omega arith)
 
 loop-again : tie.Need-loop-again Inv-loop μ-loop
-loop-again c = (length-set (c .before .loop .s) (c .before .loop .i) 0 ∙ c .before .loop .inv .0, fill-turn 0 (c .before .loop .s) (c .before .loop .i) (c .loop-test .taken) ∙ c .before .loop .inv .1)
+loop-again c =
+    (length-set (c .before .loop .s) (c .before .loop .i) 0 ∙ c .before .loop .inv .0, fill-turn 0 (c .before .loop .s) (c .before .loop .i) (c .loop-test .taken) ∙ c .before .loop .inv .1)
 
 same-length : tie.Need-same-length Inv-loop μ-loop
 same-length c = c .before .loop .inv .0
@@ -53,5 +54,3 @@ clear-spec =
     loop-again
     same-length
     returns)
-
--- x

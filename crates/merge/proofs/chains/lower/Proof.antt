@@ -1,10 +1,8 @@
 -- `merge::chains::lower` meets its contract: both tests decide the choice.
-use mathlib.Core.Path.{_≡_, sym, ap, _∙_}
-use mathlib.Core.Bool.{Bool, true, false, _&&_, cond}
-use Prim.Native.Nat.{ℕ}
+use mathlib.Core.Path.{sym, _∙_}
 use lib.Dec.{ltb}
 use borrow.Author.Tests.{lt-ltb, le-ltb}
-use Rattle.merge.specs.Steps.{within, pick}
+use Rattle.merge.specs.Steps.{within}
 use Rattle.merge.proofs.LeastLaws.{pick-both, pick-first, pick-second}
 use borrow.Author.Needs.{needs}
 use Rattle.merge.proofs.chains.lower.Statement.{statement}
@@ -14,13 +12,19 @@ near-requires : tie.Need-near-requires
 near-requires c κs = search needs
 
 returns : tie.Need-returns
-returns c = let a = c .before .before .before .before .args in pick-both (within (a .disc) (a .corners .now) (a .j)) (ltb (a .j) (a .best)) (a .j) (a .best) (sym (c .before .near .ensures) ∙ c .if2 .taken) (lt-ltb (a .j) (a .best) (c .before .before .if1 .taken))
+returns c =
+    let a = c .before .before .before .before .args in
+    pick-both (within (a .disc) (a .corners .now) (a .j)) (ltb (a .j) (a .best)) (a .j) (a .best) (sym (c .before .near .ensures) ∙ c .if2 .taken) (lt-ltb (a .j) (a .best) (c .before .before .if1 .taken))
 
 returns-2 : tie.Need-returns-2
-returns-2 c = let a = c .before .before .before .before .args in pick-first (within (a .disc) (a .corners .now) (a .j)) (ltb (a .j) (a .best)) (a .j) (a .best) (sym (c .before .near .ensures) ∙ c .if2 .left)
+returns-2 c =
+    let a = c .before .before .before .before .args in
+    pick-first (within (a .disc) (a .corners .now) (a .j)) (ltb (a .j) (a .best)) (a .j) (a .best) (sym (c .before .near .ensures) ∙ c .if2 .left)
 
 returns-3 : tie.Need-returns-3
-returns-3 c = let a = c .before .before .args in pick-second (within (a .disc) (a .corners .now) (a .j)) (ltb (a .j) (a .best)) (a .j) (a .best) (le-ltb (a .j) (a .best) (c .if1 .left))
+returns-3 c =
+    let a = c .before .before .args in
+    pick-second (within (a .disc) (a .corners .now) (a .j)) (ltb (a .j) (a .best)) (a .j) (a .best) (le-ltb (a .j) (a .best) (c .if1 .left))
 
 pub lower-spec : {M : Type 1} → statement M
 lower-spec = tie.close (tie.spec near-requires returns returns-2 returns-3)

@@ -1,5 +1,5 @@
 -- `merge::chains::walk` meets its contract: the chain from `p` on finds what the whole chain would.
-use mathlib.Core.Path.{_≡_, sym, ap, _∙_}
+use mathlib.Core.Path.{_≡_, ap, _∙_}
 use mathlib.Core.List.{List}
 use Prim.Native.Nat.{ℕ, _-_, _≤_, _<_}
 use native.Mathlib.Nat.{le-refl}
@@ -7,17 +7,23 @@ use lib.ListN.{length, getD}
 use Rattle.merge.specs.Steps.{Nexts, least, top, inCell, within}
 use Rattle.merge.proofs.ChainLaws.{top-le, walk-start, walk-turn, walk-end}
 use native.Mathlib.Omega.{arith}
+use native.Mathlib.Omega.{arith}
 use Rattle.merge.proofs.chains.walk.Statement.{statement}
 use Rattle.merge.proofs.chains.walk.Tie as tie
 
 abbrev Inv-loop : tie.InvT-loop
-Inv-loop corners links from disc best p₀ found₀ p found = (p ≤ from) × ((most c : ℕ) (cs : List ℕ) → Nexts most cs links → c < most → from ≡ top cs c (length cs) → (p ≡ top cs c p) × (least (inCell cs c (within disc corners)) p found ≡ least (inCell cs c (within disc corners)) (length cs) best))
+Inv-loop corners links from disc best p₀ found₀ p found =
+    (p ≤ from)
+    × ((most c : ℕ) (cs : List ℕ) → Nexts most cs links → c < most → from ≡ top cs c (length cs)
+    → (p ≡ top cs c p) × (least (inCell cs c (within disc corners)) p found ≡ least (inCell cs c (within disc corners)) (length cs) best))
 
 abbrev μ-loop : tie.MeasureT-loop
 μ-loop corners links from disc best p₀ found₀ p found = p
 
 loop-holds : tie.Need-loop-holds Inv-loop μ-loop
-loop-holds c = (le-refl _, λ most k cs nexts inside e. walk-start cs k (within (c .before .before .args .disc) (c .before .before .args .corners .now)) (length cs) (c .before .before .args .from) (c .before .before .args .best) e)
+loop-holds c =
+    let a = c .before .before .args in
+    (le-refl (a .from), λ most k cs nexts inside e. walk-start cs k (within (a .disc) (a .corners .now)) (length cs) (a .from) (a .best) e)
 
 sub-lower : tie.Need-sub-lower Inv-loop μ-loop
 sub-lower c = omega arith
@@ -38,13 +44,32 @@ cast-p : tie.Need-cast-p Inv-loop μ-loop
 cast-p c = omega (arith, c .shared-slice-known3 .given (c .before .before .before .loop .p - 1))
 
 loop-less : tie.Need-loop-less Inv-loop μ-loop
-loop-less c = let h = c .before .before .before .before .before .before .pre .0 .falls (c .before .before .before .loop .p - 1) (omega arith) (omega arith) in omega arith
+loop-less c =
+    let l = c .before .before .before in
+    let s = l .before .before .before in
+    let h = s .pre .0 .falls (l .loop .p - 1) (omega arith) (omega arith) in
+    omega arith
 
 loop-again : tie.Need-loop-again Inv-loop μ-loop
-loop-again c = let a = c .before .before .before .before .before .before .args in let p = c .before .before .before .loop .p in let h : getD (a .links .now) (p - 1) 0 ≤ p - 1 = c .before .before .before .before .before .before .pre .0 .falls (p - 1) (omega arith) (omega arith) in (omega arith, λ most k cs nexts inside e. let i = c .before .before .before .loop .inv .1 most k cs nexts inside e in let t = walk-turn most k cs (a .links .now) (within (a .disc) (a .corners .now)) (p - 1) p (c .before .before .before .loop .found) nexts inside (omega arith) (i .0) (omega (arith, top-le cs k (length cs))) in (t .0, ap (λ (b : ℕ). least (inCell cs k (within (a .disc) (a .corners .now))) (getD (a .links .now) (p - 1) 0) b) (c .before .lower .ensures) ∙ t .1 ∙ i .1))
+loop-again c =
+    let l = c .before .before .before in
+    let s = l .before .before .before in
+    let a = s .args in
+    let p = l .loop .p in
+    let h : getD (a .links .now) (p - 1) 0 ≤ p - 1 = s .pre .0 .falls (p - 1) (omega arith) (omega arith) in (
+      omega arith,
+      λ most k cs nexts inside e.
+          let i = l .loop .inv .1 most k cs nexts inside e in
+          let t = walk-turn most k cs (a .links .now) (within (a .disc) (a .corners .now)) (p - 1) p (l .loop .found) nexts inside (omega arith) (i .0) (omega (arith, top-le cs k (length cs))) in
+          (t .0, ap (λ (b : ℕ). least (inCell cs k (within (a .disc) (a .corners .now))) (getD (a .links .now) (p - 1) 0) b) (c .before .lower .ensures) ∙ t .1 ∙ i .1),
+    )
 
 returns : tie.Need-returns Inv-loop μ-loop
-returns c = λ most k cs nexts inside e. walk-end (inCell cs k (within (c .before .before .before .before .args .disc) (c .before .before .before .before .args .corners .now))) (c .before .loop .p) (c .before .loop .found) (c .loop-test .left) ∙ c .before .loop .inv .1 most k cs nexts inside e .1
+returns c =
+    λ most k cs nexts inside e.
+    let l = c .before .loop in
+    let a = c .before .before .before .before .args in
+    walk-end (inCell cs k (within (a .disc) (a .corners .now))) (l .p) (l .found) (c .loop-test .left) ∙ l .inv .1 most k cs nexts inside e .1
 
 pub walk-spec : {M : Type 1} → statement M
 walk-spec =

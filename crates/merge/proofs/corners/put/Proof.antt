@@ -1,43 +1,43 @@
 -- `merge::corners::put` meets its contract: three stores are one of a corner.
 use Rattle.merge.proofs.FlatLaws.{put-corner}
-use lib.ListN.{length, getD, set, take, replicate, length-set}
+use lib.ListN.{length-set}
 use native.Mathlib.Omega.{arith}
 use borrow.Author.Needs.{needs}
 use Rattle.merge.proofs.corners.put.Statement.{statement}
 use Rattle.merge.proofs.corners.put.Tie as tie
 
 mul-corners : tie.Need-mul-corners
-mul-corners c = search needs
+mul-corners c = omega arith
 
 mul-corners-2 : tie.Need-mul-corners-2
-mul-corners-2 c = search needs
+mul-corners-2 c = omega arith
 
 slice-write-corners : tie.Need-slice-write-corners
-slice-write-corners c = search needs
+slice-write-corners c = omega arith
 
 mul-corners-3 : tie.Need-mul-corners-3
-mul-corners-3 c = search needs
+mul-corners-3 c = omega arith
 
 add-corners : tie.Need-add-corners
-add-corners c = search needs
+add-corners c = omega arith
 
 mul-corners-4 : tie.Need-mul-corners-4
-mul-corners-4 c = search needs
+mul-corners-4 c = omega arith
 
 slice-write-corners-2 : tie.Need-slice-write-corners-2
 slice-write-corners-2 c = simp length-set (omega arith)
 
 mul-corners-5 : tie.Need-mul-corners-5
-mul-corners-5 c = search needs
+mul-corners-5 c = omega arith
 
 add-corners-2 : tie.Need-add-corners-2
-add-corners-2 c = search needs
+add-corners-2 c = omega arith
 
 mul-corners-6 : tie.Need-mul-corners-6
-mul-corners-6 c = search needs
+mul-corners-6 c = omega arith
 
 slice-write-corners-3 : tie.Need-slice-write-corners-3
-slice-write-corners-3 c = search needs
+slice-write-corners-3 c = simp length-set (omega arith)
 
 same-length : tie.Need-same-length
 same-length c = search needs

@@ -1,5 +1,5 @@
 -- `merge::corners::zero_from` meets its contract: filled from `i` on, the list is what it is to be.
-use mathlib.Core.Path.{_≡_, refl, sym, ap, _∙_}
+use mathlib.Core.Path.{_≡_, refl, sym, _∙_}
 use mathlib.Core.List.{_++_}
 use Prim.Native.Nat.{_-_}
 use lib.Ieee.{ofBits}
@@ -33,7 +33,8 @@ loop-less c = simp length-set (omega arith)
 
 loop-again : tie.Need-loop-again Inv-loop μ-loop
 unfolding ofBits
-loop-again c = (length-set (c .before .loop .corners) (c .before .loop .i) zeroFloat ∙ c .before .loop .inv .0, fill-turn zeroFloat (c .before .loop .corners) (c .before .loop .i) (c .loop-test .taken) ∙ c .before .loop .inv .1)
+loop-again c =
+    (length-set (c .before .loop .corners) (c .before .loop .i) zeroFloat ∙ c .before .loop .inv .0, fill-turn zeroFloat (c .before .loop .corners) (c .before .loop .i) (c .loop-test .taken) ∙ c .before .loop .inv .1)
 
 same-length : tie.Need-same-length Inv-loop μ-loop
 same-length c = c .before .loop .inv .0

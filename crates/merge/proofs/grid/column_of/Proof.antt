@@ -3,6 +3,7 @@ use mathlib.Core.Path.{ap, _∙_}
 use Prim.Native.Nat.{ℕ, _-_, min}
 use Rattle.merge.specs.Steps.{columnIn}
 use borrow.Author.Needs.{needs}
+use native.Mathlib.Omega.{arith}
 use Rattle.merge.proofs.grid.column_of.Statement.{statement}
 use Rattle.merge.proofs.grid.column_of.Tie as tie
 
@@ -10,7 +11,7 @@ f32-to-usize-requires : tie.Need-f32-to-usize-requires
 f32-to-usize-requires c κs = search needs
 
 sub-lesser : tie.Need-sub-lesser
-sub-lesser c = search needs
+sub-lesser c = omega arith
 
 lesser-requires : tie.Need-lesser-requires
 lesser-requires c κs = search needs

@@ -19,7 +19,9 @@ abbrev μ-loop : tie.MeasureT-loop
 μ-loop corners₀ r2 cells heads₀ links₀ n count₀ i₀ corners heads links count i = n - i
 
 loop-holds : tie.Need-loop-holds Inv-loop μ-loop
-loop-holds c = let a = c .before .before .before .args in (le-refl 0, omega arith, refl, refl, refl, c .before .before .before .pre .1, pass-start (meetsIn (a .cells) (a .r2)) (cornersOf (a .corners .now)))
+loop-holds c =
+    let a = c .before .before .before .args in
+    (le-refl 0, omega arith, refl, refl, refl, c .before .before .before .pre .1, pass-start (meetsIn (a .cells) (a .r2)) (cornersOf (a .corners .now)))
 
 step-requires : tie.Need-step-requires Inv-loop μ-loop
 step-requires c κs = let l = c .before .before .before .before .loop in (l .inv .5, (omega arith, omega arith, omega arith, omega arith))
@@ -31,7 +33,12 @@ loop-less : tie.Need-loop-less Inv-loop μ-loop
 loop-less c = omega arith
 
 loop-again : tie.Need-loop-again Inv-loop μ-loop
-loop-again c = let a = c .before .before .before .before .before .before .before .before .before .before .before .before .before .before .before .args in let l = c .before .before .before .before .before .before .before .before .before .before .before .loop in let s = c .before .before .before .before .before .before .step in (s .ensures .0 .bound, omega arith, s .kept .0 ∙ l .inv .2, s .kept .1 .1 .1 .1 .1 .0 ∙ l .inv .3, s .kept .1 .1 .1 .1 .1 .1 .0 ∙ l .inv .4, s .ensures .1, pass-turn (meetsIn (a .cells) (a .r2)) (l .i) (l .count) (cornersOf (l .corners)) (cornersOf (s .last .0)) (s .result) (omega (arith, length-corners (l .corners))) (s .ensures .0) ∙ l .inv .6)
+loop-again c =
+    let t = c .before .before .before .before .before .before .step in
+    let l = c .before .before .before .before .before .before .before .before .before .before .before .loop in
+    let i = l .inv in
+    let turned = pass-turn (omega (arith, length-corners (l .corners))) (t .ensures .0) in
+    (t .ensures .0 .bound, omega arith, t .kept .0 ∙ i .2, t .kept .1 .1 .1 .1 .1 .0 ∙ i .3, t .kept .1 .1 .1 .1 .1 .1 .0 ∙ i .4, t .ensures .1, turned ∙ i .6)
 
 same-length : tie.Need-same-length Inv-loop μ-loop
 same-length c = c .before .loop .inv .2
@@ -43,7 +50,10 @@ same-length-3 : tie.Need-same-length-3 Inv-loop μ-loop
 same-length-3 c = c .before .loop .inv .4
 
 returns : tie.Need-returns Inv-loop μ-loop
-returns c = let a = c .before .before .before .before .before .args in let l = c .before .loop in record { kept = pass-end (meetsIn (a .cells) (a .r2)) (l .i) (l .count) (cornersOf (l .corners)) (omega (arith, length-corners (l .corners))) ∙ l .inv .6; there = omega arith }
+returns c =
+    let l = c .before .loop in
+    let a = c .before .before .before .before .before .args in
+    record { kept = pass-end (meetsIn (a .cells) (a .r2)) (l .i) (l .count) (cornersOf (l .corners)) (omega (arith, length-corners (l .corners))) ∙ l .inv .6; there = omega arith }
 
 pub pass-spec : {M : Type 1} → statement M
 pass-spec =

@@ -1,10 +1,11 @@
 -- `merge::scan::first_near` meets its contract: none of the corners passed lies in the disc.
 use mathlib.Core.Path.{_≡_, sym, _∙_}
-use mathlib.Core.Bool.{Bool, false}
+use mathlib.Core.Bool.{false}
 use Prim.Native.Nat.{ℕ, _-_, _<_}
 use borrow.Author.Count.{below-none, below-more}
 use Rattle.merge.specs.Steps.{within}
 use Rattle.merge.proofs.LeastLaws.{first-found, none-found}
+use native.Mathlib.Omega.{arith}
 use native.Mathlib.Omega.{arith}
 use Rattle.merge.proofs.scan.first_near.Statement.{statement}
 use Rattle.merge.proofs.scan.first_near.Tie as tie
@@ -22,7 +23,12 @@ near-requires : tie.Need-near-requires Inv-loop μ-loop
 near-requires c κs = omega arith
 
 returns : tie.Need-returns Inv-loop μ-loop
-returns c = first-found (within (c .before .before .before .before .before .args .disc) (c .before .before .before .before .before .args .corners .now)) (c .before .before .before .before .before .args .count) (c .before .before .before .loop .j) (c .before .before .loop-test .taken) (c .before .before .before .loop .inv) (sym (c .before .near .ensures) ∙ c .if1 .taken)
+returns c =
+    let t = c .before .before in
+    let l = t .before in
+    let s = l .before .before in
+    let a = s .args in
+    first-found (within (a .disc) (a .corners .now)) (a .count) (l .loop .j) (t .loop-test .taken) (l .loop .inv) (sym (c .before .near .ensures) ∙ c .if1 .taken)
 
 add-j : tie.Need-add-j Inv-loop μ-loop
 add-j c = omega arith
@@ -31,10 +37,15 @@ loop-less : tie.Need-loop-less Inv-loop μ-loop
 loop-less c = omega arith
 
 loop-again : tie.Need-loop-again Inv-loop μ-loop
-loop-again c = below-more (λ k. within (c .before .before .before .before .before .args .disc) (c .before .before .before .before .before .args .corners .now) k ≡ false) (c .before .before .before .loop .j) (c .before .before .before .loop .inv) (sym (c .before .near .ensures) ∙ c .if1 .left)
+loop-again c =
+    let l = c .before .before .before in
+    let s = l .before .before in
+    let a = s .args in
+    below-more (λ k. within (a .disc) (a .corners .now) k ≡ false) (l .loop .j) (l .loop .inv) (sym (c .before .near .ensures) ∙ c .if1 .left)
 
 returns-2 : tie.Need-returns-2 Inv-loop μ-loop
-returns-2 c = none-found (within (c .before .before .before .args .disc) (c .before .before .before .args .corners .now)) (c .before .before .before .args .count) (c .before .loop .j) (c .loop-test .left) (c .before .loop .inv)
+returns-2 c =
+    none-found (within (c .before .before .before .args .disc) (c .before .before .before .args .corners .now)) (c .before .before .before .args .count) (c .before .loop .j) (c .loop-test .left) (c .before .loop .inv)
 
 pub first-near-spec : {M : Type 1} → statement M
 first-near-spec =

@@ -31,13 +31,20 @@ loop-less : tie.Need-loop-less Inv-loop μ-loop
 loop-less c = omega arith
 
 loop-again : tie.Need-loop-again Inv-loop μ-loop
-loop-again c = let l = c .before .before .before .before .before .loop in (c .before .before .step .ensures .bound, omega arith, c .before .before .step .kept .0 ∙ l .inv .2, pass-turn (plainMeets (c .before .before .before .before .before .before .before .args .r2)) (l .i) (l .count) (cornersOf (l .corners)) (cornersOf (c .before .before .step .last .0)) (c .before .before .step .result) (omega (arith, length-corners (l .corners))) (c .before .before .step .ensures) ∙ l .inv .3)
+loop-again c =
+    let t = c .before .before in
+    let l = t .before .before .before in
+    let i = l .loop .inv in
+    (t .step .ensures .bound, omega arith, t .step .kept .0 ∙ i .2, pass-turn (omega (arith, length-corners (l .loop .corners))) (t .step .ensures) ∙ i .3)
 
 same-length : tie.Need-same-length Inv-loop μ-loop
 same-length c = c .before .loop .inv .2
 
 returns : tie.Need-returns Inv-loop μ-loop
-returns c = let l = c .before .loop in record { kept = pass-end (plainMeets (c .before .before .before .args .r2)) (l .i) (l .count) (cornersOf (l .corners)) (omega (arith, length-corners (l .corners))) ∙ l .inv .3; there = omega arith }
+returns c =
+    let l = c .before .loop in
+    let a = c .before .before .before .args in
+    record { kept = pass-end (plainMeets (a .r2)) (l .i) (l .count) (cornersOf (l .corners)) (omega (arith, length-corners (l .corners))) ∙ l .inv .3; there = omega arith }
 
 pub pass-spec : {M : Type 1} → statement M
 pass-spec =

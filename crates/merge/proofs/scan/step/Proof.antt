@@ -5,56 +5,57 @@ use Rattle.merge.specs.Meets.{near, plainMeets}
 use Rattle.merge.specs.Steps.{within}
 use Rattle.merge.proofs.StepLaws.{replaces, stays, adds}
 use borrow.Author.Needs.{needs}
+use native.Mathlib.Omega.{arith}
 use Rattle.merge.proofs.scan.step.Statement.{statement}
 use Rattle.merge.proofs.scan.step.Tie as tie
 
 mul-x : tie.Need-mul-x
-mul-x c = search needs
+mul-x c = omega arith
 
 mul-x-2 : tie.Need-mul-x-2
-mul-x-2 c = search needs
+mul-x-2 c = omega arith
 
 slice-read-x : tie.Need-slice-read-x
-slice-read-x c = search needs
+slice-read-x c = omega arith
 
 mul-y : tie.Need-mul-y
-mul-y c = search needs
+mul-y c = omega arith
 
 add-y : tie.Need-add-y
-add-y c = search needs
+add-y c = omega arith
 
 mul-y-2 : tie.Need-mul-y-2
-mul-y-2 c = search needs
+mul-y-2 c = omega arith
 
 slice-read-y : tie.Need-slice-read-y
-slice-read-y c = search needs
+slice-read-y c = omega arith
 
 mul-strength : tie.Need-mul-strength
-mul-strength c = search needs
+mul-strength c = omega arith
 
 add-strength : tie.Need-add-strength
-add-strength c = search needs
+add-strength c = omega arith
 
 mul-strength-2 : tie.Need-mul-strength-2
-mul-strength-2 c = search needs
+mul-strength-2 c = omega arith
 
 slice-read-strength : tie.Need-slice-read-strength
-slice-read-strength c = search needs
+slice-read-strength c = omega arith
 
 first-near-requires : tie.Need-first-near-requires
 first-near-requires c κs = search needs
 
 mul-if2 : tie.Need-mul-if2
-mul-if2 c = search needs
+mul-if2 c = omega arith
 
 add-if2 : tie.Need-add-if2
-add-if2 c = search needs
+add-if2 c = omega arith
 
 mul-if2-2 : tie.Need-mul-if2-2
-mul-if2-2 c = search needs
+mul-if2-2 c = omega arith
 
 slice-read-if2 : tie.Need-slice-read-if2
-slice-read-if2 c = search needs
+slice-read-if2 c = omega arith
 
 put-requires : tie.Need-put-requires
 put-requires c κs = search needs
@@ -64,27 +65,48 @@ same-length c = search needs
 
 returns : tie.Need-returns
 unfolding near within
-returns c = let a = c .before .before .before .before .before .before .before .before .before .before .before .before .before .args in let p = c .before .before .before .before .before .before .before .before .before .before .before .before .before .pre in replaces (plainMeets (a .r2)) (a .corners .now) (a .i) (a .count) (c .before .before .before .before .before .before .before .first-near .result) nan (p .0) (p .1) (c .before .before .before .before .before .before .before .first-near .ensures) (c .before .before .before .before .before .before .if1 .taken) (c .before .before .before .before .if2 .taken) (cornersOf (c .before .before .put .last .0)) (c .before .before .put .ensures)
+returns c =
+    let p = c .before .before in
+    let t = p .before .before in
+    let m = t .before .before in
+    let f = m .before in
+    let s = f .before .before .before .before .before .before in
+    let a = s .args in
+    replaces (plainMeets (a .r2)) (a .corners .now) (a .i) (a .count) (f .first-near .result) nan (s .pre .0) (s .pre .1) (f .first-near .ensures)
+    (m .if1 .taken) (t .if2 .taken) (cornersOf (p .put .last .0)) (p .put .ensures)
 
 same-length-2 : tie.Need-same-length-2
 same-length-2 c = search needs
 
 returns-2 : tie.Need-returns-2
 unfolding near within
-returns-2 c = let a = c .before .before .before .before .before .before .before .before .before .args in let p = c .before .before .before .before .before .before .before .before .before .pre in stays (plainMeets (a .r2)) (a .corners .now) (a .i) (a .count) (c .before .before .before .first-near .result) nan (p .0) (p .1) (c .before .before .before .first-near .ensures) (c .before .before .if1 .taken) (c .if2 .left)
+returns-2 c =
+    let m = c .before .before in
+    let f = m .before in
+    let s = f .before .before .before .before .before .before in
+    let a = s .args in
+    stays (plainMeets (a .r2)) (a .corners .now) (a .i) (a .count) (f .first-near .result) nan (s .pre .0) (s .pre .1) (f .first-near .ensures)
+    (m .if1 .taken) (c .if2 .left)
 
 put-requires-2 : tie.Need-put-requires-2
 put-requires-2 c κs = search needs
 
 add-result : tie.Need-add-result
-add-result c = search needs
+add-result c = omega arith
 
 same-length-3 : tie.Need-same-length-3
 same-length-3 c = search needs
 
 returns-3 : tie.Need-returns-3
 unfolding near within
-returns-3 c = let a = c .before .before .before .before .before .before .before .before .before .before .before .args in let p = c .before .before .before .before .before .before .before .before .before .before .before .pre in adds (plainMeets (a .r2)) (a .corners .now) (a .i) (a .count) (c .before .before .before .before .before .first-near .result) nan (p .0) (p .1) (c .before .before .before .before .before .first-near .ensures) (c .before .before .before .before .if1 .left) (cornersOf (c .before .before .put2 .last .0)) (c .before .before .put2 .ensures)
+returns-3 c =
+    let p = c .before .before in
+    let m = p .before .before in
+    let f = m .before in
+    let s = f .before .before .before .before .before .before in
+    let a = s .args in
+    adds (plainMeets (a .r2)) (a .corners .now) (a .i) (a .count) (f .first-near .result) nan (s .pre .0) (s .pre .1) (f .first-near .ensures)
+    (m .if1 .left) (cornersOf (p .put2 .last .0)) (p .put2 .ensures)
 
 pub step-spec : {M : Type 1} → statement M
 step-spec =

@@ -1,8 +1,8 @@
 -- `response::region::region_row` meets its contract: one law for each way out.
-use Prim.Native.Nat.{ℕ, _+_, _<_}
+use Prim.Native.Nat.{_+_}
 use lib.ListN.{length}
 use Rattle.response.specs.Region.{zeroFloat}
-use Rattle.response.specs.Steps.{shiftedAt}
+use Rattle.response.specs.Frame.{shiftedAt}
 use Rattle.response.proofs.PassLaws.{wrote-cong}
 use Rattle.response.proofs.RegionLaws.{row-above, row-below, row-narrow, row-is, startable, started-all}
 use borrow.Author.Needs.{needs}

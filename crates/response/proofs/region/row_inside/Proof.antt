@@ -4,7 +4,7 @@ use Rattle.response.specs.Region.{zeroFloat}
 use Rattle.response.proofs.PassLaws.{part-count}
 use Rattle.response.proofs.RegionLaws.{reaches, row-left, row-middle, row-right}
 use mathlib.Core.Path.{sym, subst}
-use Rattle.response.specs.Steps.{Started}
+use Rattle.response.specs.Starts.{Started}
 use borrow.Author.Needs.{needs}
 use native.Mathlib.Omega.{arith}
 use Rattle.response.proofs.region.row_inside.Statement.{statement}

@@ -55,7 +55,7 @@ write-region-requires : tie.Need-write-region-requires
 write-region-requires c κs =
     let g = c .before .before .before .before .before .before .before .before .before .before .pre in
     let k = cornered (c .before .before) in (
-      record { width-most = g .width-most; height-most = g .height-most; count = g .count; radius-least = g .radius-least; radius-most = g .radius-most; around = g .around; right = columns k },
+      record { width-most = g .width-most; height-most = g .height-most; count = g .count; radius-most = g .radius-most; around = g .around; right = columns k },
       (lines k, c .before .if1 .left),
     )
 

@@ -1,5 +1,4 @@
 -- `response::ring::are_around` meets its contract. The first k offsets are around 10.
-use mathlib.Core.Path.{refl}
 use Prim.Native.Nat.{ℕ, _+_, _-_, _≤_, _<_}
 use borrow.Author.Count.{below-more}
 use borrow.Author.Tests.{not-true, not-false}

@@ -1,7 +1,6 @@
 -- `response::ring::offset_of` meets its contract. A signed local holds bits, from which the machine reads the component back.
 use mathlib.Core.Path.{_≡_, ap, sym, subst}
 use mathlib.Core.Bool.{true}
-use Prim.Native.Nat.{ℕ}
 use lib.Dec.{T}
 use lib.IntN.{ℤ, pos, negsuc, natAbs}
 use lib.Signed.{ltZ, nonNeg}

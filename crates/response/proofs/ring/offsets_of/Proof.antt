@@ -1,5 +1,5 @@
 -- `response::ring::offsets_of` meets its contract. The first k offsets are those of the ring; past 32 stand those of the cross.
-use mathlib.Core.Path.{_≡_, _∙_, sym, ap}
+use mathlib.Core.Path.{_∙_, sym, ap}
 use Prim.Native.Nat.{ℕ, _+_, _-_, _≤_}
 use native.Mathlib.Nat.{zero-add}
 use lib.Dec.{lit<}
@@ -9,7 +9,8 @@ use lib.Seq.{getD-drop}
 use mathlib.Core.List.{_++_}
 use mir.Syntax.{w32}
 use mir.ValLaws.{toZ-ofZ}
-use Rattle.response.specs.Steps.{offsetOf, Wrote, crossPairs}
+use Rattle.response.specs.Steps.{Wrote}
+use Rattle.response.specs.Starts.{offsetOf, crossPairs}
 use Rattle.response.proofs.PassLaws.{wrote-none, wrote-more}
 use native.Mathlib.Omega.{arith}
 use Rattle.response.proofs.ring.offsets_of.Statement.{statement}

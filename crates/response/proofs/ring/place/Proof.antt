@@ -1,5 +1,4 @@
 -- `response::ring::place` meets its contract: the sizes are too small to wrap.
-use lib.Dec.{lit≤}
 use native.Mathlib.Nat.{mul-le-mul}
 use mir.Facts.{fits-le, fits-lit}
 use Rattle.response.proofs.RingLaws.{place-most}

@@ -1,8 +1,9 @@
 -- `response::ring::starts_of` meets its contract. The first k starts are written.
-use mathlib.Core.Path.{_≡_, _∙_, sym, ap, subst}
+use mathlib.Core.Path.{_≡_, _∙_, ap, subst}
 use Prim.Native.Nat.{ℕ, _+_, _-_, _*_, _≤_}
 use lib.ListN.{getD, replicate}
-use Rattle.response.specs.Steps.{startOf, Wrote}
+use Rattle.response.specs.Steps.{Wrote}
+use Rattle.response.specs.Starts.{startOf}
 use Rattle.response.proofs.PassLaws.{wrote-none, wrote-more}
 use native.Mathlib.Omega.{arith}
 use Rattle.response.proofs.ring.starts_of.Statement.{statement}

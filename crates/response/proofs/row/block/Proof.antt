@@ -1,10 +1,8 @@
 -- `response::row::block` meets its contract. After k turns the sums have the first k quarters.
-use mathlib.Core.Path.{_≡_, refl, sym, subst, _∙_}
-use Prim.Native.Nat.{ℕ, _+_, _-_, _≤_}
+use Prim.Native.Nat.{_+_, _-_, _≤_}
 use lib.ListN.{length}
-use Rattle.response.specs.Samples.{valueOf}
 use Rattle.response.specs.Region.{zeroFloat}
-use Rattle.response.specs.Steps.{listed, valueAt}
+use Rattle.response.specs.Starts.{valueAt}
 use Rattle.response.proofs.PassLaws.{wrote-cong}
 use Rattle.response.proofs.RowLaws.{Sums, sums-none, sums-more, sums-all, spare}
 use native.Mathlib.Omega.{arith}

@@ -1,9 +1,10 @@
 -- `response::row::write_row` meets its contract. The pixels before `at` are written.
 use mathlib.Core.Path.{_≡_, refl, subst}
-use Prim.Native.Nat.{ℕ, _+_, _-_, _≤_}
+use Prim.Native.Nat.{ℕ, _-_, _≤_}
 use lib.ListN.{length}
 use Rattle.response.specs.Region.{zeroFloat}
-use Rattle.response.specs.Steps.{valueAt, Wrote}
+use Rattle.response.specs.Steps.{Wrote}
+use Rattle.response.specs.Starts.{valueAt}
 use Rattle.response.proofs.PassLaws.{wrote-none, wrote-next, part-count}
 use native.Mathlib.Omega.{arith}
 use Rattle.response.proofs.row.write_row.Statement.{statement}
