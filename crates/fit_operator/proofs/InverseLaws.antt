@@ -5,7 +5,8 @@ use mathlib.Core.List.{List}
 use Prim.Native.Nat.{ℕ, suc, _+_, _-_, _*_, _/_, _%_, _≤_, _<_}
 use native.Mathlib.Nat.{sub-eq-zero-of-le}
 use native.Mathlib.Omega.{arith}
-use lib.Dec.{eqb}
+use lib.Dec.{eqb, ltb}
+use lib.ListN.{length}
 use lib.Ieee.{Float, binary64, add, sub, mul, div, lt}
 use borrow.Author.Tests.{eq-eqb, ne-eqb, lt-ltb, le-ltb}
 use Rattle.floats.specs.Magnitude.{magnitude}
@@ -13,9 +14,8 @@ use Rattle.floats.specs.TotalOrder.{totalCmp}
 use Rattle.floats.specs.declared.Order.{Order}
 use Rattle.fit_operator.specs.Loops.{turns, at, plusZero, one}
 use Rattle.fit_operator.specs.Basis.{samples, phi}
-use Rattle.fit_operator.specs.Inverse.{normalEntry, better, pivotFrom, pivotOf, exchanged, swapped, scaled, cleared, least, singular, reduced, reduceFrom}
-use Rattle.fit_operator.specs.Steps.{productTerm, normalAt, scaledAt, clearedAt}
-use Rattle.fit_operator.proofs.ListLaws.{turns-more}
+use Rattle.fit_operator.specs.Inverse.{normalEntry, normalMatrix, better, pivotFrom, pivotOf, exchanged, swapped, scaled, cleared, least, singular, reduced, reduceFrom}
+use Rattle.fit_operator.proofs.ListLaws.{turns-more, length-tabulated, at-tabulated}
 
 module _ {A : Type 0} (t : Bool) (x y : A) where
   pub first-of : t ≡ true → cond t x y ≡ x
@@ -25,6 +25,10 @@ module _ {A : Type 0} (t : Bool) (x y : A) where
   second-of e = ap (λ (b : Bool). cond b x y) e
 
 -- ---- the normal matrix
+-- a sum's next term: the regressors `row` and `col` at the sample k, multiplied
+abbrev pub productTerm : ℕ → ℕ → ℕ → ℕ → Float → Float
+productTerm radius row col k a = add binary64 a (mul binary64 (phi radius row k) (phi radius col k))
+
 pub product-more : (radius row col k : ℕ) (sum x y : Float) → sum ≡ turns k (productTerm radius row col) plusZero → x ≡ phi radius row k → y ≡ phi radius col k
     → add binary64 sum (mul binary64 x y) ≡ turns (k + 1) (productTerm radius row col) plusZero
 product-more radius row col k sum x y e p q =
@@ -37,14 +41,27 @@ pub normal-all : (radius row col k : ℕ) (sum : Float) → k ≡ samples radius
 unfolding normalEntry
 normal-all radius row col k sum e p = p ∙ ap (λ (n : ℕ). turns n (productTerm radius row col) plusZero) e
 
-pub normal-left : (radius i : ℕ) → i % 12 < 6 → normalEntry radius (i / 12) (i % 12) ≡ normalAt radius i
-normal-left radius i h = sym (first-of _ _ _ (lt-ltb (i % 12) 6 h))
+-- the entry i
+abbrev normalAt : ℕ → ℕ → Float
+normalAt radius i = cond (ltb (i % 12) 6) (normalEntry radius (i / 12) (i % 12)) (cond (eqb (i % 12) (6 + i / 12)) one plusZero)
 
-pub normal-one : (radius i : ℕ) → 6 ≤ i % 12 → i % 12 ≡ 6 + i / 12 → one ≡ normalAt radius i
-normal-one radius i h e = sym (second-of _ _ _ (le-ltb (i % 12) 6 h) ∙ first-of _ one plusZero (eq-eqb (i % 12) (6 + i / 12) e))
+pub length-normal : (radius : ℕ) → length (normalMatrix radius) ≡ 72
+unfolding normalMatrix
+length-normal radius = length-tabulated 72 (normalAt radius)
 
-pub normal-zero : (radius i : ℕ) → 6 ≤ i % 12 → (i % 12 ≡ 6 + i / 12 → ⊥) → plusZero ≡ normalAt radius i
-normal-zero radius i h e = sym (second-of _ _ _ (le-ltb (i % 12) 6 h) ∙ second-of _ one plusZero (ne-eqb (i % 12) (6 + i / 12) e))
+module _ (radius i : ℕ) (h : i < 72) where
+  at-normal : at (normalMatrix radius) i ≡ normalAt radius i
+  unfolding normalMatrix
+  at-normal = at-tabulated 72 (normalAt radius) i h
+
+  pub normal-left : i % 12 < 6 → normalEntry radius (i / 12) (i % 12) ≡ at (normalMatrix radius) i
+  normal-left l = sym (at-normal ∙ first-of _ _ _ (lt-ltb (i % 12) 6 l))
+
+  pub normal-one : 6 ≤ i % 12 → i % 12 ≡ 6 + i / 12 → one ≡ at (normalMatrix radius) i
+  normal-one l e = sym (at-normal ∙ second-of _ _ _ (le-ltb (i % 12) 6 l) ∙ first-of _ one plusZero (eq-eqb (i % 12) (6 + i / 12) e))
+
+  pub normal-zero : 6 ≤ i % 12 → (i % 12 ≡ 6 + i / 12 → ⊥) → plusZero ≡ at (normalMatrix radius) i
+  normal-zero l e = sym (at-normal ∙ second-of _ _ _ (le-ltb (i % 12) 6 l) ∙ second-of _ one plusZero (ne-eqb (i % 12) (6 + i / 12) e))
 
 -- ---- the stages of a column
 pub exchanged-first : (a b r : ℕ) → r ≡ a → b ≡ exchanged a b r
@@ -56,25 +73,60 @@ exchanged-second a b r n e = sym (second-of (eqb r a) b _ (ne-eqb r a n) ∙ fir
 pub exchanged-other : (a b r : ℕ) → (r ≡ a → ⊥) → (r ≡ b → ⊥) → r ≡ exchanged a b r
 exchanged-other a b r n e = sym (second-of (eqb r a) b _ (ne-eqb r a n) ∙ second-of (eqb r b) a r (ne-eqb r b e))
 
-pub scaled-pivot : (col i : ℕ) (m : List Float) (x y : Float) → i / 12 ≡ col → x ≡ at m i → y ≡ at m (12 * col + col) → mul binary64 x (div binary64 one y) ≡ scaledAt col m i
-scaled-pivot col i m x y e p q =
-    ap (λ (z : Float). mul binary64 z (div binary64 one y)) p
-    ∙ ap (λ (z : Float). mul binary64 (at m i) (div binary64 one z)) q
-    ∙ sym (first-of (eqb (i / 12) col) _ (at m i) (eq-eqb (i / 12) col e))
+-- the entry i after each stage
+abbrev swappedAt : ℕ → ℕ → List Float → ℕ → Float
+swappedAt a b m i = at m (12 * exchanged a b (i / 12) + i % 12)
 
-pub scaled-other : (col i : ℕ) (m : List Float) (x : Float) → (i / 12 ≡ col → ⊥) → x ≡ at m i → x ≡ scaledAt col m i
-scaled-other col i m x e p = p ∙ sym (second-of (eqb (i / 12) col) _ (at m i) (ne-eqb (i / 12) col e))
+abbrev scaledAt : ℕ → List Float → ℕ → Float
+scaledAt col m i = cond (eqb (i / 12) col) (mul binary64 (at m i) (div binary64 one (at m (12 * col + col)))) (at m i)
 
-pub cleared-pivot : (col i : ℕ) (m : List Float) (x : Float) → i / 12 ≡ col → x ≡ at m i → x ≡ clearedAt col m i
-cleared-pivot col i m x e p = p ∙ sym (first-of (eqb (i / 12) col) (at m i) _ (eq-eqb (i / 12) col e))
+abbrev clearedAt : ℕ → List Float → ℕ → Float
+clearedAt col m i = cond (eqb (i / 12) col) (at m i) (sub binary64 (at m i) (mul binary64 (at m (12 * (i / 12) + col)) (at m (12 * col + i % 12))))
 
-pub cleared-other : (col i : ℕ) (m : List Float) (x y z : Float) → (i / 12 ≡ col → ⊥) → x ≡ at m i → y ≡ at m (12 * (i / 12) + col) → z ≡ at m (12 * col + i % 12)
-    → sub binary64 x (mul binary64 y z) ≡ clearedAt col m i
-cleared-other col i m x y z e p q r =
-    ap (λ (w : Float). sub binary64 w (mul binary64 y z)) p
-    ∙ ap (λ (w : Float). sub binary64 (at m i) (mul binary64 w z)) q
-    ∙ ap (λ (w : Float). sub binary64 (at m i) (mul binary64 (at m (12 * (i / 12) + col)) w)) r
-    ∙ sym (second-of (eqb (i / 12) col) (at m i) _ (ne-eqb (i / 12) col e))
+pub length-swapped : (a b : ℕ) (m : List Float) → length (swapped a b m) ≡ 72
+unfolding swapped
+length-swapped a b m = length-tabulated 72 (swappedAt a b m)
+
+pub length-scaled : (col : ℕ) (m : List Float) → length (scaled col m) ≡ 72
+unfolding scaled
+length-scaled col m = length-tabulated 72 (scaledAt col m)
+
+pub length-cleared : (col : ℕ) (m : List Float) → length (cleared col m) ≡ 72
+unfolding cleared
+length-cleared col m = length-tabulated 72 (clearedAt col m)
+
+pub swapped-entry : (a b i r : ℕ) (m : List Float) (x : Float) → i < 72 → r ≡ exchanged a b (i / 12) → x ≡ at m (12 * r + i % 12) → x ≡ at (swapped a b m) i
+unfolding swapped
+swapped-entry a b i r m x h e p = p ∙ ap (λ (q : ℕ). at m (12 * q + i % 12)) e ∙ sym (at-tabulated 72 (swappedAt a b m) i h)
+
+module _ (col i : ℕ) (m : List Float) (h : i < 72) where
+  at-scaled : at (scaled col m) i ≡ scaledAt col m i
+  unfolding scaled
+  at-scaled = at-tabulated 72 (scaledAt col m) i h
+
+  at-cleared : at (cleared col m) i ≡ clearedAt col m i
+  unfolding cleared
+  at-cleared = at-tabulated 72 (clearedAt col m) i h
+
+  pub scaled-pivot : (x y : Float) → i / 12 ≡ col → x ≡ at m i → y ≡ at m (12 * col + col) → mul binary64 x (div binary64 one y) ≡ at (scaled col m) i
+  scaled-pivot x y e p q =
+      ap (λ (z : Float). mul binary64 z (div binary64 one y)) p
+      ∙ ap (λ (z : Float). mul binary64 (at m i) (div binary64 one z)) q
+      ∙ sym (at-scaled ∙ first-of (eqb (i / 12) col) _ (at m i) (eq-eqb (i / 12) col e))
+
+  pub scaled-other : (x : Float) → (i / 12 ≡ col → ⊥) → x ≡ at m i → x ≡ at (scaled col m) i
+  scaled-other x e p = p ∙ sym (at-scaled ∙ second-of (eqb (i / 12) col) _ (at m i) (ne-eqb (i / 12) col e))
+
+  pub cleared-pivot : (x : Float) → i / 12 ≡ col → x ≡ at m i → x ≡ at (cleared col m) i
+  cleared-pivot x e p = p ∙ sym (at-cleared ∙ first-of (eqb (i / 12) col) (at m i) _ (eq-eqb (i / 12) col e))
+
+  pub cleared-other : (x y z : Float) → (i / 12 ≡ col → ⊥) → x ≡ at m i → y ≡ at m (12 * (i / 12) + col) → z ≡ at m (12 * col + i % 12)
+      → sub binary64 x (mul binary64 y z) ≡ at (cleared col m) i
+  cleared-other x y z e p q r =
+      ap (λ (w : Float). sub binary64 w (mul binary64 y z)) p
+      ∙ ap (λ (w : Float). sub binary64 (at m i) (mul binary64 w z)) q
+      ∙ ap (λ (w : Float). sub binary64 (at m i) (mul binary64 (at m (12 * (i / 12) + col)) w)) r
+      ∙ sym (at-cleared ∙ second-of (eqb (i / 12) col) (at m i) _ (ne-eqb (i / 12) col e))
 
 -- ---- the pivot
 pub better-is : (m : List Float) (col best p : ℕ) (x y : Float) (o : Order) → x ≡ at m (12 * best + col) → y ≡ at m (12 * p + col) → o ≡ totalCmp x y

@@ -7,7 +7,7 @@ use native.Mathlib.Nat.{eq-or-lt-of-le, le-of-suc-le-suc, le-refl}
 use native.Mathlib.Numerals.{add-one}
 use native.Mathlib.Omega.{arith}
 use lib.ListN.{length, getD, set, drop, length-append, List·getD-append, drop-of-length-le}
-use lib.Seq.{drop-cons, append-snoc, set-at, getD-at}
+use lib.Seq.{drop-cons, append-snoc, set-at, getD-at, ext-getD}
 use lib.Ieee.{Float}
 use Rattle.fit_operator.specs.Loops.{turns, tabulated, at, plusZero}
 use Rattle.fit_operator.specs.Steps.{filled}
@@ -59,6 +59,13 @@ filled-more n f old v h e =
 pub filled-whole : (n : ℕ) (f : ℕ → Float) (old : List Float) → length old ≡ n → filled n f old ≡ tabulated n f
 unfolding filled tabulated
 filled-whole n f old h = ap (λ (l : List Float). tabulated n f ++ l) (drop-of-length-le old (subst (λ (k : ℕ). k ≤ n) (sym h) (le-refl n))) ∙ append-nil (tabulated n f)
+
+-- with the entries of a list, and no more, it is that list
+pub filled-by : (n : ℕ) (list old : List Float) → length list ≡ n → length old ≡ n → filled n (at list) old ≡ list
+filled-by n list old h e =
+    filled-whole n (at list) old e
+    ∙ ext-getD plusZero (tabulated n (at list)) list (length-tabulated n (at list) ∙ sym h)
+    (λ i l. at-tabulated n (at list) i (subst (λ (k : ℕ). i < k) (length-tabulated n (at list)) l))
 
 -- an entry within the list, whatever is said of those past it
 pub at-is : (l : List Float) (i : ℕ) (d : Float) → i < length l → getD l i d ≡ at l i

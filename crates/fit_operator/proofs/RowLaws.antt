@@ -13,11 +13,15 @@ use Rattle.floats.specs.Convert.{convert}
 use Rattle.fit_operator.specs.Loops.{turns, tabulated, at, plusZero, minusZero}
 use Rattle.fit_operator.specs.Basis.{side, samples, phi}
 use Rattle.fit_operator.specs.Rows.{rowEntry, columnsOf, stays, shifted, overlapEntry, overlapOf}
-use Rattle.fit_operator.specs.Steps.{filled, rowTerm, rowAt, columnAt, overlapTerm, overlapSum, overlapAt}
+use Rattle.fit_operator.specs.Steps.{filled, rowAt, columnAt, overlapTerm, overlapSum, overlapAt}
 use Rattle.fit_operator.proofs.ListLaws.{turns-more, turns-cong, tabulated-cong, at-tabulated, length-tabulated}
 use Rattle.fit_operator.proofs.InverseLaws.{first-of, second-of}
 
 -- ---- a row's sum
+-- its next term: the inverse's entry times the regressor
+abbrev pub rowTerm : ℕ → List Float → ℕ → ℕ → ℕ → Float → Float
+rowTerm radius m c k j a = add binary64 a (mul binary64 (at m (12 * c + (6 + j))) (phi radius j k))
+
 pub row-more : (radius : ℕ) (m : List Float) (c k j : ℕ) (sum x y : Float) → sum ≡ turns j (rowTerm radius m c k) minusZero → x ≡ at m (12 * c + (6 + j)) → y ≡ phi radius j k
     → add binary64 sum (mul binary64 x y) ≡ turns (j + 1) (rowTerm radius m c k) minusZero
 row-more radius m c k j sum x y e p q =

@@ -3,15 +3,14 @@ use mathlib.Core.Path.{_≡_}
 use mathlib.Core.Bool.{Bool, true, false, _&&_, cond}
 use mathlib.Core.List.{List, _++_}
 use Prim.Native.Nat.{ℕ, _+_, _*_, _/_, _%_, _≤_, _<_}
-use lib.Dec.{ltb, eqb}
 use lib.ListN.{drop}
-use lib.Ieee.{Float, binary32, binary64, add, sub, mul, div}
+use lib.Ieee.{Float, binary32, binary64, add, mul}
 use Rattle.floats.specs.Convert.{convert}
 use Rattle.floats.specs.TotalOrder.{totalCmp}
-use Rattle.fit_operator.specs.Loops.{turns, tabulated, at, plusZero, one}
-use Rattle.fit_operator.specs.Basis.{side, samples, phi}
+use Rattle.fit_operator.specs.Loops.{turns, tabulated, at, plusZero}
+use Rattle.fit_operator.specs.Basis.{side, samples}
 use Rattle.fit_operator.specs.Rows.{rowEntry, columnsOf, stays, shifted, overlapOf}
-use Rattle.fit_operator.specs.Inverse.{Reduced, singular, reduced, normalEntry, better, pivotOf, exchanged}
+use Rattle.fit_operator.specs.Inverse.{Reduced, singular, reduced, better, pivotOf}
 
 -- the number of samples, with an upper bound
 pub record Count (radius n : ℕ) : Type 0 where
@@ -22,23 +21,6 @@ pub record Count (radius n : ℕ) : Type 0 where
 unfoldable pub filled : ℕ → (ℕ → Float) → List Float → List Float
 unfolding tabulated
 filled n f old = tabulated n f ++ drop n old
-
--- a sum's next term: the regressors `row` and `col` at the sample k, multiplied
-abbrev pub productTerm : ℕ → ℕ → ℕ → ℕ → Float → Float
-productTerm radius row col k a = add binary64 a (mul binary64 (phi radius row k) (phi radius col k))
-
--- ---- one entry of the normal matrix, and of the matrix after each stage of a column
-abbrev pub normalAt : ℕ → ℕ → Float
-normalAt radius i = cond (ltb (i % 12) 6) (normalEntry radius (i / 12) (i % 12)) (cond (eqb (i % 12) (6 + i / 12)) one plusZero)
-
-abbrev pub swappedAt : ℕ → ℕ → List Float → ℕ → Float
-swappedAt a b m i = at m (12 * exchanged a b (i / 12) + i % 12)
-
-abbrev pub scaledAt : ℕ → List Float → ℕ → Float
-scaledAt col m i = cond (eqb (i / 12) col) (mul binary64 (at m i) (div binary64 one (at m (12 * col + col)))) (at m i)
-
-abbrev pub clearedAt : ℕ → List Float → ℕ → Float
-clearedAt col m i = cond (eqb (i / 12) col) (at m i) (sub binary64 (at m i) (mul binary64 (at m (12 * (i / 12) + col)) (at m (12 * col + i % 12))))
 
 -- ---- the pivot
 -- the better of two rows, which is a row
@@ -56,9 +38,6 @@ reducedBy true m = reduced m
 reducedBy false m = singular
 
 -- ---- the rows, kept sample by sample: row c at the sample k stands at 5 * k + c
-abbrev pub rowTerm : ℕ → List Float → ℕ → ℕ → ℕ → Float → Float
-rowTerm radius m c k j a = add binary64 a (mul binary64 (at m (12 * c + (6 + j))) (phi radius j k))
-
 abbrev pub rowAt : ℕ → List Float → ℕ → Float
 rowAt radius m i = rowEntry radius m (i % 5) (i / 5)
 

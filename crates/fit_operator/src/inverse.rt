@@ -6,7 +6,7 @@ ghost use lib.Ieee.{lt};
 ghost use Rattle.floats.specs.Magnitude.{magnitude};
 ghost use Rattle.fit_operator.specs.Loops.{at};
 ghost use Rattle.fit_operator.specs.Inverse.{normalEntry, normalMatrix, exchanged, swapped, scaled, cleared, least, reduceFrom};
-ghost use Rattle.fit_operator.specs.Steps.{normalAt, scaledAt, clearedAt, Better, Pivot, reducedBy};
+ghost use Rattle.fit_operator.specs.Steps.{Better, Pivot, reducedBy};
 use crate::basis;
 use floats::Order;
 
@@ -27,7 +27,7 @@ fn normal_entry(radius: usize, row: usize, col: usize) -> f64
 
 fn normal_at(radius: usize, i: usize) -> f64
     requires { ⌜ (radius ≤ 7) × (i < 72) ⌝ }
-    ensures { λ r. ⌜ r ≡ normalAt radius i ⌝ }
+    ensures { λ r. ⌜ r ≡ at (normalMatrix radius) i ⌝ }
 {
     let row = i / 12;
     let col = i % 12;
@@ -117,7 +117,7 @@ fn swapped_rows(m: &[f64; 72], a: usize, b: usize) -> [f64; 72]
 
 fn scaled_at(m: &[f64; 72], col: usize, i: usize) -> f64
     requires { ⌜ (col < 6) × (i < 72) ⌝ }
-    ensures { λ r. ⌜ r ≡ scaledAt col (now (m .entry)) i ⌝ }
+    ensures { λ r. ⌜ r ≡ at (scaled col (now (m .entry))) i ⌝ }
 {
     if i / 12 == col {
         return entry(m, i) * (1.0 / entry(m, 12 * col + col));
@@ -141,7 +141,7 @@ fn scaled_row(m: &[f64; 72], col: usize) -> [f64; 72]
 
 fn cleared_at(m: &[f64; 72], col: usize, i: usize) -> f64
     requires { ⌜ (col < 6) × (i < 72) ⌝ }
-    ensures { λ r. ⌜ r ≡ clearedAt col (now (m .entry)) i ⌝ }
+    ensures { λ r. ⌜ r ≡ at (cleared col (now (m .entry))) i ⌝ }
 {
     if i / 12 == col {
         return entry(m, i);

@@ -12,6 +12,7 @@ use crate::Roi;
 use crate::ring;
 use crate::row;
 
+// +0.0 throughout.
 fn fill(out: &mut [f32])
     ensures { λ _. ⌜ Wrote zeroFloat (length (now (out .entry))) 0 (λ i. zeroFloat) (now (out .entry)) (now (out .exit)) ⌝ }
 {
@@ -73,6 +74,7 @@ fn row_inside(
     fill(&mut out[to..n]);
 }
 
+// A row of the region, whose columns in which the ring fits go from `from` up to `to`.
 fn region_row(
     img: &[u8],
     width: usize,
@@ -151,6 +153,7 @@ fn least(a: usize, b: usize) -> usize
     if a < b { a } else { b }
 }
 
+// The sides of a region: both are 0 where it is empty either way.
 fn width_of(x0: usize, y0: usize, x1: usize, y1: usize) -> usize
     ensures { λ r. ⌜ r ≡ widthOf (record { x0 = x0; y0 = y0; x1 = x1; y1 = y1 }) ⌝ }
 {

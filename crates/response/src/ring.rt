@@ -5,6 +5,7 @@ ghost use lib.ListN.{length, replicate};
 ghost use Rattle.response.specs.Steps.{Decides, Wrote};
 ghost use Rattle.response.specs.Starts.{offsetOf, Offsets, Around, startOf, Startable};
 
+// A component plus 10, or 255 where it is outside -10..=10.
 fn offset_of(z: i32) -> u8
     ensures { λ r. ⌜ r ≡ offsetOf z ⌝ }
 {
@@ -35,6 +36,7 @@ pub fn offsets_of(ring: &[i32]) -> [u8; 42]
     offsets
 }
 
+// The component is within the radius.
 fn is_around(offset: u8, radius: usize) -> bool
     requires { ⌜ radius ≤ 10 ⌝ }
     ensures { λ r. ⌜ Decides ((10 ≤ offset + radius) × (offset ≤ 10 + radius)) r ⌝ }
@@ -63,6 +65,7 @@ pub fn are_around(offsets: &[u8; 42], radius: usize) -> bool
     true
 }
 
+// Where the pixel (x, y) stands.
 fn place(width: usize, x: usize, y: usize) -> usize
     requires { ⌜ (width ≤ 4096) × (x ≤ 8192) × (y ≤ 8192) ⌝ }
     ensures { λ r. ⌜ r ≡ y * width + x ⌝ }
@@ -70,6 +73,7 @@ fn place(width: usize, x: usize, y: usize) -> usize
     y * width + x
 }
 
+// A coordinate moved by a component.
 fn moved_by(x: usize, offset: u8) -> usize
     requires { ⌜ (x ≤ 4096) × (10 ≤ x + offset) ⌝ }
     ensures { λ r. ⌜ (r ≡ x + offset - 10) × (r ≤ 8192) ⌝ }

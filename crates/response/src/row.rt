@@ -93,6 +93,7 @@ fn part<'a>(img: &'a [u8], starts: &[usize; 21], k: usize, at: usize, n: usize) 
     &img[start..end]
 }
 
+// Quarter k of the n pixels from `at` on.
 fn quarter(
     img: &[u8],
     starts: &[usize; 21],
@@ -115,6 +116,7 @@ fn quarter(
     add_quarter(a, b, c, d, square, edge, sum);
 }
 
+// The cross of the n pixels from `at` on.
 fn cross(img: &[u8], starts: &[usize; 21], at: usize, n: usize, five: &mut [u16; 64])
     requires { ⌜ n ≤ 64 ⌝ }
     requires { ⌜ Reach (now img) (now starts) (at + n) ⌝ }
@@ -149,6 +151,7 @@ fn block(img: &[u8], starts: &[usize; 21], at: usize, out: &mut [f32])
     write_values(&square, &edge, &sum, &five, out);
 }
 
+// Where the pixels from `at` on that are taken together end.
 fn block_end(at: usize, n: usize) -> usize
     requires { ⌜ at < n ⌝ }
     ensures { λ r. ⌜ (at < r) × (r ≤ n) × (r ≤ at + 64) ⌝ }

@@ -10,7 +10,7 @@ entry-requires c κs = search needs
 returns : tie.Need-returns
 returns c =
     let a = c .before .before .args in
-    cleared-pivot (a .col) (a .i) (a .m .now) (c .entry .result) (c .before .if1 .taken) (c .entry .ensures)
+    cleared-pivot (a .col) (a .i) (a .m .now) (c .before .before .pre .1) (c .entry .result) (c .before .if1 .taken) (c .entry .ensures)
 
 entry-requires-2 : tie.Need-entry-requires-2
 entry-requires-2 c κs = search needs
@@ -36,7 +36,7 @@ entry-requires-4 c κs = search needs
 returns-2 : tie.Need-returns-2
 returns-2 c =
     let a = c .before .before .before .before .args in
-    cleared-other (a .col) (a .i) (a .m .now) (c .before .before .entry2 .result) (c .before .entry3 .result) (c .entry4 .result) (c .before .before .before .if1 .left) (c .before .before .entry2 .ensures) (c .before .entry3 .ensures) (c .entry4 .ensures)
+    cleared-other (a .col) (a .i) (a .m .now) (c .before .before .before .before .pre .1) (c .before .before .entry2 .result) (c .before .entry3 .result) (c .entry4 .result) (c .before .before .before .if1 .left) (c .before .before .entry2 .ensures) (c .before .entry3 .ensures) (c .entry4 .ensures)
 
 pub cleared-at-spec : {M : Type 1} → statement M
 cleared-at-spec =

@@ -4,8 +4,7 @@ use Prim.Native.Nat.{_-_, _≤_}
 use lib.Ieee.{ofBits}
 use Rattle.fit_operator.specs.Loops.{turns, plusZero}
 use Rattle.fit_operator.specs.Basis.{samples}
-use Rattle.fit_operator.specs.Steps.{productTerm}
-use Rattle.fit_operator.proofs.InverseLaws.{product-more, normal-all}
+use Rattle.fit_operator.proofs.InverseLaws.{productTerm, product-more, normal-all}
 use native.Mathlib.Omega.{arith}
 use Rattle.fit_operator.proofs.inverse.normal_entry.Statement.{statement}
 use Rattle.fit_operator.proofs.inverse.normal_entry.Tie as tie

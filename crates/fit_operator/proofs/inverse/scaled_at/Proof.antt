@@ -21,7 +21,7 @@ returns : tie.Need-returns
 unfolding ofBits
 returns c =
     let a = c .before .before .before .args in
-    scaled-pivot (a .col) (a .i) (a .m .now) (c .before .entry .result) (c .entry2 .result) (c .before .before .if1 .taken) (c .before .entry .ensures) (c .entry2 .ensures)
+    scaled-pivot (a .col) (a .i) (a .m .now) (c .before .before .before .pre .1) (c .before .entry .result) (c .entry2 .result) (c .before .before .if1 .taken) (c .before .entry .ensures) (c .entry2 .ensures)
 
 entry-requires-3 : tie.Need-entry-requires-3
 entry-requires-3 c κs = search needs
@@ -29,7 +29,7 @@ entry-requires-3 c κs = search needs
 returns-2 : tie.Need-returns-2
 returns-2 c =
     let a = c .before .before .args in
-    scaled-other (a .col) (a .i) (a .m .now) (c .entry3 .result) (c .before .if1 .left) (c .entry3 .ensures)
+    scaled-other (a .col) (a .i) (a .m .now) (c .before .before .pre .1) (c .entry3 .result) (c .before .if1 .left) (c .entry3 .ensures)
 
 pub scaled-at-spec : {M : Type 1} → statement M
 scaled-at-spec =

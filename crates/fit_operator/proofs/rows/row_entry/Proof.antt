@@ -3,8 +3,7 @@ use mathlib.Core.Path.{_≡_, refl}
 use Prim.Native.Nat.{_-_, _≤_}
 use lib.Ieee.{ofBits, neg}
 use Rattle.fit_operator.specs.Loops.{turns, minusZero}
-use Rattle.fit_operator.specs.Steps.{rowTerm}
-use Rattle.fit_operator.proofs.RowLaws.{row-more, row-all}
+use Rattle.fit_operator.proofs.RowLaws.{rowTerm, row-more, row-all}
 use native.Mathlib.Omega.{arith}
 use Rattle.fit_operator.proofs.rows.row_entry.Statement.{statement}
 use Rattle.fit_operator.proofs.rows.row_entry.Tie as tie
