@@ -1,4 +1,6 @@
-//! Times of the port and of the Rust, taken in turn on the same inputs.
+//! Times of the port and of the Rust, taken in turn on the same inputs. They
+//! are the thread's time on the processor: on a busy computer the clock on the
+//! wall would count the work of others, the more the longer a call takes.
 
 use crate::port;
 use oracle::plain::original as rust;
@@ -6,15 +8,30 @@ use oracle::random::Random;
 use oracle::types::{paper_ring, Region, Ring};
 use oracle::{calls, plain, rules};
 use std::hint::black_box;
-use std::time::Instant;
+
+extern "C" {
+    fn clock_gettime(clock: i32, time: *mut [i64; 2]) -> i32;
+}
+
+/// Linux's CLOCK_THREAD_CPUTIME_ID.
+const THREAD: i32 = 3;
+
+/// Milliseconds that this thread has had.
+fn now() -> f64 {
+    let mut time = [0i64; 2];
+    // SAFETY: on 64-bit Linux a timespec is two words of 64 bits.
+    let status = unsafe { clock_gettime(THREAD, &mut time) };
+    assert!(status == 0, "the thread has a clock");
+    time[0] as f64 * 1e3 + time[1] as f64 / 1e6
+}
 
 /// Milliseconds of one call; what has to be made ready is not timed.
 type Side<'a> = &'a mut dyn FnMut() -> f64;
 
 fn timed<T>(call: impl FnOnce() -> T) -> (f64, T) {
-    let began = Instant::now();
+    let began = now();
     let answer = black_box(call());
-    (began.elapsed().as_secs_f64() * 1e3, answer)
+    (now() - began, answer)
 }
 
 /// The times of one side, in order.
@@ -129,9 +146,12 @@ fn response(size: [usize; 2], radius: usize, repetitions: usize) -> bool {
     calls::same_floats(&ours, &want) && calls::same_floats(&rows, &want)
 }
 
+/// Lists of each row, called one after the other: a single one the processor
+/// would learn by heart, the better the shorter it is.
+const LISTS: usize = 32;
+
 /// Corners over a field: scattered, or 64 to a cluster of about 6 pixels.
-fn corners(count: usize, field: [f32; 2], clustered: bool) -> Vec<f32> {
-    let mut random = Random::of(2, "bench");
+fn corners(random: &mut Random, count: usize, field: [f32; 2], clustered: bool) -> Vec<f32> {
     let mut middle = [0.0; 2];
     let mut floats = Vec::new();
     for k in 0..count {
@@ -149,44 +169,64 @@ fn corners(count: usize, field: [f32; 2], clustered: bool) -> Vec<f32> {
     floats
 }
 
-fn merge(name: &str, floats: &[f32], radius: f32, repetitions: usize) -> bool {
-    let list = calls::triples(floats);
-    let [across, down] = rules::cells(&list, radius);
-    let mut heads = vec![0u16; (across * down) as usize];
-    let mut links = vec![0u16; list.len()];
-    let mut ours = floats.to_vec();
-    let mut kept = 0;
-    let rust_list: Vec<rust::Corner> = list
-        .iter()
-        .map(|c| rust::Corner::new(c[0], c[1], c[2]))
+fn merge(name: &str, count: usize, field: [f32; 2], radius: f32) -> bool {
+    let mut random = Random::of(2, name);
+    let clustered = name == "clustered";
+    let lists: Vec<Vec<f32>> = (0..LISTS)
+        .map(|_| corners(&mut random, count, field, clustered))
         .collect();
+    let triples: Vec<_> = lists.iter().map(|list| calls::triples(list)).collect();
+    // As many heads as the grid of the list has cells.
+    let cells: Vec<usize> = triples
+        .iter()
+        .map(|list| rules::cells(list, radius).iter().product::<u128>() as usize)
+        .collect();
+    let rust_lists: Vec<Vec<rust::Corner>> = triples
+        .iter()
+        .map(|list| {
+            list.iter()
+                .map(|c| rust::Corner::new(c[0], c[1], c[2]))
+                .collect()
+        })
+        .collect();
+    let mut heads = vec![0u16; cells.iter().copied().max().unwrap_or(0)];
+    let mut links = vec![0u16; count];
+    let mut ours = vec![0.0; 3 * count];
+    let mut kept = 0;
+    let mut call = |k: usize| {
+        ours.copy_from_slice(&lists[k]);
+        let heads = &mut heads[..cells[k]];
+        timed(|| port::merge(&mut ours, radius, heads, &mut links, &mut kept)).0
+    };
+    let (mut turn, mut rust_turn) = (0, 0);
     let mut by_port = || {
-        ours.copy_from_slice(floats);
-        timed(|| port::merge(&mut ours, radius, &mut heads, &mut links, &mut kept)).0
+        turn += 1;
+        call(turn % LISTS)
     };
     let mut by_rust = || {
-        let mut corners = rust_list.clone();
+        rust_turn += 1;
+        let mut corners = rust_lists[rust_turn % LISTS].clone();
         timed(|| rust::merge_corners_simple(&mut corners, radius)).0
     };
-    let t = in_turn(&mut [&mut by_port, &mut by_rust], repetitions);
-    let each = |times: &Times| times.part(50) * 1e6 / list.len() as f64;
+    let t = in_turn(&mut [&mut by_port, &mut by_rust], 20 * LISTS);
+    call(0);
+    let each = |times: &Times| times.part(50) * 1e6 / count as f64;
     println!(
-        "| merge {name}, radius {radius}: {} to {kept} | {} | {} | {} | {:.0} | {:.0} |",
-        list.len(),
+        "| merge {name}, radius {radius}: {count} to {kept} | {} | {} | {} | {:.0} | {:.0} |",
         t[0].told(),
         t[1].told(),
         ratio(&t[0], &t[1]),
         each(&t[0]),
         each(&t[1]),
     );
-    let want = plain::merge(&list, radius);
+    let want = plain::merge(&triples[0], radius);
     kept == want.len() && calls::same_floats(&ours[..3 * kept], &want.concat())
 }
 
 /// Prints the tables. `false` where the two sides do not answer alike.
 pub fn run() -> bool {
     let mut same = true;
-    println!("Milliseconds: median (least, quartiles). Ratios: of the medians (of the least).\n");
+    println!("Milliseconds on the processor: median (least, quartiles). Ratios: of the medians (of the least).\n");
     println!("| call | ours | the Rust's call | ours / Rust | the Rust's rows, lent buffer | ours / rows |");
     println!("|---|---|---|---|---|---|");
     for radius in [5, 10] {
@@ -199,13 +239,12 @@ pub fn run() -> bool {
     println!("|---|---|---|---|---|---|");
     let field = [640.0, 480.0];
     for radius in [2.0, 5.0] {
-        same &= merge("scattered", &corners(4096, field, false), radius, 401);
-        same &= merge("clustered", &corners(4096, field, true), radius, 401);
+        same &= merge("scattered", 4096, field, radius);
+        same &= merge("clustered", 4096, field, radius);
     }
     for count in [512, 1024, 2048, 4096] {
         let shrink = (count as f32 / 4096.0).sqrt();
-        let list = corners(count, field.map(|f| f * shrink), false);
-        same &= merge("at one density", &list, 5.0, 401);
+        same &= merge("at one density", count, field.map(|f| f * shrink), 5.0);
     }
     if !same {
         println!("\nTHE TWO SIDES DO NOT ANSWER ALIKE");

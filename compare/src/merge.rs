@@ -306,11 +306,11 @@ fn any_strength(random: &mut Random) -> f32 {
 }
 
 fn any_count(random: &mut Random) -> usize {
-    match random.below(1000) {
-        0..=1 => random.pick(&[4095, 4096]),
-        2..=9 => random.pick(&[4097, 4098, 5000]),
-        10..=29 => random.below(600),
-        30..=299 => random.below(64),
+    match random.below(4000) {
+        0 => random.pick(&[4095, 4096]),
+        1..=31 => random.pick(&[4097, 4098, 5000]),
+        32..=79 => random.below(600),
+        80..=1199 => random.below(64),
         _ => random.below(9),
     }
 }

@@ -109,15 +109,16 @@ impl Tally {
         }
     }
 
-    /// Prints what was tried. `false` if it differs or leaves a class out.
-    pub fn told<T: Trial>(&self) -> bool {
+    /// Prints what was tried. `false` if it differs, or if a run to its end
+    /// leaves a class out.
+    pub fn told<T: Trial>(&self, to_the_end: bool) -> bool {
         let classes: Vec<String> = self
             .classes
             .iter()
             .map(|(class, count)| format!("{class} {count}"))
             .collect();
         println!(
-            "{}: {} cases ({} of short inputs, all of them), {} differ; {}",
+            "{}: {} cases, {} of them every short input; {} differ; {}",
             T::NAME,
             self.cases,
             self.exhaustive,
@@ -129,10 +130,11 @@ impl Tally {
             .filter(|class| !self.classes.contains_key(*class))
             .copied()
             .collect();
-        if !missed.is_empty() && !self.differ {
+        let left_out = to_the_end && !missed.is_empty();
+        if left_out {
             println!("{}: NOT REACHED: {}", T::NAME, missed.join(", "));
         }
-        missed.is_empty() && !self.differ
+        !left_out && !self.differ
     }
 }
 
