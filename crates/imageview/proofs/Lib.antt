@@ -1,2 +1,3 @@
 -- Laws of images that more than one proof cites.
 pub mod ImageLaws
+pub mod PatchLaws

@@ -10,6 +10,10 @@ pub record Image : Type 0 where
   pub width : ℕ
   pub height : ℕ
 
+-- what a slice and two sizes stand for
+abbrev pub imageOf : List ℕ → ℕ → ℕ → Image
+imageOf samples width height = record { samples = samples; width = width; height = height }
+
 unfoldable pub pixel : Image → ℕ → ℕ → ℕ
 pixel img x y = getD (img .samples) (y * img .width + x) 0
 

@@ -1,0 +1,149 @@
+// One seed: document 01's tests in their order, the first fit, and what follows from it.
+use super::Admitted;
+use super::Refined;
+use super::SaddlePointConfig;
+use super::Seed;
+use super::Solved;
+use crate::closing;
+use crate::fits;
+use crate::solve;
+use crate::tries;
+ghost use mathlib.Core.Path.{_≡_};
+ghost use Rattle.imageview.specs.Image.{imageOf};
+ghost use Rattle.saddle_point.specs.Fit.{fitted, coefficients};
+ghost use Rattle.saddle_point.specs.Refine.{goodLimit, goodLimits, fromFit, refineLent};
+ghost use Rattle.saddle_point.specs.Adding.{Within};
+ghost use Rattle.saddle_point.specs.Tries.{taskAt};
+ghost use Rattle.saddle_point.specs.Admission.{admitOf};
+
+// The refiner of one seed with an operator that is lent.
+pub fn refine_with(
+    img: &[u8],
+    width: usize,
+    height: usize,
+    cfg: SaddlePointConfig,
+    x: f32,
+    y: f32,
+    wanted: bool,
+    columns: &[f32; 1125],
+    overlap: &[f32; 225],
+) -> Refined
+    ensures { λ r. ⌜ r ≡ refineLent (imageOf (now (img .entry)) width height) cfg x y wanted (now (columns .entry)) (now (overlap .entry)) ⌝ }
+{
+    let admitted = admit(img, width, height, cfg, x, y);
+    match admitted {
+        Admitted::Good(seed) => refine_seed(
+            img,
+            width,
+            height,
+            cfg,
+            seed,
+            wanted,
+            columns,
+            overlap,
+        ),
+        Admitted::NoImage => Refined::BadImage,
+        Admitted::NoRadius => Refined::BadRadius,
+        Admitted::NoLimit => Refined::BadLimit,
+        Admitted::NoPatch => Refined::OutOfBounds,
+    }
+}
+
+// A setting that is finite and not below zero.
+fn good_limit(v: f32) -> bool
+    ensures { λ r. ⌜ r ≡ goodLimit v ⌝ }
+{
+    if floats::is_finite_f32(v) {
+        if v < 0.0 {
+            return false;
+        }
+        return true;
+    }
+    false
+}
+
+fn good_limits(cfg: SaddlePointConfig) -> bool
+    ensures { λ r. ⌜ r ≡ goodLimits cfg ⌝ }
+{
+    if good_limit(cfg.det_margin) {
+        if good_limit(cfg.max_offset) {
+            return good_limit(cfg.min_abs_det);
+        }
+        return false;
+    }
+    false
+}
+
+// The tests before the first fit.
+fn admit(
+    img: &[u8],
+    width: usize,
+    height: usize,
+    cfg: SaddlePointConfig,
+    x: f32,
+    y: f32,
+) -> Admitted
+    ensures { λ r. ⌜ r ≡ admitOf (imageOf (now (img .entry)) width height) cfg x y ⌝ }
+{
+    if imageview::is_image(img, width, height) {
+        if 7 < cfg.radius {
+            return Admitted::NoRadius;
+        }
+        if good_limits(cfg) {
+            let cx = floats::f32_to_i32(floats::round_f32(x));
+            let cy = floats::f32_to_i32(floats::round_f32(y));
+            if imageview::supports_patch(width, height, cx, cy, cfg.radius) {
+                return Admitted::Good(Seed {
+                    x,
+                    y,
+                    centre_x: cx as usize,
+                    centre_y: cy as usize,
+                });
+            }
+            return Admitted::NoPatch;
+        }
+        return Admitted::NoLimit;
+    }
+    Admitted::NoImage
+}
+
+// A seed that passed the tests: the first fit decides acceptance.
+fn refine_seed(
+    img: &[u8],
+    width: usize,
+    height: usize,
+    cfg: SaddlePointConfig,
+    seed: Seed,
+    wanted: bool,
+    columns: &[f32; 1125],
+    overlap: &[f32; 225],
+) -> Refined
+    requires { ⌜ Within (imageOf (now img) width height) (cfg .radius) (seed .«centre_x») (seed .«centre_y») ⌝ }
+    ensures { λ r. ⌜ r ≡ fromFit (taskAt (imageOf (now (img .entry)) width height) (now (columns .entry)) cfg seed) (now (overlap .entry)) wanted (fitted (coefficients (imageOf (now (img .entry)) width height) (now (columns .entry)) (cfg .radius) (seed .«centre_x») (seed .«centre_y»))) ⌝ }
+{
+    let radius = cfg.radius;
+    let cx = seed.centre_x;
+    let cy = seed.centre_y;
+    let here = fits::fit_patch(img, width, height, cx, cy, radius, columns);
+    let solved = solve::solve(cfg, here);
+    match solved {
+        Solved::Refused(det) => Refined::IllConditioned(det),
+        Solved::Saddle(f) => {
+            if tries::near_seed(cfg, seed, f.ux, f.uy) {
+                return Refined::Accepted(closing::estimate(
+                    img,
+                    width,
+                    height,
+                    columns,
+                    overlap,
+                    cfg,
+                    seed,
+                    here,
+                    f,
+                    wanted,
+                ));
+            }
+            Refined::Rejected(f.det_h)
+        }
+    }
+}
