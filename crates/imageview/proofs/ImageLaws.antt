@@ -8,7 +8,7 @@ use lib.Dec.{T, leb, eqb, leb→le, eqb→eq, lit≤}
 use lib.ListN.{length}
 use lib.Ieee.Fits.{and-l, and-r}
 use borrow.Author.Tests.{lt-leb, le-leb}
-use Rattle.imageview.specs.Image.{Image, isImage, most}
+use Rattle.imageview.specs.Image.{Image, sizesFit, isImage, most}
 
 abbrev tests : Bool → Bool → Bool → Bool → Bool → Bool
 tests a b c d e = a && b && c && d && e
@@ -28,62 +28,67 @@ second : (a c d e : Bool) → tests a false c d e ≡ false
 second true c d e = refl
 second false c d e = refl
 
-pub no-width : (img : Image) → img .width < 1 → false ≡ isImage img
-unfolding isImage
-no-width img h = sym (ap (λ (b : Bool). tests b (leb (img .width) most) (leb 1 (img .height)) (leb (img .height) most) (eqb (length (img .samples)) (img .width * img .height))) (lt-leb 1 (img .width) h))
+module _ (n w h : ℕ) where
+  pub no-width : w < 1 → false ≡ sizesFit n w h
+  unfolding sizesFit
+  no-width l = sym (ap (λ (b : Bool). tests b (leb w most) (leb 1 h) (leb h most) (eqb n (w * h))) (lt-leb 1 w l))
 
-pub too-wide : (img : Image) → most < img .width → false ≡ isImage img
-unfolding isImage
-too-wide img h =
-    sym (ap (λ (b : Bool). tests (leb 1 (img .width)) b (leb 1 (img .height)) (leb (img .height) most) (eqb (length (img .samples)) (img .width * img .height))) (lt-leb (img .width) most h)
-    ∙ second (leb 1 (img .width)) (leb 1 (img .height)) (leb (img .height) most) (eqb (length (img .samples)) (img .width * img .height)))
+  pub too-wide : most < w → false ≡ sizesFit n w h
+  unfolding sizesFit
+  too-wide l = sym (ap (λ (b : Bool). tests (leb 1 w) b (leb 1 h) (leb h most) (eqb n (w * h))) (lt-leb w most l) ∙ second (leb 1 w) (leb 1 h) (leb h most) (eqb n (w * h)))
 
-pub no-height : (img : Image) → img .height < 1 → false ≡ isImage img
-unfolding isImage
-no-height img h =
-    sym (ap (λ (b : Bool). tests (leb 1 (img .width)) (leb (img .width) most) b (leb (img .height) most) (eqb (length (img .samples)) (img .width * img .height))) (lt-leb 1 (img .height) h)
-    ∙ third (leb 1 (img .width)) (leb (img .width) most) (leb (img .height) most) (eqb (length (img .samples)) (img .width * img .height)))
+  pub no-height : h < 1 → false ≡ sizesFit n w h
+  unfolding sizesFit
+  no-height l = sym (ap (λ (b : Bool). tests (leb 1 w) (leb w most) b (leb h most) (eqb n (w * h))) (lt-leb 1 h l) ∙ third (leb 1 w) (leb w most) (leb h most) (eqb n (w * h)))
 
-pub too-high : (img : Image) → most < img .height → false ≡ isImage img
-unfolding isImage
-too-high img h =
-    sym (ap (λ (b : Bool). tests (leb 1 (img .width)) (leb (img .width) most) (leb 1 (img .height)) b (eqb (length (img .samples)) (img .width * img .height))) (lt-leb (img .height) most h)
-    ∙ fourth (leb 1 (img .width)) (leb (img .width) most) (leb 1 (img .height)) (eqb (length (img .samples)) (img .width * img .height)))
+  pub too-high : most < h → false ≡ sizesFit n w h
+  unfolding sizesFit
+  too-high l = sym (ap (λ (b : Bool). tests (leb 1 w) (leb w most) (leb 1 h) b (eqb n (w * h))) (lt-leb h most l) ∙ fourth (leb 1 w) (leb w most) (leb 1 h) (eqb n (w * h)))
 
-pub by-count : (img : Image) → 1 ≤ img .width → img .width ≤ most → 1 ≤ img .height → img .height ≤ most → eqb (length (img .samples)) (img .width * img .height) ≡ isImage img
-unfolding isImage
-by-count img a b c d =
-    sym (ap (λ (z : Bool). tests z (leb (img .width) most) (leb 1 (img .height)) (leb (img .height) most) (eqb (length (img .samples)) (img .width * img .height))) (le-leb 1 (img .width) a)
-    ∙ ap (λ (z : Bool). tests true z (leb 1 (img .height)) (leb (img .height) most) (eqb (length (img .samples)) (img .width * img .height))) (le-leb (img .width) most b)
-    ∙ ap (λ (z : Bool). tests true true z (leb (img .height) most) (eqb (length (img .samples)) (img .width * img .height))) (le-leb 1 (img .height) c)
-    ∙ ap (λ (z : Bool). tests true true true z (eqb (length (img .samples)) (img .width * img .height))) (le-leb (img .height) most d))
+  pub by-count : 1 ≤ w → w ≤ most → 1 ≤ h → h ≤ most → eqb n (w * h) ≡ sizesFit n w h
+  unfolding sizesFit
+  by-count a b c d =
+      sym (ap (λ (z : Bool). tests z (leb w most) (leb 1 h) (leb h most) (eqb n (w * h))) (le-leb 1 w a)
+      ∙ ap (λ (z : Bool). tests true z (leb 1 h) (leb h most) (eqb n (w * h))) (le-leb w most b)
+      ∙ ap (λ (z : Bool). tests true true z (leb h most) (eqb n (w * h))) (le-leb 1 h c)
+      ∙ ap (λ (z : Bool). tests true true true z (eqb n (w * h))) (le-leb h most d))
 
--- what an image that passes has
-pub record Good (img : Image) : Type 0 where
-  pub wide : 1 ≤ img .width
-  pub width-most : img .width ≤ most
-  pub high : 1 ≤ img .height
-  pub height-most : img .height ≤ most
-  pub count : length (img .samples) ≡ img .width * img .height
+-- what sizes that pass have
+pub record Sized (n w h : ℕ) : Type 0 where
+  pub wide : 1 ≤ w
+  pub width-most : w ≤ most
+  pub high : 1 ≤ h
+  pub height-most : h ≤ most
+  pub count : n ≡ w * h
 
-pub good : (img : Image) → T (isImage img) → Good img
-unfolding isImage
-good img t =
-    let a = leb 1 (img .width) in
-    let b = leb (img .width) most in
-    let c = leb 1 (img .height) in
-    let d = leb (img .height) most in
-    let e = eqb (length (img .samples)) (img .width * img .height) in
+pub sized : (n w h : ℕ) → T (sizesFit n w h) → Sized n w h
+unfolding sizesFit
+sized n w h t =
+    let a = leb 1 w in
+    let b = leb w most in
+    let c = leb 1 h in
+    let d = leb h most in
+    let e = eqb n (w * h) in
     let abcd : T (a && b && c && d) = and-l (a && b && c && d) e t in
     let abc : T (a && b && c) = and-l (a && b && c) d abcd in
     let ab : T (a && b) = and-l (a && b) c abc in
     record {
-      wide = leb→le 1 (img .width) (and-l a b ab);
-      width-most = leb→le (img .width) most (and-r a b ab);
-      high = leb→le 1 (img .height) (and-r (a && b) c abc);
-      height-most = leb→le (img .height) most (and-r (a && b && c) d abcd);
-      count = eqb→eq (length (img .samples)) (img .width * img .height) (and-r (a && b && c && d) e t);
+      wide = leb→le 1 w (and-l a b ab);
+      width-most = leb→le w most (and-r a b ab);
+      high = leb→le 1 h (and-r (a && b) c abc);
+      height-most = leb→le h most (and-r (a && b && c) d abcd);
+      count = eqb→eq n (w * h) (and-r (a && b && c && d) e t);
     }
+
+pub image-is : (img : Image) → sizesFit (length (img .samples)) (img .width) (img .height) ≡ isImage img
+unfolding isImage
+image-is img = refl
+
+abbrev pub Good : Image → Type 0
+Good img = Sized (length (img .samples)) (img .width) (img .height)
+
+pub good : (img : Image) → T (isImage img) → Good img
+good img t = sized (length (img .samples)) (img .width) (img .height) (subst T (sym (image-is img)) t)
 
 -- so it has at most 2 ^ 24 samples
 pub count-most : (w h : ℕ) → w ≤ most → h ≤ most → w * h ≤ 2 ^ 24

@@ -21,6 +21,10 @@ pixel img x y = getD (img .samples) (y * img .width + x) 0
 abbrev pub most : ℕ
 most = 4096
 
--- width and height in 1..=4096, and as many samples as width times height: else refusal 10
+-- width and height in 1..=4096, and a count of width times height: else refusal 10
+unfoldable pub sizesFit : ℕ → ℕ → ℕ → Bool
+sizesFit count width height = leb 1 width && leb width most && leb 1 height && leb height most && eqb count (width * height)
+
 unfoldable pub isImage : Image → Bool
-isImage img = leb 1 (img .width) && leb (img .width) most && leb 1 (img .height) && leb (img .height) most && eqb (length (img .samples)) (img .width * img .height)
+unfolding sizesFit
+isImage img = sizesFit (length (img .samples)) (img .width) (img .height)

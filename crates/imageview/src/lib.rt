@@ -3,12 +3,19 @@ ghost use mathlib.Core.Path.{_≡_};
 ghost use mathlib.Core.Bool.{_&&_};
 ghost use Prim.Native.Nat.{_+_, _*_, _≤_};
 ghost use lib.ListN.{length, take, drop};
-ghost use Rattle.imageview.specs.Image.{isImage};
+ghost use Rattle.imageview.specs.Image.{sizesFit, isImage};
 ghost use Rattle.imageview.specs.Patch.{inside};
 
-// Document 01's test of an image; the product is taken only of sizes that cannot wrap it.
+// Document 01's test of an image.
 pub fn is_image(img: &[u8], width: usize, height: usize) -> bool
     ensures { λ r. ⌜ r ≡ isImage (record { samples = now (img .entry); width = width; height = height }) ⌝ }
+{
+    fits(img.len(), width, height)
+}
+
+// The same of any list of so many entries; the product is taken only of sizes that cannot wrap it.
+pub fn fits(count: usize, width: usize, height: usize) -> bool
+    ensures { λ r. ⌜ r ≡ sizesFit count width height ⌝ }
 {
     if width < 1 {
         return false;
@@ -22,7 +29,7 @@ pub fn is_image(img: &[u8], width: usize, height: usize) -> bool
     if 4096 < height {
         return false;
     }
-    img.len() == width * height
+    count == width * height
 }
 
 // Whether the square of half-size radius about (x, y) lies in an image of these sizes.

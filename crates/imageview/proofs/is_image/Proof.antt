@@ -1,28 +1,16 @@
--- `imageview::is_image` meets its contract: each return is one law of the test.
-use native.Mathlib.Omega.{arith}
+-- `imageview::is_image` meets its contract.
+use mathlib.Core.Path.{_∙_}
+use borrow.Author.Needs.{needs}
 use denote.Ref.{now}
-use mir.Facts.{fits-le, fits-lit}
-use Rattle.imageview.proofs.ImageLaws.{no-width, too-wide, no-height, too-high, by-count, count-most}
+use Rattle.imageview.proofs.ImageLaws.{image-is}
 use Rattle.imageview.proofs.is_image.Statement.{statement}
 use Rattle.imageview.proofs.is_image.Tie as tie
 
+fits-requires : tie.Need-fits-requires
+fits-requires c κs = search needs
+
 returns : tie.Need-returns
-returns c = no-width (record { samples = now (c .before .args .img); width = c .before .args .width; height = c .before .args .height }) (c .if1 .taken)
-
-returns-2 : tie.Need-returns-2
-returns-2 c = too-wide (record { samples = now (c .before .before .args .img); width = c .before .before .args .width; height = c .before .before .args .height }) (c .if2 .taken)
-
-returns-3 : tie.Need-returns-3
-returns-3 c = no-height (record { samples = now (c .before .before .before .args .img); width = c .before .before .before .args .width; height = c .before .before .before .args .height }) (c .if3 .taken)
-
-returns-4 : tie.Need-returns-4
-returns-4 c = too-high (record { samples = now (c .before .before .before .before .args .img); width = c .before .before .before .before .args .width; height = c .before .before .before .before .args .height }) (c .if4 .taken)
-
-mul-result : tie.Need-mul-result
-mul-result c = fits-le (count-most (c .before .before .before .before .args .width) (c .before .before .before .before .args .height) (c .before .before .if2 .left) (c .if4 .left)) (fits-lit tt)
-
-returns-5 : tie.Need-returns-5
-returns-5 c = by-count (record { samples = now (c .before .before .before .before .args .img); width = c .before .before .before .before .args .width; height = c .before .before .before .before .args .height }) (c .before .before .before .if1 .left) (c .before .before .if2 .left) (c .before .if3 .left) (c .if4 .left)
+returns c = c .fits2 .ensures ∙ image-is (record { samples = now (c .before .before .args .img); width = c .before .before .args .width; height = c .before .before .args .height })
 
 pub is-image-spec : {M : Type 1} → statement M
-is-image-spec = tie.close (tie.spec returns returns-2 returns-3 returns-4 mul-result returns-5)
+is-image-spec = tie.close (tie.spec fits-requires returns)
