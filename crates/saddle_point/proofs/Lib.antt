@@ -12,3 +12,4 @@ pub mod ListLaws
 pub mod SolveLaws
 pub mod SensitivityLaws
 pub mod KernelLaws
+pub mod ColumnLaws
