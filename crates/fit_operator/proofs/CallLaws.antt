@@ -1,19 +1,20 @@
 -- Laws of the call: which way it goes, and that each way ends as it should.
-use mathlib.Core.Path.{_≡_, refl, sym, ap, _∙_}
-use mathlib.Core.Bool.{Bool, true, false}
+use mathlib.Core.Path.{_≡_, refl, sym, ap, _∙_, subst}
+use mathlib.Core.Bool.{Bool, true, false, cond}
 use mathlib.Core.List.{List, _++_}
 use Prim.Native.Nat.{ℕ, _*_, _≤_, _<_}
 use lib.Dec.{leb}
-use lib.ListN.{drop}
+use lib.ListN.{length, drop}
 use lib.Ieee.{Float}
 use borrow.Author.Tests.{le-leb, lt-leb}
 use Rattle.fit_operator.specs.declared.Operator.the-variants.{Built, Singular, BadRadius}
 use Rattle.fit_operator.specs.Loops.{tabulated}
 use Rattle.fit_operator.specs.Basis.{samples}
-use Rattle.fit_operator.specs.Inverse.{Reduced, reduceFrom, normalMatrix, inverseNormalMatrix}
+use Rattle.fit_operator.specs.Inverse.{Reduced, singular, reduced, reduceFrom, normalMatrix, inverseNormalMatrix}
 use Rattle.fit_operator.specs.Rows.{columnsOf, overlapOf}
 use Rattle.fit_operator.specs.Call.{Way, badRadius, none, built, wayFrom, wayOf, answerOf, columnsAfter, overlapAfter, Done}
 use Rattle.fit_operator.specs.Steps.{reducedBy, Kept, filled, rowAt, columnAt, overlapAt}
+use Rattle.fit_operator.proofs.ListLaws.{length-tabulated}
 use Rattle.fit_operator.proofs.InverseLaws.{first-of, second-of}
 use Rattle.fit_operator.proofs.RowLaws.{columns-is, overlap-is}
 
@@ -60,3 +61,24 @@ module _ (radius : ℕ) (columns overlap m m' : List Float) (regular : Bool) (h 
   pub built-ends : (columns' overlap' : List Float) → regular ≡ true → Kept radius m' columns columns' overlap' → Done radius columns overlap Built columns' overlap'
   built-ends columns' overlap' d k =
       ends radius columns overlap columns' overlap' (built (columnsOf radius m') (overlapOf radius m')) (way-is radius m m' regular true h e r d) (k .columns-is) (k .overlap-is)
+
+-- ---- the columns that are built are five a sample
+abbrev isBuilt : Way → Type 0
+isBuilt badRadius = ⊥
+isBuilt none = ⊥
+isBuilt (built c o) = Unit
+
+abbrev columnsIn : List Float → Way → List Float
+columnsIn d badRadius = d
+columnsIn d none = d
+columnsIn d (built c o) = c
+
+length-by : (radius : ℕ) (b : Bool) (r : Reduced) (c o : List Float) → cond b (wayFrom radius r) badRadius ≡ built c o → length c ≡ 5 * samples radius
+unfolding columnsOf
+length-by radius true (reduced m) c o e = ap (λ (w : Way). length (columnsIn c w)) (sym e) ∙ length-tabulated (5 * samples radius) _
+length-by radius true singular c o e = absurd (subst isBuilt (sym e) tt)
+length-by radius false r c o e = absurd (subst isBuilt (sym e) tt)
+
+pub built-length : (radius : ℕ) (c o : List Float) → wayOf radius ≡ built c o → length c ≡ 5 * samples radius
+unfolding wayOf
+built-length radius c o e = length-by radius (leb radius 7) (inverseNormalMatrix radius) c o e

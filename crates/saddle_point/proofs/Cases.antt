@@ -15,19 +15,19 @@ use Rattle.imageview.specs.Patch.{supportsPatch}
 use Rattle.fit_operator.specs.Call.{wayOf}
 use Rattle.fit_operator.specs.Inverse.{inverseNormalMatrix, pivotOf, swapped, scaled, cleared}
 use Rattle.fit_operator.specs.Rows.{columnsOf, overlapOf}
-use Rattle.saddle_point.specs.Fit.{fitAt}
-use Rattle.saddle_point.specs.Solve.{solve}
-use Rattle.saddle_point.specs.Between.{placeOf, cornersAt, blend}
-use Rattle.saddle_point.specs.Sensitivity.{slopeWithin, slopeAt, saddleJacobian, sensitivity, newtonStep}
-use Rattle.saddle_point.specs.Run.{runOf}
-use Rattle.saddle_point.specs.Covariance.{covarianceOf}
-use Rattle.saddle_point.specs.declared.SaddlePointConfig.{SaddlePointConfig}
-use Rattle.saddle_point.specs.declared.Covariance.{Covariance}
-use Rattle.saddle_point.specs.declared.Covariance.the-variants.{Known, Unknown}
+use Rattle.saddle_fit.specs.Fit.{fitAt}
+use Rattle.saddle_fit.specs.Solve.{solve}
+use Rattle.saddle_fit.specs.Between.{placeOf, cornersAt, blend}
+use Rattle.saddle_fit.specs.Sensitivity.{slopeWithin, slopeAt, saddleJacobian, sensitivity, newtonStep}
+use Rattle.saddle_fit.specs.Run.{runOf}
+use Rattle.saddle_fit.specs.Covariance.{covarianceOf}
+use Rattle.saddle_fit.specs.declared.SaddlePointConfig.{SaddlePointConfig}
+use Rattle.saddle_fit.specs.declared.Covariance.{Covariance}
+use Rattle.saddle_fit.specs.declared.Covariance.the-variants.{Known, Unknown}
 use Rattle.saddle_point.specs.declared.Refined.{Refined}
 use Rattle.saddle_point.specs.declared.Refined.the-variants.{Accepted, Rejected, OutOfBounds, IllConditioned, BadImage, BadRadius, BadLimit}
-use Rattle.saddle_point.specs.declared.Solved.{Solved}
-use Rattle.saddle_point.specs.declared.Solved.the-variants.{Refused, Saddle}
+use Rattle.saddle_fit.specs.declared.Solved.{Solved}
+use Rattle.saddle_fit.specs.declared.Solved.the-variants.{Refused, Saddle}
 use Rattle.saddle_point.specs.Refine.{refineOf, numberOf, Values, nothing, values, valuesOf}
 
 abbrev f32 : ℕ → Float

@@ -13,29 +13,29 @@ use Rattle.floats.specs.Whole.{floor}
 use Rattle.imageview.specs.Image.{Image, imageOf}
 use Rattle.imageview.specs.Patch.{inside, supportsPatch}
 use Rattle.imageview.proofs.PatchLaws.{before}
-use Rattle.saddle_point.specs.declared.PatchSaddle.{PatchSaddle}
-use Rattle.saddle_point.specs.declared.Slope.{Slope}
+use Rattle.saddle_fit.specs.declared.PatchSaddle.{PatchSaddle}
+use Rattle.saddle_fit.specs.declared.Slope.{Slope}
 use Rattle.saddle_point.specs.declared.Sloping.{Sloping}
-use Rattle.saddle_point.specs.declared.Jacobian.{Jacobian}
-use Rattle.saddle_point.specs.declared.Matrix.{Matrix}
-use Rattle.saddle_point.specs.declared.Seed.{Seed}
+use Rattle.saddle_fit.specs.declared.Jacobian.{Jacobian}
+use Rattle.saddle_fit.specs.declared.Matrix.{Matrix}
+use Rattle.saddle_fit.specs.declared.Seed.{Seed}
 use Rattle.saddle_point.specs.declared.Ended.{Ended}
 use Rattle.saddle_point.specs.declared.Estimate.{Estimate}
-use Rattle.saddle_point.specs.declared.Covariance.{Covariance}
-use Rattle.saddle_point.specs.declared.Covariance.the-variants.{Unknown}
-use Rattle.saddle_point.specs.declared.SaddlePointConfig.{SaddlePointConfig}
-use Rattle.saddle_point.specs.Numbers.{_⊕_, zero32, one32}
-use Rattle.saddle_point.specs.Fit.{Fit, noFit, fitted, fitAt, fitWithin, coefficients}
-use Rattle.saddle_point.specs.Between.{Place, placeOf}
-use Rattle.saddle_point.specs.Sensitivity.{Along, noWay, way, along, both, difference, slopeAt, slopeWithin, saddleJacobian, sensitivity, Sloped}
-use Rattle.saddle_point.specs.Covariance.{covarianceOf}
-use Rattle.saddle_point.specs.Run.{Task, Finish, atStart, settled, runOf, picked, stepsFrom, searchFrom}
-use Rattle.saddle_point.specs.Refine.{regular, single, estimate, closed, closedAt, finished}
-use Rattle.saddle_point.specs.Adding.{Sound, Within}
-use Rattle.saddle_point.specs.Tries.{taskAt}
+use Rattle.saddle_fit.specs.declared.Covariance.{Covariance}
+use Rattle.saddle_fit.specs.declared.Covariance.the-variants.{Unknown}
+use Rattle.saddle_fit.specs.declared.SaddlePointConfig.{SaddlePointConfig}
+use Rattle.saddle_fit.specs.Numbers.{_⊕_, zero32, one32}
+use Rattle.saddle_fit.specs.Fit.{Fit, noFit, fitted, fitAt, fitWithin, coefficients}
+use Rattle.saddle_fit.specs.Between.{Place, placeOf}
+use Rattle.saddle_fit.specs.Sensitivity.{regular, Along, noWay, way, along, both, difference, slopeAt, slopeWithin, saddleJacobian, sensitivity, Sloped}
+use Rattle.saddle_fit.specs.Covariance.{covarianceOf}
+use Rattle.saddle_fit.specs.Run.{Task, Finish, atStart, settled, runOf, picked, stepsFrom, searchFrom}
+use Rattle.saddle_point.specs.Refine.{single, estimate, closed, closedAt, finished}
+use Rattle.saddle_fit.specs.Adding.{Sound, Within}
+use Rattle.saddle_fit.specs.Tries.{taskAt}
 use Rattle.saddle_point.specs.Ending.{Ends, centred, Closes, wayOf, GoesX, GoesY}
-use Rattle.saddle_point.proofs.CacheLaws.{there, behind}
-use Rattle.saddle_point.proofs.PlaceLaws.{never}
+use Rattle.saddle_fit.proofs.CacheLaws.{there, behind}
+use Rattle.saddle_fit.proofs.PlaceLaws.{never}
 use Rattle.saddle_point.proofs.StepLaws.{no, yes}
 
 -- ---- the estimate by its fields

@@ -1,30 +1,38 @@
 -- A fit reads the first columns of an operator and no more, so two operators that agree there refine alike.
-use mathlib.Core.Path.{_≡_, refl, sym, ap, _∙_}
+use mathlib.Core.Path.{_≡_, refl, sym, ap, _∙_, subst}
 use mathlib.Core.Bool.{Bool, true, false, cond}
-use mathlib.Core.List.{List}
+use mathlib.Core.List.{List, _++_}
 use Prim.Native.Nat.{ℕ, zero, suc, _+_, _*_, _/_, _<_}
 use native.Mathlib.Omega.{arith}
 use lib.IntN.{ℤ, pos, negsuc, _+ℤ_}
-use lib.Ieee.{Float}
+use lib.ListN.{length, drop, List·getD-append}
+use lib.Ieee.{Float, nan}
 use Rattle.imageview.specs.Image.{Image}
 use Rattle.imageview.specs.Patch.{supportsPatch}
 use Rattle.fit_operator.specs.Basis.{samples}
+use Rattle.fit_operator.specs.Call as Operator
+use Rattle.fit_operator.specs.declared.Operator.{Operator}
+use Rattle.fit_operator.specs.declared.Operator.the-variants as Answer
 use Rattle.fit_operator.proofs.ListLaws.{turns-cong, tabulated-cong}
-use Rattle.saddle_point.specs.declared.SaddlePointConfig.{SaddlePointConfig}
-use Rattle.saddle_point.specs.declared.PatchSaddle.{PatchSaddle}
-use Rattle.saddle_point.specs.declared.Move.{Move}
-use Rattle.saddle_point.specs.declared.Solved.{Solved}
-use Rattle.saddle_point.specs.declared.Solved.the-variants.{Refused, Saddle}
+use Rattle.fit_operator.proofs.CallLaws.{built-length}
+use Rattle.saddle_fit.specs.declared.SaddlePointConfig.{SaddlePointConfig}
+use Rattle.saddle_fit.specs.declared.PatchSaddle.{PatchSaddle}
+use Rattle.saddle_fit.specs.declared.Move.{Move}
+use Rattle.saddle_fit.specs.declared.Seed.{Seed}
+use Rattle.saddle_fit.specs.declared.Solved.{Solved}
+use Rattle.saddle_fit.specs.declared.Solved.the-variants.{Refused, Saddle}
 use Rattle.saddle_point.specs.declared.Estimate.{Estimate}
 use Rattle.saddle_point.specs.declared.Refined.{Refined}
-use Rattle.saddle_point.specs.declared.Refined.the-variants.{Accepted, Rejected}
-use Rattle.saddle_point.specs.Numbers.{_⊕_, _⊖_, _⊗_, zero32, one32, half, at}
-use Rattle.saddle_point.specs.Fit.{sampleOf, coefficient, coefficients, Fit, noFit, fitted, fitWithin, fitAt}
-use Rattle.saddle_point.specs.Solve.{solve}
-use Rattle.saddle_point.specs.Between.{Place, placeOf, Fits, lacking, four, fits4, cornersAt, blend}
-use Rattle.saddle_point.specs.Sensitivity.{Sloped, noSlope, sloped, along, both, slopeAt}
-use Rattle.saddle_point.specs.Run.{Task, nearSeed, settled, norm2, Stand, Tried, passed, taken, judged, weighed, candidate, Search, orElse, searchFrom, Finish, atStart, atStand, picked, laterMove, stepsFrom, runOf}
-use Rattle.saddle_point.specs.Refine.{single, closed, closedAt, finished, fromSaddle, fromFit, centreOf, taskOf, refineWith}
+use Rattle.saddle_point.specs.declared.Refined.the-variants.{Accepted, Rejected, IllConditioned, BadRadius}
+use Rattle.saddle_fit.specs.Numbers.{_⊕_, _⊖_, _⊗_, zero32, one32, half, at}
+use Rattle.saddle_fit.specs.Fit.{sampleOf, coefficient, coefficients, Fit, noFit, fitted, fitWithin, fitAt}
+use Rattle.saddle_fit.specs.Solve.{solve}
+use Rattle.saddle_fit.specs.Between.{Place, placeOf, Fits, lacking, four, fits4, cornersAt, blend}
+use Rattle.saddle_fit.specs.Sensitivity.{Sloped, noSlope, sloped, along, both, slopeAt}
+use Rattle.saddle_fit.specs.Run.{Task, nearSeed, settled, norm2, Stand, Tried, passed, taken, judged, weighed, candidate, Search, orElse, searchFrom, Finish, atStart, atStand, picked, laterMove, stepsFrom, runOf}
+use Rattle.saddle_fit.specs.Tries.{taskAt}
+use Rattle.saddle_point.specs.Admission.{fittedWith, freshFit}
+use Rattle.saddle_point.specs.Refine.{single, closed, closedAt, finished, fromSaddle, fromFit}
 
 below : (n k i : ℕ) → k < n → i < 5 → 5 * k + i < 5 * n
 below n k i h l = omega arith
@@ -39,7 +47,7 @@ module _ (img : Image) (a b : List Float) (radius : ℕ) (same : (k : ℕ) → k
       zero32
       (λ k h s. ap (λ (c : Float). s ⊕ c ⊗ (sampleOf img radius x y k ⊖ sampleOf img radius x y (samples radius / 2))) (same (5 * k + i) (below (samples radius) k i h l)))
 
-  coefficients-same : (x y : ℕ) → coefficients img a radius x y ≡ coefficients img b radius x y
+  pub coefficients-same : (x y : ℕ) → coefficients img a radius x y ≡ coefficients img b radius x y
   unfolding coefficients
   coefficients-same x y = tabulated-cong 5 (coefficient img a radius x y) (coefficient img b radius x y) (coefficient-same x y)
 
@@ -73,12 +81,15 @@ picked-same : (r : Tried) (g h : Stand → Finish) (e : Finish) → ((s : Stand)
 picked-same passed g h e q = refl
 picked-same (taken s) g h e q = q s
 
-module _ (img : Image) (a b : List Float) (cfg : SaddlePointConfig) (x y : Float) (same : (k : ℕ) → k < 5 * samples (cfg .radius) → at a k ≡ at b k) where
+module _ (img : Image) (a b : List Float) (cfg : SaddlePointConfig) (cx cy : ℤ) (x y : Float) (same : (k : ℕ) → k < 5 * samples (cfg .radius) → at a k ≡ at b k) where
+  abbrev taskWith : List Float → Task
+  taskWith c = record { img = img; columns = c; cfg = cfg; centreX = cx; centreY = cy; seedX = x; seedY = y }
+
   abbrev ta : Task
-  ta = taskOf img a cfg x y
+  ta = taskWith a
 
   abbrev tb : Task
-  tb = taskOf img b cfg x y
+  tb = taskWith b
 
   judged-same : (f : PatchSaddle) (ox oy : Float) (w : Place) (v : Fits) → weighed ta f ox oy w v ≡ weighed tb f ox oy w v
   unfolding nearSeed
@@ -92,10 +103,10 @@ module _ (img : Image) (a b : List Float) (cfg : SaddlePointConfig) (x y : Float
   candidate-same : (f : PatchSaddle) (ox oy : Float) → candidate ta f ox oy ≡ candidate tb f ox oy
   unfolding candidate
   candidate-same f ox oy =
-      ap (λ (v : Fits). weighed ta f ox oy (placeOf (centreOf x) (centreOf y) ox oy) v)
-      (corners-same img a b (cfg .radius) same (placeOf (centreOf x) (centreOf y) ox oy .baseX) (placeOf (centreOf x) (centreOf y) ox oy .baseY))
-      ∙ judged-same f ox oy (placeOf (centreOf x) (centreOf y) ox oy)
-      (cornersAt img b (cfg .radius) (placeOf (centreOf x) (centreOf y) ox oy .baseX) (placeOf (centreOf x) (centreOf y) ox oy .baseY))
+      ap (λ (v : Fits). weighed ta f ox oy (placeOf cx cy ox oy) v)
+      (corners-same img a b (cfg .radius) same (placeOf cx cy ox oy .baseX) (placeOf cx cy ox oy .baseY))
+      ∙ judged-same f ox oy (placeOf cx cy ox oy)
+      (cornersAt img b (cfg .radius) (placeOf cx cy ox oy .baseX) (placeOf cx cy ox oy .baseY))
 
   search-same : (left : ℕ) (f : PatchSaddle) (ox oy : Float) (m : Move) (scale : Float) → searchFrom left ta f ox oy m scale ≡ searchFrom left tb f ox oy m scale
   unfolding searchFrom
@@ -127,8 +138,8 @@ module _ (img : Image) (a b : List Float) (cfg : SaddlePointConfig) (x y : Float
 
   finished-same : (overlap : List Float) (wanted : Bool) (f : PatchSaddle) (e : Finish) → finished ta overlap wanted f e ≡ finished tb overlap wanted f e
   finished-same overlap wanted f (atStart n) =
-      ap (λ (s : Sloped). cond (settled f) (closedAt ta overlap wanted (placeOf (centreOf x) (centreOf y) zero32 zero32) f n s) (single ta f n)) (slope-same img a b (cfg .radius) same (centreOf x) (centreOf y))
-      ∙ ap (λ (e : Estimate). cond (settled f) e (single ta f n)) (closed-same overlap wanted (placeOf (centreOf x) (centreOf y) zero32 zero32) f n (slopeAt img b (cfg .radius) (centreOf x) (centreOf y)))
+      ap (λ (s : Sloped). cond (settled f) (closedAt ta overlap wanted (placeOf cx cy zero32 zero32) f n s) (single ta f n)) (slope-same img a b (cfg .radius) same cx cy)
+      ∙ ap (λ (e : Estimate). cond (settled f) e (single ta f n)) (closed-same overlap wanted (placeOf cx cy zero32 zero32) f n (slopeAt img b (cfg .radius) cx cy))
   finished-same overlap wanted f (atStand s n) = refl
 
   saddle-same : (overlap : List Float) (wanted : Bool) (s : Solved) → fromSaddle ta overlap wanted s ≡ fromSaddle tb overlap wanted s
@@ -138,12 +149,59 @@ module _ (img : Image) (a b : List Float) (cfg : SaddlePointConfig) (x y : Float
       ap (λ (e : Estimate). cond (nearSeed ta (f .ux) (f .uy)) (Accepted e) (Rejected (f .«det_h»)))
       (ap (λ (e : Finish). finished ta overlap wanted f e) (run-same f) ∙ finished-same overlap wanted f (runOf tb f))
 
-  from-same : (overlap : List Float) (wanted : Bool) (f : Fit) → fromFit ta overlap wanted f ≡ fromFit tb overlap wanted f
+  pub from-same : (overlap : List Float) (wanted : Bool) (f : Fit) → fromFit ta overlap wanted f ≡ fromFit tb overlap wanted f
   from-same overlap wanted noFit = refl
   from-same overlap wanted (fitted l) = saddle-same overlap wanted (solve cfg l)
 
-  pub refine-same : (overlap : List Float) (wanted : Bool) → refineWith img cfg x y wanted a overlap ≡ refineWith img cfg x y wanted b overlap
-  unfolding refineWith
-  refine-same overlap wanted =
-      ap (λ (f : Fit). fromFit ta overlap wanted f) (fit-same img a b (cfg .radius) same (centreOf x) (centreOf y))
-      ∙ from-same overlap wanted (fitAt img b (cfg .radius) (centreOf x) (centreOf y))
+-- ---- an operator as it stands in the front of longer arrays
+abbrev isBuilt : Operator → Type 0
+isBuilt Answer.Built = Unit
+isBuilt Answer.Singular = ⊥
+isBuilt Answer.BadRadius = ⊥
+
+abbrev isSingular : Operator → Type 0
+isSingular Answer.Built = ⊥
+isSingular Answer.Singular = Unit
+isSingular Answer.BadRadius = ⊥
+
+abbrev isBad : Operator → Type 0
+isBad Answer.Built = ⊥
+isBad Answer.Singular = ⊥
+isBad Answer.BadRadius = Unit
+
+module _ (img : Image) (cfg : SaddlePointConfig) (seed : Seed) (wanted : Bool) where
+  agree : (c rest : List Float) (n : ℕ) → length c ≡ n → (k : ℕ) → k < n → at (c ++ rest) k ≡ at c k
+  agree c rest n e k h = List·getD-append c rest nan k (subst (λ (m : ℕ). k < m) (sym e) h)
+
+  front : (c rest overlap : List Float) → length c ≡ 5 * samples (cfg .radius) → fittedWith img cfg seed wanted (c ++ rest) overlap ≡ fittedWith img cfg seed wanted c overlap
+  front c rest overlap e =
+      ap (λ (l : List Float). fromFit (taskAt img (c ++ rest) cfg seed) overlap wanted (fitted l)) (coefficients-same img (c ++ rest) c (cfg .radius) (agree c rest (5 * samples (cfg .radius)) e) (seed .«centre_x») (seed .«centre_y»))
+      ∙ from-same img (c ++ rest) c cfg (pos (seed .«centre_x»)) (pos (seed .«centre_y»)) (seed .x) (seed .y) (agree c rest (5 * samples (cfg .radius)) e) overlap wanted (fitted (coefficients img c (cfg .radius) (seed .«centre_x») (seed .«centre_y»)))
+
+  by-way : (old overlap columns' overlap' : List Float) (w : Operator.Way) → ((c o : List Float) → w ≡ Operator.built c o → length c ≡ 5 * samples (cfg .radius)) → Operator.answerOf w ≡ Answer.Built → columns' ≡ Operator.columnsAfter (cfg .radius) old w → overlap' ≡ Operator.overlapAfter overlap w → fittedWith img cfg seed wanted columns' overlap' ≡ freshFit img cfg seed wanted w
+  by-way old overlap columns' overlap' Operator.badRadius l b p q = absurd (subst isBuilt (sym b) tt)
+  by-way old overlap columns' overlap' Operator.none l b p q = absurd (subst isBuilt (sym b) tt)
+  by-way old overlap columns' overlap' (Operator.built c o) l b p q =
+      ap (λ (v : List Float). fittedWith img cfg seed wanted v overlap') p
+      ∙ ap (λ (v : List Float). fittedWith img cfg seed wanted (c ++ drop (5 * samples (cfg .radius)) old) v) q
+      ∙ front c (drop (5 * samples (cfg .radius)) old) o (l c o refl)
+
+  pub fresh-built : (old overlap columns' overlap' : List Float) (r : Operator) → Operator.Done (cfg .radius) old overlap r columns' overlap' → r ≡ Answer.Built → fittedWith img cfg seed wanted columns' overlap' ≡ freshFit img cfg seed wanted (Operator.wayOf (cfg .radius))
+  fresh-built old overlap columns' overlap' r d e =
+      by-way old overlap columns' overlap' (Operator.wayOf (cfg .radius)) (built-length (cfg .radius)) (sym (d .answers) ∙ e) (d .leaves-columns) (d .leaves-overlap)
+
+  singular-way : (w : Operator.Way) → Operator.answerOf w ≡ Answer.Singular → IllConditioned zero32 ≡ freshFit img cfg seed wanted w
+  singular-way Operator.badRadius e = absurd (subst isSingular (sym e) tt)
+  singular-way Operator.none e = refl
+  singular-way (Operator.built c o) e = absurd (subst isSingular (sym e) tt)
+
+  pub fresh-singular : (old overlap columns' overlap' : List Float) (r : Operator) → Operator.Done (cfg .radius) old overlap r columns' overlap' → r ≡ Answer.Singular → IllConditioned zero32 ≡ freshFit img cfg seed wanted (Operator.wayOf (cfg .radius))
+  fresh-singular old overlap columns' overlap' r d e = singular-way (Operator.wayOf (cfg .radius)) (sym (d .answers) ∙ e)
+
+  bad-way : (w : Operator.Way) → Operator.answerOf w ≡ Answer.BadRadius → BadRadius ≡ freshFit img cfg seed wanted w
+  bad-way Operator.badRadius e = refl
+  bad-way Operator.none e = absurd (subst isBad (sym e) tt)
+  bad-way (Operator.built c o) e = absurd (subst isBad (sym e) tt)
+
+  pub fresh-bad : (old overlap columns' overlap' : List Float) (r : Operator) → Operator.Done (cfg .radius) old overlap r columns' overlap' → r ≡ Answer.BadRadius → BadRadius ≡ freshFit img cfg seed wanted (Operator.wayOf (cfg .radius))
+  fresh-bad old overlap columns' overlap' r d e = bad-way (Operator.wayOf (cfg .radius)) (sym (d .answers) ∙ e)

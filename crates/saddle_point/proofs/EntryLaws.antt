@@ -18,24 +18,26 @@ use Rattle.floats.specs.Whole.{roundAway}
 use Rattle.imageview.specs.Image.{Image, isImage}
 use Rattle.imageview.specs.Patch.{inside, supportsPatch}
 use Rattle.imageview.proofs.ImageLaws.{Good, good}
-use Rattle.saddle_point.specs.declared.SaddlePointConfig.{SaddlePointConfig}
-use Rattle.saddle_point.specs.declared.PatchSaddle.{PatchSaddle}
-use Rattle.saddle_point.specs.declared.Seed.{Seed}
+use Rattle.saddle_fit.specs.declared.SaddlePointConfig.{SaddlePointConfig}
+use Rattle.saddle_fit.specs.declared.PatchSaddle.{PatchSaddle}
+use Rattle.saddle_fit.specs.declared.Seed.{Seed}
 use Rattle.saddle_point.specs.declared.Estimate.{Estimate}
-use Rattle.saddle_point.specs.declared.Solved.{Solved}
-use Rattle.saddle_point.specs.declared.Solved.the-variants.{Refused, Saddle}
+use Rattle.saddle_fit.specs.declared.Solved.{Solved}
+use Rattle.saddle_fit.specs.declared.Solved.the-variants.{Refused, Saddle}
 use Rattle.saddle_point.specs.declared.Admitted.{Admitted}
 use Rattle.saddle_point.specs.declared.Admitted.the-variants as Admitted
 use Rattle.saddle_point.specs.declared.Refined.{Refined}
 use Rattle.saddle_point.specs.declared.Refined.the-variants.{Accepted, Rejected, OutOfBounds, IllConditioned, BadImage, BadRadius, BadLimit}
-use Rattle.saddle_point.specs.Fit.{Fit, fitted, fitAt, coefficients}
-use Rattle.saddle_point.specs.Solve.{solve}
-use Rattle.saddle_point.specs.Run.{Task, nearAlong, nearSeed, runOf}
-use Rattle.saddle_point.specs.Refine.{goodLimits, centreOf, taskOf, finished, fromSaddle, fromFit, refineWith, refineLent, tested}
-use Rattle.saddle_point.specs.Adding.{Sound, Within}
-use Rattle.saddle_point.specs.Tries.{taskAt}
-use Rattle.saddle_point.specs.Admission.{seedOf, admitOf}
-use Rattle.saddle_point.proofs.CacheLaws.{there}
+use Rattle.fit_operator.specs.Call as Operator
+use Rattle.saddle_fit.specs.Numbers.{zero32}
+use Rattle.saddle_fit.specs.Fit.{Fit, fitted, fitAt, coefficients}
+use Rattle.saddle_fit.specs.Solve.{solve}
+use Rattle.saddle_fit.specs.Run.{Task, nearAlong, nearSeed, runOf}
+use Rattle.saddle_point.specs.Refine.{goodLimits, centreOf, taskOf, finished, fromSaddle, fromFit, refineWith, refineLent, withOperator, tested, refineOf}
+use Rattle.saddle_fit.specs.Adding.{Sound, Within}
+use Rattle.saddle_fit.specs.Tries.{taskAt}
+use Rattle.saddle_point.specs.Admission.{seedOf, admitOf, freshFit}
+use Rattle.saddle_fit.proofs.CacheLaws.{there}
 use Rattle.saddle_point.proofs.StepLaws.{no, yes, differs}
 
 pub both-true : (a b : Bool) → (a && b) ≡ true → (a ≡ true) × (b ≡ true)
@@ -165,6 +167,21 @@ module _ (img : Image) (cfg : SaddlePointConfig) (x y : Float) (seed : Seed) (h 
     where
       answer : ℤ → ℤ → Refined
       answer cx cy = fromFit (record { img = img; columns = columns; cfg = cfg; centreX = cx; centreY = cy; seedX = x; seedY = y }) overlap wanted (fitAt img columns (cfg .radius) cx cy)
+
+  -- so is that with the operator built for it
+  pub fresh-answer : (wanted : Bool) (w : Operator.Way) → freshFit img cfg seed wanted w ≡ tested img cfg x y (withOperator img cfg x y wanted w)
+  unfolding refineLent
+  fresh-answer wanted Operator.badRadius = sym (tested-as img cfg x y BadRadius (Admitted.Good seed) h)
+  fresh-answer wanted Operator.none = sym (tested-as img cfg x y (IllConditioned zero32) (Admitted.Good seed) h)
+  fresh-answer wanted (Operator.built columns overlap) = good-answer wanted columns overlap
+
+pub good-refined : (img : Image) (cfg : SaddlePointConfig) (x y : Float) (seed : Seed) → admitOf img cfg x y ≡ Admitted.Good seed → (wanted : Bool) → freshFit img cfg seed wanted (Operator.wayOf (cfg .radius)) ≡ refineOf img cfg x y wanted
+unfolding refineOf
+good-refined img cfg x y seed h wanted = fresh-answer img cfg x y seed h wanted (Operator.wayOf (cfg .radius))
+
+pub other-refined : (img : Image) (cfg : SaddlePointConfig) (x y : Float) (wanted : Bool) (d : Admitted) → admitOf img cfg x y ≡ d → answered d (withOperator img cfg x y wanted (Operator.wayOf (cfg .radius))) ≡ refineOf img cfg x y wanted
+unfolding refineOf
+other-refined img cfg x y wanted d h = sym (tested-as img cfg x y (withOperator img cfg x y wanted (Operator.wayOf (cfg .radius))) d h)
 
 pub other-answer : (img : Image) (cfg : SaddlePointConfig) (x y : Float) (wanted : Bool) (columns overlap : List Float) (d : Admitted) → admitOf img cfg x y ≡ d → answered d (refineWith img cfg x y wanted columns overlap) ≡ refineLent img cfg x y wanted columns overlap
 unfolding refineLent

@@ -7,20 +7,20 @@ use native.Mathlib.Nat.{zero-add, add-zero}
 use native.Mathlib.Numerals.{add-one}
 use native.Mathlib.Omega.{arith}
 use lib.Ieee.{Float}
-use Rattle.saddle_point.specs.declared.PatchSaddle.{PatchSaddle}
-use Rattle.saddle_point.specs.declared.Move.{Move}
+use Rattle.saddle_fit.specs.declared.PatchSaddle.{PatchSaddle}
+use Rattle.saddle_fit.specs.declared.Move.{Move}
 use Rattle.saddle_point.specs.declared.Estimate.{Estimate}
-use Rattle.saddle_point.specs.Numbers.{_⊕_, _⊗_, zero32, half, one32}
-use Rattle.saddle_point.specs.Between.{placeOf}
-use Rattle.saddle_point.specs.Sensitivity.{slopeWithin, slopeAt, saddleJacobian, sensitivity, newtonStep}
-use Rattle.saddle_point.specs.Run.{Task, Stand, Tried, passed, taken, Search, Finish, atStart, atStand, settled, picked, orElse, laterMove, candidate, searchFrom, stepsFrom, runOf}
+use Rattle.saddle_fit.specs.Numbers.{_⊕_, _⊗_, zero32, half, one32}
+use Rattle.saddle_fit.specs.Between.{placeOf}
+use Rattle.saddle_fit.specs.Sensitivity.{slopeWithin, slopeAt, saddleJacobian, sensitivity, newtonStep}
+use Rattle.saddle_fit.specs.Run.{Task, Stand, Tried, passed, taken, Search, Finish, atStart, atStand, settled, picked, orElse, laterMove, candidate, searchFrom, stepsFrom, runOf}
 use Rattle.saddle_point.specs.Refine.{single, closed, closedAt, finished}
 use Rattle.saddle_point.specs.declared.Ended.{Ended}
-use Rattle.saddle_point.specs.declared.Candidate.{Candidate}
-use Rattle.saddle_point.specs.declared.Window.{Window}
-use Rattle.saddle_point.specs.declared.IntegerFits.{IntegerFits}
-use Rattle.saddle_point.specs.Cache.{Sized, Kept, Fresh}
-use Rattle.saddle_point.specs.Tries.{Tries}
+use Rattle.saddle_fit.specs.declared.Candidate.{Candidate}
+use Rattle.saddle_fit.specs.declared.Window.{Window}
+use Rattle.saddle_fit.specs.declared.IntegerFits.{IntegerFits}
+use Rattle.saddle_fit.specs.Cache.{Sized, Kept, Fresh}
+use Rattle.saddle_fit.specs.Tries.{Tries}
 use Rattle.saddle_point.specs.Ending.{onward, from, Going, Ends}
 
 pub no : {A : Type 0} (b : Bool) (x y : A) → b ≡ false → cond b x y ≡ y

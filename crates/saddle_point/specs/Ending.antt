@@ -5,23 +5,23 @@ use mathlib.Core.List.{List, []}
 use Prim.Native.Nat.{ℕ, _+_, _*_, _≤_}
 use lib.IntN.{pos, negsuc, _+ℤ_}
 use lib.Ieee.{Float}
-use Rattle.saddle_point.specs.declared.PatchSaddle.{PatchSaddle}
-use Rattle.saddle_point.specs.declared.Move.{Move}
+use Rattle.saddle_fit.specs.declared.PatchSaddle.{PatchSaddle}
+use Rattle.saddle_fit.specs.declared.Move.{Move}
 use Rattle.saddle_point.specs.declared.Estimate.{Estimate}
 use Rattle.saddle_point.specs.declared.Ended.{Ended}
-use Rattle.saddle_point.specs.declared.IntegerFits.{IntegerFits}
-use Rattle.saddle_point.specs.Cache.{Kept}
-use Rattle.saddle_point.specs.Between.{Place, placeOf}
+use Rattle.saddle_fit.specs.declared.IntegerFits.{IntegerFits}
+use Rattle.saddle_fit.specs.Cache.{Kept}
+use Rattle.saddle_fit.specs.Between.{Place, placeOf}
 use Rattle.imageview.specs.Image.{Image, imageOf}
 use Rattle.saddle_point.specs.declared.Sloping.{Sloping}
-use Rattle.saddle_point.specs.declared.Slope.{Slope}
-use Rattle.saddle_point.specs.declared.Seed.{Seed}
-use Rattle.saddle_point.specs.Numbers.{zero32}
-use Rattle.saddle_point.specs.Fit.{fitAt}
-use Rattle.saddle_point.specs.Tries.{taskAt}
-use Rattle.saddle_point.specs.Sensitivity as Sensitivity
-use Rattle.saddle_point.specs.Sensitivity.{slopeWithin}
-use Rattle.saddle_point.specs.Run.{Task, Stand, Tried, passed, taken, Search, searchFrom, stepsFrom, runOf}
+use Rattle.saddle_fit.specs.declared.Slope.{Slope}
+use Rattle.saddle_fit.specs.declared.Seed.{Seed}
+use Rattle.saddle_fit.specs.Numbers.{zero32}
+use Rattle.saddle_fit.specs.Fit.{fitAt}
+use Rattle.saddle_fit.specs.Tries.{taskAt}
+use Rattle.saddle_fit.specs.Sensitivity as Sensitivity
+use Rattle.saddle_fit.specs.Sensitivity.{slopeWithin}
+use Rattle.saddle_fit.specs.Run.{Task, Stand, Tried, passed, taken, Search, searchFrom, stepsFrom, runOf}
 use Rattle.saddle_point.specs.Refine.{single, closed, finished}
 
 -- what is handed on is what the whole run's end gives, whatever the operator's overlaps and whether the covariance is wanted

@@ -12,34 +12,27 @@ use Rattle.floats.specs.Root.{sqrt}
 use Rattle.imageview.specs.Image.{Image, isImage}
 use Rattle.imageview.specs.Patch.{supportsPatch}
 use Rattle.fit_operator.specs.Call as Operator
-use Rattle.saddle_point.specs.declared.SaddlePointConfig.{SaddlePointConfig}
-use Rattle.saddle_point.specs.declared.PatchSaddle.{PatchSaddle}
-use Rattle.saddle_point.specs.declared.Solved.{Solved}
-use Rattle.saddle_point.specs.declared.Solved.the-variants.{Refused, Saddle}
-use Rattle.saddle_point.specs.declared.Slope.{Slope}
-use Rattle.saddle_point.specs.declared.Jacobian.{Jacobian}
-use Rattle.saddle_point.specs.declared.Matrix.{Matrix}
+use Rattle.saddle_fit.specs.declared.SaddlePointConfig.{SaddlePointConfig}
+use Rattle.saddle_fit.specs.declared.PatchSaddle.{PatchSaddle}
+use Rattle.saddle_fit.specs.declared.Solved.{Solved}
+use Rattle.saddle_fit.specs.declared.Solved.the-variants.{Refused, Saddle}
+use Rattle.saddle_fit.specs.declared.Slope.{Slope}
+use Rattle.saddle_fit.specs.declared.Jacobian.{Jacobian}
+use Rattle.saddle_fit.specs.declared.Matrix.{Matrix}
 use Rattle.saddle_point.specs.declared.Estimate.{Estimate}
-use Rattle.saddle_point.specs.declared.Covariance.{Covariance}
-use Rattle.saddle_point.specs.declared.Covariance.the-variants.{Unknown}
+use Rattle.saddle_fit.specs.declared.Covariance.{Covariance}
+use Rattle.saddle_fit.specs.declared.Covariance.the-variants.{Unknown}
 use Rattle.saddle_point.specs.declared.Refined.{Refined}
 use Rattle.saddle_point.specs.declared.Refined.the-variants.{Accepted, Rejected, OutOfBounds, IllConditioned, BadImage, BadRadius, BadLimit}
-use Rattle.saddle_point.specs.Numbers.{_⊕_, zero32}
-use Rattle.saddle_point.specs.Fit.{Fit, noFit, fitted, fitAt}
-use Rattle.saddle_point.specs.Solve.{solve}
-use Rattle.saddle_point.specs.Between.{Place, placeOf}
-use Rattle.saddle_point.specs.Sensitivity.{Sloped, noSlope, sloped, slopeWithin, slopeAt, saddleJacobian, sensitivity, matrixDet}
-use Rattle.saddle_point.specs.Run.{Task, nearSeed, settled, Stand, Finish, atStart, atStand, runOf}
-use Rattle.saddle_point.specs.Covariance.{covarianceOf}
+use Rattle.saddle_fit.specs.Numbers.{_⊕_, zero32}
+use Rattle.saddle_fit.specs.Fit.{Fit, noFit, fitted, fitAt}
+use Rattle.saddle_fit.specs.Solve.{solve, scoreOf, goodLimit}
+use Rattle.saddle_fit.specs.Between.{Place, placeOf}
+use Rattle.saddle_fit.specs.Sensitivity.{regular, Sloped, noSlope, sloped, slopeWithin, slopeAt, saddleJacobian, sensitivity, matrixDet}
+use Rattle.saddle_fit.specs.Run.{Task, nearSeed, settled, Stand, Finish, atStart, atStand, runOf}
+use Rattle.saddle_fit.specs.Covariance.{covarianceOf}
 
 -- ---- the end of a run
--- the determinant of the window sensitivity is finite and not zero
-abbrev pub regular : Matrix → Bool
-regular m = finite (matrixDet m) && not (eq (matrixDet m) zero32)
-
-abbrev pub scoreOf : PatchSaddle → Float
-scoreOf f = sqrt binary32 (neg (f .«det_h»))
-
 -- the first fit, where the steps did not settle
 abbrev pub single : Task → PatchSaddle → ℕ → Estimate
 single t f n = record { x = ofInt binary32 (t .centreX) ⊕ f .ux; y = ofInt binary32 (t .centreY) ⊕ f .uy; score = scoreOf f; converged = false; tries = n; covariance = Unknown }
@@ -90,10 +83,6 @@ refineWith img cfg x y wanted columns overlap =
     fromFit t overlap wanted (fitAt img columns (cfg .radius) (t .centreX) (t .centreY))
 
 -- ---- the tests before it
--- finite and not below zero; -0.0 is not below it
-abbrev pub goodLimit : Float → Bool
-goodLimit v = finite v && not (lt v zero32)
-
 abbrev pub goodLimits : SaddlePointConfig → Bool
 goodLimits cfg = goodLimit (cfg .«det_margin») && goodLimit (cfg .«max_offset») && goodLimit (cfg .«min_abs_det»)
 

@@ -1,31 +1,31 @@
 // The end of a run: the estimate, whether it converged, and its covariance where that is wanted.
-use super::Covariance;
 use super::Estimate;
-use super::PatchSaddle;
-use super::SaddlePointConfig;
-use super::Seed;
-use super::Slope;
 use super::Sloping;
-use crate::between;
-use crate::fits;
-use crate::noise;
-use crate::sensitivity;
-use crate::solve;
 use crate::steps;
+use saddle_fit::Covariance;
+use saddle_fit::PatchSaddle;
+use saddle_fit::SaddlePointConfig;
+use saddle_fit::Seed;
+use saddle_fit::Slope;
+use saddle_fit::between;
+use saddle_fit::fits;
+use saddle_fit::noise;
+use saddle_fit::sensitivity;
+use saddle_fit::solve;
 ghost use mathlib.Core.Path.{_≡_};
 ghost use mathlib.Core.Bool.{true};
 ghost use Prim.Native.Nat.{_<_, _≤_};
 ghost use lib.IntN.{pos};
 ghost use Rattle.imageview.specs.Image.{imageOf};
-ghost use Rattle.saddle_point.specs.Numbers.{zero32};
-ghost use Rattle.saddle_point.specs.Fit.{coefficients};
-ghost use Rattle.saddle_point.specs.Sensitivity as Sensitivity;
-ghost use Rattle.saddle_point.specs.Run.{runOf};
-ghost use Rattle.saddle_point.specs.Run as Run;
+ghost use Rattle.saddle_fit.specs.Numbers.{zero32};
+ghost use Rattle.saddle_fit.specs.Fit.{coefficients};
+ghost use Rattle.saddle_fit.specs.Sensitivity as Sensitivity;
+ghost use Rattle.saddle_fit.specs.Run.{runOf};
+ghost use Rattle.saddle_fit.specs.Run as Run;
 ghost use Rattle.saddle_point.specs.Refine.{single, finished};
 ghost use Rattle.saddle_point.specs.Refine as Refine;
-ghost use Rattle.saddle_point.specs.Adding.{Sound, Within};
-ghost use Rattle.saddle_point.specs.Tries.{taskAt};
+ghost use Rattle.saddle_fit.specs.Adding.{Sound, Within};
+ghost use Rattle.saddle_fit.specs.Tries.{taskAt};
 ghost use Rattle.saddle_point.specs.Ending.{centred, Closes, GoesX, GoesY};
 
 // The first fit, where the steps did not settle.

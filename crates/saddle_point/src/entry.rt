@@ -1,20 +1,23 @@
 // One seed: document 01's tests in their order, the first fit, and what follows from it.
 use super::Admitted;
 use super::Refined;
-use super::SaddlePointConfig;
-use super::Seed;
-use super::Solved;
 use crate::closing;
-use crate::fits;
-use crate::solve;
-use crate::tries;
+use fit_operator::Operator;
+use saddle_fit::SaddlePointConfig;
+use saddle_fit::Seed;
+use saddle_fit::Solved;
+use saddle_fit::fits;
+use saddle_fit::solve;
+use saddle_fit::tries;
 ghost use mathlib.Core.Path.{_≡_};
 ghost use Rattle.imageview.specs.Image.{imageOf};
-ghost use Rattle.saddle_point.specs.Fit.{fitted, coefficients};
-ghost use Rattle.saddle_point.specs.Refine.{goodLimit, goodLimits, fromFit, refineLent};
-ghost use Rattle.saddle_point.specs.Adding.{Within};
-ghost use Rattle.saddle_point.specs.Tries.{taskAt};
-ghost use Rattle.saddle_point.specs.Admission.{admitOf};
+ghost use Rattle.saddle_fit.specs.Fit.{fitted, coefficients};
+ghost use Rattle.saddle_fit.specs.Solve.{goodLimit};
+ghost use Rattle.saddle_point.specs.Refine.{goodLimits, fromFit, refineLent, refineOf};
+ghost use Rattle.saddle_fit.specs.Adding.{Within};
+ghost use Rattle.saddle_fit.specs.Tries.{taskAt};
+ghost use Rattle.saddle_point.specs.Admission.{admitOf, fittedWith, freshFit};
+ghost use Rattle.fit_operator.specs.Call.{wayOf};
 
 // The refiner of one seed with an operator that is lent.
 pub fn refine_with(
@@ -46,6 +49,50 @@ pub fn refine_with(
         Admitted::NoRadius => Refined::BadRadius,
         Admitted::NoLimit => Refined::BadLimit,
         Admitted::NoPatch => Refined::OutOfBounds,
+    }
+}
+
+// The refiner of one seed; it builds its own operator, after the tests.
+pub fn refine(
+    img: &[u8],
+    width: usize,
+    height: usize,
+    cfg: SaddlePointConfig,
+    x: f32,
+    y: f32,
+    wanted: bool,
+) -> Refined
+    ensures { λ r. ⌜ r ≡ refineOf (imageOf (now (img .entry)) width height) cfg x y wanted ⌝ }
+{
+    let admitted = admit(img, width, height, cfg, x, y);
+    match admitted {
+        Admitted::Good(seed) => refine_fresh(img, width, height, cfg, seed, wanted),
+        Admitted::NoImage => Refined::BadImage,
+        Admitted::NoRadius => Refined::BadRadius,
+        Admitted::NoLimit => Refined::BadLimit,
+        Admitted::NoPatch => Refined::OutOfBounds,
+    }
+}
+
+// A seed that passed the tests, with the operator of the settings' radius; at radius 0 there is none.
+fn refine_fresh(
+    img: &[u8],
+    width: usize,
+    height: usize,
+    cfg: SaddlePointConfig,
+    seed: Seed,
+    wanted: bool,
+) -> Refined
+    requires { ⌜ Within (imageOf (now img) width height) (cfg .radius) (seed .«centre_x») (seed .«centre_y») ⌝ }
+    ensures { λ r. ⌜ r ≡ freshFit (imageOf (now (img .entry)) width height) cfg seed wanted (wayOf (cfg .radius)) ⌝ }
+{
+    let mut columns = [0.0f32; 1125];
+    let mut overlap = [0.0f32; 225];
+    let operator = fit_operator::fit_operator(cfg.radius, &mut columns, &mut overlap);
+    match operator {
+        Operator::Built => refine_seed(img, width, height, cfg, seed, wanted, &columns, &overlap),
+        Operator::Singular => Refined::IllConditioned(0.0),
+        Operator::BadRadius => Refined::BadRadius,
     }
 }
 
@@ -119,7 +166,7 @@ fn refine_seed(
     overlap: &[f32; 225],
 ) -> Refined
     requires { ⌜ Within (imageOf (now img) width height) (cfg .radius) (seed .«centre_x») (seed .«centre_y») ⌝ }
-    ensures { λ r. ⌜ r ≡ fromFit (taskAt (imageOf (now (img .entry)) width height) (now (columns .entry)) cfg seed) (now (overlap .entry)) wanted (fitted (coefficients (imageOf (now (img .entry)) width height) (now (columns .entry)) (cfg .radius) (seed .«centre_x») (seed .«centre_y»))) ⌝ }
+    ensures { λ r. ⌜ r ≡ fittedWith (imageOf (now (img .entry)) width height) cfg seed wanted (now (columns .entry)) (now (overlap .entry)) ⌝ }
 {
     let radius = cfg.radius;
     let cx = seed.centre_x;

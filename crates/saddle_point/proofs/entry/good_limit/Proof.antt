@@ -4,7 +4,7 @@ use mathlib.Core.Path.{sym, ap, _∙_}
 use mathlib.Core.Bool.{Bool, true, false, _&&_, not}
 use lib.Ieee.{ofBits, lt}
 use lib.Ieee.Scale.{finite}
-use Rattle.saddle_point.specs.Numbers.{zero32}
+use Rattle.saddle_fit.specs.Numbers.{zero32}
 use Rattle.saddle_point.proofs.entry.good_limit.Statement.{statement}
 use Rattle.saddle_point.proofs.entry.good_limit.Tie as tie
 

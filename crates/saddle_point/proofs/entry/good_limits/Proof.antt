@@ -2,7 +2,7 @@
 use borrow.Author.Needs.{needs}
 use mathlib.Core.Path.{sym, ap, _∙_}
 use mathlib.Core.Bool.{Bool, true, false, _&&_}
-use Rattle.saddle_point.specs.Refine.{goodLimit}
+use Rattle.saddle_fit.specs.Solve.{goodLimit}
 use Rattle.saddle_point.proofs.entry.good_limits.Statement.{statement}
 use Rattle.saddle_point.proofs.entry.good_limits.Tie as tie
 

@@ -1,10 +1,10 @@
 -- `saddle_point::steps::later_move` meets its contract: four formulas, one after the other.
 use borrow.Author.Needs.{needs}
 use mathlib.Core.Path.{ap, _∙_}
-use Rattle.saddle_point.specs.declared.Slope.{Slope}
-use Rattle.saddle_point.specs.declared.Jacobian.{Jacobian}
-use Rattle.saddle_point.specs.declared.Matrix.{Matrix}
-use Rattle.saddle_point.specs.Sensitivity.{saddleJacobian, sensitivity, newtonStep}
+use Rattle.saddle_fit.specs.declared.Slope.{Slope}
+use Rattle.saddle_fit.specs.declared.Jacobian.{Jacobian}
+use Rattle.saddle_fit.specs.declared.Matrix.{Matrix}
+use Rattle.saddle_fit.specs.Sensitivity.{saddleJacobian, sensitivity, newtonStep}
 use Rattle.saddle_point.proofs.steps.later_move.Statement.{statement}
 use Rattle.saddle_point.proofs.steps.later_move.Tie as tie
 

@@ -1,0 +1,38 @@
+-- `saddle_fit::between::blend` meets its contract: the five entries written out.
+use mathlib.Core.Path.{refl}
+use lib.Ieee.{ofBits}
+use Rattle.fit_operator.specs.Loops.{tabulated}
+use Rattle.saddle_fit.specs.Between.{blend}
+use borrow.Author.Needs.{needs}
+use Rattle.saddle_fit.proofs.between.blend.Statement.{statement}
+use Rattle.saddle_fit.proofs.between.blend.Tie as tie
+
+returns : tie.Need-returns
+unfolding blend tabulated ofBits
+returns c = refl
+
+pub blend-spec : {M : Type 1} → statement M
+blend-spec =
+    tie.close
+    (tie.spec
+    (λ c. search needs)
+    (λ c. search needs)
+    (λ c. search needs)
+    (λ c. search needs)
+    (λ c. search needs)
+    (λ c. search needs)
+    (λ c. search needs)
+    (λ c. search needs)
+    (λ c. search needs)
+    (λ c. search needs)
+    (λ c. search needs)
+    (λ c. search needs)
+    (λ c. search needs)
+    (λ c. search needs)
+    (λ c. search needs)
+    (λ c. search needs)
+    (λ c. search needs)
+    (λ c. search needs)
+    (λ c. search needs)
+    (λ c. search needs)
+    returns)

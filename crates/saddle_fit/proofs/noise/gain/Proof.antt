@@ -1,0 +1,27 @@
+-- `saddle_fit::noise::gain` meets its contract: the five entries written out.
+use mathlib.Core.Path.{refl}
+use Rattle.fit_operator.specs.Loops.{tabulated}
+use Rattle.saddle_fit.specs.Steps.{combined}
+use borrow.Author.Needs.{needs}
+use Rattle.saddle_fit.proofs.noise.gain.Statement.{statement}
+use Rattle.saddle_fit.proofs.noise.gain.Tie as tie
+
+returns : tie.Need-returns
+unfolding combined tabulated
+returns c = refl
+
+pub gain-spec : {M : Type 1} → statement M
+gain-spec =
+    tie.close
+    (tie.spec
+    (λ c. search needs)
+    (λ c. search needs)
+    (λ c. search needs)
+    (λ c. search needs)
+    (λ c. search needs)
+    (λ c. search needs)
+    (λ c. search needs)
+    (λ c. search needs)
+    (λ c. search needs)
+    (λ c. search needs)
+    returns)

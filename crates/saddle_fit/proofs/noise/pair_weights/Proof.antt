@@ -1,0 +1,17 @@
+-- `saddle_fit::noise::pair_weights` meets its contract: the nine sums written out.
+use mathlib.Core.Path.{refl}
+use lib.Ieee.{ofBits}
+use Rattle.fit_operator.specs.Loops.{turns, tabulated}
+use Rattle.saddle_fit.specs.Covariance.{pairWeight}
+use Rattle.saddle_fit.proofs.noise.pair_weights.Statement.{statement}
+use Rattle.saddle_fit.proofs.noise.pair_weights.Tie as tie
+
+returns : tie.Need-returns
+unfolding tabulated turns pairWeight ofBits
+returns c = refl
+
+pub pair-weights-spec : {M : Type 1} → statement M
+pair-weights-spec =
+    tie.close
+    (tie.spec
+    returns)

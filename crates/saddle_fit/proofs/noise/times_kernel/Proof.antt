@@ -1,0 +1,49 @@
+-- `saddle_fit::noise::times_kernel` meets its contract: the five sums written out.
+use mathlib.Core.Path.{refl}
+use lib.Ieee.{ofBits, neg}
+use Rattle.fit_operator.specs.Loops.{turns, tabulated}
+use Rattle.saddle_fit.specs.Sensitivity.{dot}
+use Rattle.saddle_fit.specs.Covariance.{timesKernel}
+use borrow.Author.Needs.{needs}
+use Rattle.saddle_fit.proofs.noise.times_kernel.Statement.{statement}
+use Rattle.saddle_fit.proofs.noise.times_kernel.Tie as tie
+
+returns : tie.Need-returns
+unfolding timesKernel tabulated dot turns ofBits neg
+returns c = refl
+
+pub times-kernel-spec : {M : Type 1} → statement M
+times-kernel-spec =
+    tie.close
+    (tie.spec
+    (λ c. search needs)
+    (λ c. search needs)
+    (λ c. search needs)
+    (λ c. search needs)
+    (λ c. search needs)
+    (λ c. search needs)
+    (λ c. search needs)
+    (λ c. search needs)
+    (λ c. search needs)
+    (λ c. search needs)
+    (λ c. search needs)
+    (λ c. search needs)
+    (λ c. search needs)
+    (λ c. search needs)
+    (λ c. search needs)
+    (λ c. search needs)
+    (λ c. search needs)
+    (λ c. search needs)
+    (λ c. search needs)
+    (λ c. search needs)
+    (λ c. search needs)
+    (λ c. search needs)
+    (λ c. search needs)
+    (λ c. search needs)
+    (λ c. search needs)
+    (λ c. search needs)
+    (λ c. search needs)
+    (λ c. search needs)
+    (λ c. search needs)
+    (λ c. search needs)
+    returns)

@@ -1,0 +1,27 @@
+-- `saddle_fit::sensitivity::difference` meets its contract: the five entries written out.
+use mathlib.Core.Path.{refl}
+use lib.Ieee.{ofBits}
+use Rattle.fit_operator.specs.Loops.{tabulated}
+use borrow.Author.Needs.{needs}
+use Rattle.saddle_fit.proofs.sensitivity.difference.Statement.{statement}
+use Rattle.saddle_fit.proofs.sensitivity.difference.Tie as tie
+
+returns : tie.Need-returns
+unfolding tabulated ofBits
+returns c = refl
+
+pub difference-spec : {M : Type 1} → statement M
+difference-spec =
+    tie.close
+    (tie.spec
+    (λ c. search needs)
+    (λ c. search needs)
+    (λ c. search needs)
+    (λ c. search needs)
+    (λ c. search needs)
+    (λ c. search needs)
+    (λ c. search needs)
+    (λ c. search needs)
+    (λ c. search needs)
+    (λ c. search needs)
+    returns)

@@ -1,0 +1,17 @@
+-- `saddle_fit::sensitivity::saddle_jacobian` meets its contract: the two rows of five written out.
+use mathlib.Core.Path.{refl}
+use lib.Ieee.{ofBits, neg}
+use Rattle.fit_operator.specs.Loops.{tabulated}
+use Rattle.saddle_fit.specs.Sensitivity.{saddleJacobian}
+use Rattle.saddle_fit.proofs.sensitivity.saddle_jacobian.Statement.{statement}
+use Rattle.saddle_fit.proofs.sensitivity.saddle_jacobian.Tie as tie
+
+returns : tie.Need-returns
+unfolding saddleJacobian tabulated ofBits neg
+returns c = refl
+
+pub saddle-jacobian-spec : {M : Type 1} → statement M
+saddle-jacobian-spec =
+    tie.close
+    (tie.spec
+    returns)

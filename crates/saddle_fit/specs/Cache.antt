@@ -1,0 +1,84 @@
+-- The nine kept fits: what a slot holds, and that each is the fresh fit at its centre.
+use mathlib.Core.Path.{_≡_}
+use mathlib.Core.Logic.{_⊎_}
+use mathlib.Core.Bool.{Bool, true, false}
+use mathlib.Core.List.{List, [], _∷_}
+use Prim.Native.Nat.{ℕ, _+_, _*_, _%_, _≤_, _<_}
+use lib.IntN.{pos}
+use lib.ListN.{length, getD}
+use lib.Ieee.{Float}
+use Rattle.imageview.specs.Image.{Image}
+use Rattle.saddle_fit.specs.declared.Corners.{Corners}
+use Rattle.saddle_fit.specs.declared.Around.{Around}
+use Rattle.saddle_fit.specs.declared.IntegerFits.{IntegerFits}
+use Rattle.saddle_fit.specs.declared.Looked.{Looked}
+use Rattle.saddle_fit.specs.Numbers.{at}
+use Rattle.saddle_fit.specs.Fit.{coefficients}
+use Rattle.saddle_fit.specs.Between.{Fits, lacking, four, cornersAt}
+
+-- the fit in a slot, and its centre
+abbrev pub fitIn : List Float → ℕ → List Float
+fitIn coefs slot = at coefs (5 * slot) ∷ at coefs (5 * slot + 1) ∷ at coefs (5 * slot + 2) ∷ at coefs (5 * slot + 3) ∷ at coefs (5 * slot + 4) ∷ []
+
+abbrev pub centreX : List ℕ → ℕ → ℕ
+centreX centres slot = getD centres (2 * slot) 0
+
+abbrev pub centreY : List ℕ → ℕ → ℕ
+centreY centres slot = getD centres (2 * slot + 1) 0
+
+-- the arrays' lengths, and the count's bound
+pub record Sized (fits : IntegerFits) : Type 0 where
+  pub centres : length (fits .centres) ≡ 18
+  pub coefs : length (fits .coefs) ≡ 45
+  pub count : fits .len < 18
+
+pub record Kept (img : Image) (columns : List Float) (radius : ℕ) (fits : IntegerFits) : Type 0 where
+  pub sized : Sized fits
+  pub fresh : (slot : ℕ) → slot < 9 → slot < fits .len → fitIn (fits .coefs) slot ≡ coefficients img columns radius (centreX (fits .centres) slot) (centreY (fits .centres) slot)
+  pub about : fits .«base_x» < 8192 → cornersAt img columns radius (pos (fits .«base_x»)) (pos (fits .«base_y»)) ≡ four (fits .corners)
+
+-- a cache that holds no fit is kept for every image and operator
+pub record Fresh (fits : IntegerFits) : Type 0 where
+  pub kept : (img : Image) (columns : List Float) (radius : ℕ) → Kept img columns radius fits
+
+-- a slot in use whose centre is (x, y), or none
+pub record Slot (fits : IntegerFits) (x y slot : ℕ) : Type 0 where
+  pub used : slot < 9 → slot < fits .len
+  pub at-x : slot < 9 → centreX (fits .centres) slot ≡ x
+  pub at-y : slot < 9 → centreY (fits .centres) slot ≡ y
+
+-- ---- storing
+abbrev pub fiveOf : List Float → List Float
+fiveOf l = at l 0 ∷ at l 1 ∷ at l 2 ∷ at l 3 ∷ at l 4 ∷ []
+
+-- one fit more: each slot in use then was in use before, or is the one that is written
+pub record Counted (len r : ℕ) : Type 0 where
+  pub small : r < 18
+  pub used : (slot : ℕ) → slot < 9 → slot < r → (slot < len) ⊎ (slot ≡ len % 9)
+
+pub record Stored (fits : IntegerFits) (x y : ℕ) (coefs : List Float) (r : IntegerFits) : Type 0 where
+  pub sized : Sized r
+  pub used : (slot : ℕ) → slot < 9 → slot < r .len → (slot < fits .len) ⊎ (slot ≡ fits .len % 9)
+  pub fit : fitIn (r .coefs) (fits .len % 9) ≡ fiveOf coefs
+  pub at-x : centreX (r .centres) (fits .len % 9) ≡ x
+  pub at-y : centreY (r .centres) (fits .len % 9) ≡ y
+  pub fit-else : (slot : ℕ) → (slot ≡ fits .len % 9 → ⊥) → fitIn (r .coefs) slot ≡ fitIn (fits .coefs) slot
+  pub x-else : (slot : ℕ) → (slot ≡ fits .len % 9 → ⊥) → centreX (r .centres) slot ≡ centreX (fits .centres) slot
+  pub y-else : (slot : ℕ) → (slot ≡ fits .len % 9 → ⊥) → centreY (r .centres) slot ≡ centreY (fits .centres) slot
+  pub corners : r .corners ≡ fits .corners
+  pub base-x : r .«base_x» ≡ fits .«base_x»
+  pub base-y : r .«base_y» ≡ fits .«base_y»
+
+-- ---- a look-up
+pub record Found (img : Image) (columns : List Float) (radius x y : ℕ) (r : Looked) : Type 0 where
+  pub coefs : r .coefs ≡ coefficients img columns radius x y
+  pub kept : Kept img columns radius (r .fits)
+
+-- ---- the four fits about a base
+abbrev pub fitsOf : Bool → Corners → Fits
+fitsOf true c = four c
+fitsOf false c = lacking
+
+pub record Surrounds (img : Image) (columns : List Float) (radius x y : ℕ) (r : Around) : Type 0 where
+  pub is : cornersAt img columns radius (pos x) (pos y) ≡ fitsOf (r .found) (r .fits .corners)
+  pub kept : Kept img columns radius (r .fits)

@@ -1,0 +1,115 @@
+-- How the saddle moves with the window: the slope of the coefficients along each axis, the Jacobian of the saddle, their product, and the Newton step.
+use mathlib.Core.Bool.{Bool, true, false, _&&_, not, cond}
+use mathlib.Core.List.{List, [], _∷_}
+use Prim.Native.Nat.{ℕ, zero, suc}
+use lib.IntN.{ℤ, pos, negsuc, _+ℤ_}
+use lib.Ieee.{Float, binary32, ofBits, lt, eq, neg}
+use lib.Ieee.Scale.{finite}
+use Rattle.imageview.specs.Image.{Image}
+use Rattle.fit_operator.specs.Loops.{turns, tabulated}
+use Rattle.saddle_fit.specs.declared.PatchSaddle.{PatchSaddle}
+use Rattle.saddle_fit.specs.declared.Corners.{Corners}
+use Rattle.saddle_fit.specs.declared.Slope.{Slope}
+use Rattle.saddle_fit.specs.declared.Jacobian.{Jacobian}
+use Rattle.saddle_fit.specs.declared.Matrix.{Matrix}
+use Rattle.saddle_fit.specs.declared.Move.{Move}
+use Rattle.saddle_fit.specs.Numbers.{_⊕_, _⊖_, _⊗_, _⊘_, zero32, minusZero32, one32, two, at}
+use Rattle.saddle_fit.specs.Fit.{Fit, noFit, fitted, fitAt}
+
+-- within four fits
+unfoldable pub slopeWithin : Corners → Float → Float → Slope
+unfolding tabulated
+slopeWithin c tx ty = record {
+  x = tabulated 5 (λ k. (one32 ⊖ ty) ⊗ (at (c .c10) k ⊖ at (c .c00) k) ⊕ ty ⊗ (at (c .c11) k ⊖ at (c .c01) k));
+  y = tabulated 5 (λ k. (one32 ⊖ tx) ⊗ (at (c .c01) k ⊖ at (c .c00) k) ⊕ tx ⊗ (at (c .c11) k ⊖ at (c .c10) k));
+}
+
+-- ---- at a pixel: the difference to the next fit, or from the one before where the next leaves the image
+pub data Sloped : Type 0 where
+  noSlope : Sloped
+  sloped : Slope → Sloped
+
+abbrev pub difference : List Float → List Float → List Float
+difference high low = tabulated 5 (λ k. zero32 ⊕ one32 ⊗ (at high k ⊖ at low k))
+
+pub data Along : Type 0 where
+  noWay : Along
+  way : List Float → Along
+
+abbrev pub along : Fit → Fit → Fit → Along
+along (fitted here) (fitted next) before = way (difference next here)
+along (fitted here) noFit (fitted before) = way (difference here before)
+along (fitted here) noFit noFit = noWay
+along noFit next before = noWay
+
+abbrev pub both : Along → Along → Sloped
+both (way x) (way y) = sloped (record { x = x; y = y })
+both (way x) noWay = noSlope
+both noWay y = noSlope
+
+unfoldable pub slopeAt : Image → List Float → ℕ → ℤ → ℤ → Sloped
+unfolding fitAt
+slopeAt img columns radius x y =
+    both (along (fitAt img columns radius x y) (fitAt img columns radius (x +ℤ pos 1) y) (fitAt img columns radius (x +ℤ negsuc 0) y))
+    (along (fitAt img columns radius x y) (fitAt img columns radius x (y +ℤ pos 1)) (fitAt img columns radius x (y +ℤ negsuc 0)))
+
+-- ---- the Jacobian of the saddle by the coefficients, two rows of five
+abbrev pub rowX : PatchSaddle → List Float
+rowX f = (two ⊗ f .ux) ∷ f .uy ∷ zero32 ∷ one32 ∷ zero32 ∷ []
+
+abbrev pub rowY : PatchSaddle → List Float
+rowY f = zero32 ∷ f .ux ∷ (two ⊗ f .uy) ∷ zero32 ∷ one32 ∷ []
+
+-- minus the inverse of the Hessian
+abbrev pub inverseDet : PatchSaddle → Float
+inverseDet f = one32 ⊘ f .«det_h»
+
+abbrev pub h00 : PatchSaddle → Float
+h00 f = neg two ⊗ f .c ⊗ inverseDet f
+
+abbrev pub h01 : PatchSaddle → Float
+h01 f = f .b ⊗ inverseDet f
+
+abbrev pub h11 : PatchSaddle → Float
+h11 f = neg two ⊗ f .a ⊗ inverseDet f
+
+unfoldable pub saddleJacobian : PatchSaddle → Jacobian
+unfolding tabulated
+saddleJacobian f = record {
+  first = tabulated 5 (λ k. h00 f ⊗ at (rowX f) k ⊕ h01 f ⊗ at (rowY f) k);
+  second = tabulated 5 (λ k. h01 f ⊗ at (rowX f) k ⊕ h11 f ⊗ at (rowY f) k);
+}
+
+-- a sum of five products, from -0.0 as the Rust's `sum` starts
+unfoldable pub dot : List Float → List Float → Float
+unfolding turns
+dot l r = turns 5 (λ k a. a ⊕ at l k ⊗ at r k) minusZero32
+
+-- the window sensitivity M, two by two
+unfoldable pub sensitivity : Jacobian → Slope → Matrix
+unfolding dot
+sensitivity j s = record { m00 = dot (j .first) (s .x); m01 = dot (j .first) (s .y); m10 = dot (j .second) (s .x); m11 = dot (j .second) (s .y) }
+
+abbrev pub matrixDet : Matrix → Float
+matrixDet m = m .m00 ⊗ m .m11 ⊖ m .m01 ⊗ m .m10
+
+-- the determinant of the window sensitivity is finite and not zero
+abbrev pub regular : Matrix → Bool
+regular m = finite (matrixDet m) && not (eq (matrixDet m) zero32)
+
+-- ---- the step toward the window in which the saddle lies at the centre
+-- 0.05
+abbrev pub leastGain : Float
+leastGain = ofBits binary32 0x3D4CCCCD
+
+-- of the gain G = -M where it is clearly positive, else the plain step u
+unfoldable pub newtonStep : Matrix → PatchSaddle → Move
+newtonStep m f =
+    let g00 = neg (m .m00) in
+    let g01 = neg (m .m01) in
+    let g10 = neg (m .m10) in
+    let g11 = neg (m .m11) in
+    let det = g00 ⊗ g11 ⊖ g01 ⊗ g10 in
+    cond (lt leastGain det && lt zero32 (g00 ⊕ g11))
+    (record { x = (g11 ⊗ f .ux ⊖ g01 ⊗ f .uy) ⊘ det; y = (g00 ⊗ f .uy ⊖ g10 ⊗ f .ux) ⊘ det })
+    (record { x = f .ux; y = f .uy })

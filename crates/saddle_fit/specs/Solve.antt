@@ -1,0 +1,46 @@
+-- The saddle of a fitted quadratic, or the determinant where it is refused: above minus the margin, too small, or with an offset that is not finite.
+use mathlib.Core.Bool.{Bool, _&&_, _||_, not, cond}
+use mathlib.Core.List.{List}
+use lib.Ieee.{Float, binary32, lt, neg}
+use lib.Ieee.Scale.{finite}
+use Rattle.floats.specs.Magnitude.{magnitude}
+use Rattle.floats.specs.Root.{sqrt}
+use Rattle.saddle_fit.specs.declared.SaddlePointConfig.{SaddlePointConfig}
+use Rattle.saddle_fit.specs.declared.PatchSaddle.{PatchSaddle}
+use Rattle.saddle_fit.specs.declared.Solved.{Solved}
+use Rattle.saddle_fit.specs.declared.Solved.the-variants.{Refused, Saddle}
+use Rattle.saddle_fit.specs.Numbers.{zero32, _⊖_, _⊗_, _⊘_, one32, two, four, at}
+
+-- det H = 4ac - b²
+abbrev pub determinant : Float → Float → Float → Float
+determinant a b c = four ⊗ a ⊗ c ⊖ b ⊗ b
+
+-- a tie at a limit is not refused
+abbrev pub flat : SaddlePointConfig → Float → Bool
+flat cfg det = lt (neg (cfg .«det_margin»)) det || lt (magnitude det) (cfg .«min_abs_det»)
+
+abbrev pub offsetX : List Float → Float → Float
+offsetX l inv = neg (two ⊗ at l 2 ⊗ at l 3 ⊖ at l 1 ⊗ at l 4) ⊗ inv
+
+abbrev pub offsetY : List Float → Float → Float
+offsetY l inv = (at l 1 ⊗ at l 3 ⊖ two ⊗ at l 0 ⊗ at l 4) ⊗ inv
+
+abbrev pub saddleOf : List Float → Float → Float → Float → PatchSaddle
+saddleOf l det x y = record { ux = x; uy = y; a = at l 0; b = at l 1; c = at l 2; «det_h» = det }
+
+abbrev pub solvedFrom : List Float → Float → Float → Float → Solved
+solvedFrom l det x y = cond (finite x && finite y) (Saddle (saddleOf l det x y)) (Refused det)
+
+unfoldable pub solve : SaddlePointConfig → List Float → Solved
+solve cfg l =
+    let det = determinant (at l 0) (at l 1) (at l 2) in
+    let inv = one32 ⊘ det in
+    cond (flat cfg det) (Refused det) (solvedFrom l det (offsetX l inv) (offsetY l inv))
+
+-- the root of minus the determinant
+abbrev pub scoreOf : PatchSaddle → Float
+scoreOf f = sqrt binary32 (neg (f .«det_h»))
+
+-- a setting that can be used: finite and not below zero; -0.0 is not below it
+abbrev pub goodLimit : Float → Bool
+goodLimit v = finite v && not (lt v zero32)
