@@ -4,3 +4,5 @@ pub mod StepLaws
 pub mod ClosingLaws
 pub mod EntryLaws
 pub mod ColumnLaws
+pub mod SpotLaws
+pub mod LentLaws

@@ -2,3 +2,4 @@
 pub mod Refine
 pub mod Ending
 pub mod Admission
+pub mod Spot

@@ -109,7 +109,8 @@ fn good_limit(v: f32) -> bool
     false
 }
 
-fn good_limits(cfg: SaddlePointConfig) -> bool
+// Document 01's test of the settings.
+pub fn good_limits(cfg: SaddlePointConfig) -> bool
     ensures { λ r. ⌜ r ≡ goodLimits cfg ⌝ }
 {
     if good_limit(cfg.det_margin) {
@@ -122,7 +123,7 @@ fn good_limits(cfg: SaddlePointConfig) -> bool
 }
 
 // The tests before the first fit.
-fn admit(
+pub fn admit(
     img: &[u8],
     width: usize,
     height: usize,

@@ -6,10 +6,13 @@ use saddle_fit::Seed;
 
 mod closing;
 mod entry;
+mod spots;
 mod steps;
 
+pub use entry::good_limits;
 pub use entry::refine;
 pub use entry::refine_with;
+pub use spots::spot_with;
 
 // Where the steps ended: settled or not, after how many tries, and where they settled the window's offset and fractions, the saddle and the four fits.
 pub struct Ended {
@@ -56,4 +59,10 @@ pub enum Refined {
     BadImage,
     BadRadius,
     BadLimit,
+}
+
+// Where a seed was refined to, if it was accepted.
+pub enum Spot {
+    At { x: f32, y: f32 },
+    Nowhere,
 }

@@ -1,0 +1,120 @@
+-- The spot of a run's end needs no slope: every way to close has the same place.
+use mathlib.Core.Path.{_≡_, refl, sym, ap, _∙_}
+use mathlib.Core.Bool.{Bool, true, false, _&&_, cond}
+use mathlib.Core.List.{List}
+use Prim.Native.Nat.{ℕ}
+use lib.IntN.{pos}
+use lib.Ieee.{Float, binary32, ofInt}
+use Rattle.imageview.specs.Image.{Image}
+use Rattle.saddle_fit.specs.declared.SaddlePointConfig.{SaddlePointConfig}
+use Rattle.saddle_fit.specs.declared.PatchSaddle.{PatchSaddle}
+use Rattle.saddle_fit.specs.declared.Slope.{Slope}
+use Rattle.saddle_fit.specs.declared.Seed.{Seed}
+use Rattle.saddle_fit.specs.declared.Solved.{Solved}
+use Rattle.saddle_fit.specs.declared.Solved.the-variants.{Refused, Saddle}
+use Rattle.saddle_fit.specs.declared.Covariance.{Covariance}
+use Rattle.saddle_fit.specs.declared.Covariance.the-variants.{Unknown}
+use Rattle.saddle_fit.specs.Numbers.{_⊕_, zero32, one32}
+use Rattle.saddle_fit.specs.Fit.{fitted}
+use Rattle.saddle_fit.specs.Solve.{solve}
+use Rattle.saddle_fit.specs.Between.{Place, placeOf}
+use Rattle.saddle_fit.specs.Sensitivity.{regular, Sloped, noSlope, sloped, slopeAt, slopeWithin, saddleJacobian, sensitivity}
+use Rattle.saddle_fit.specs.Covariance.{covarianceOf}
+use Rattle.saddle_fit.specs.Run.{Task, nearAlong, nearSeed, settled, runOf, searchFrom, stepsFrom, picked, Finish, atStart}
+use Rattle.saddle_fit.specs.Tries.{taskAt}
+use Rattle.saddle_point.specs.declared.Ended.{Ended}
+use Rattle.saddle_point.specs.declared.Estimate.{Estimate}
+use Rattle.saddle_point.specs.declared.Refined.{Refined}
+use Rattle.saddle_point.specs.declared.Refined.the-variants.{Accepted, Rejected, IllConditioned}
+use Rattle.saddle_point.specs.declared.Admitted.{Admitted}
+use Rattle.saddle_point.specs.declared.Admitted.the-variants as Admitted
+use Rattle.saddle_point.specs.declared.Spot.{Spot}
+use Rattle.saddle_point.specs.declared.Spot.the-variants.{At, Nowhere}
+use Rattle.saddle_point.specs.Refine.{single, estimate, closed, closedAt, finished, fromSaddle, fromFit, refineWith, refineLent}
+use Rattle.saddle_point.specs.Ending.{Ends}
+use Rattle.saddle_point.specs.Admission.{admitOf, fittedWith}
+use Rattle.saddle_point.specs.Spot.{spotAt, spotOf, Comes, Lands}
+use Rattle.saddle_point.proofs.StepLaws.{no, yes}
+use Rattle.saddle_point.proofs.EntryLaws.{good-answer, other-answer, answered, seed-refused, seed-accepted, seed-rejected}
+
+by-regular : (b : Bool) (t : Task) (ox oy : Float) (f : PatchSaddle) (n : ℕ) (v : Covariance) → spotAt (cond b (estimate t ox oy f true n v) (estimate t ox oy f false n Unknown)) ≡ spotAt (estimate t ox oy f false n Unknown)
+by-regular true t ox oy f n v = refl
+by-regular false t ox oy f n v = refl
+
+closed-spot : (t : Task) (overlap : List Float) (wanted : Bool) (ox oy : Float) (w : Place) (f : PatchSaddle) (n : ℕ) (s : Slope) → spotAt (closed t overlap wanted ox oy w f n s) ≡ spotAt (estimate t ox oy f false n Unknown)
+closed-spot t overlap wanted ox oy w f n s =
+    by-regular (regular (sensitivity (saddleJacobian f) s)) t ox oy f n (cond wanted (covarianceOf overlap (w .tx) (w .ty) (saddleJacobian f) (sensitivity (saddleJacobian f) s)) Unknown)
+
+centre-spot : (t : Task) (overlap : List Float) (wanted : Bool) (w : Place) (f : PatchSaddle) (n : ℕ) (s : Sloped) → spotAt (closedAt t overlap wanted w f n s) ≡ spotAt (estimate t zero32 zero32 f false n Unknown)
+centre-spot t overlap wanted w f n noSlope = refl
+centre-spot t overlap wanted w f n (sloped s) = closed-spot t overlap wanted zero32 zero32 w f n s
+
+-- ---- the ways out of `spot_from`
+module _ (img : Image) (columns : List Float) (cfg : SaddlePointConfig) (seed : Seed) (first : PatchSaddle) (r : Spot) where
+  abbrev task : Task
+  task = taskAt img columns cfg seed
+
+  pub comes-settled : settled first ≡ true → r ≡ At (ofInt binary32 (pos (seed .«centre_x»)) ⊕ zero32 ⊕ first .ux) (ofInt binary32 (pos (seed .«centre_y»)) ⊕ zero32 ⊕ first .uy) → Comes task first r
+  unfolding runOf
+  comes-settled h e =
+      record {
+        is = λ overlap wanted.
+            let s = searchFrom 4 task first zero32 zero32 (record { x = first .ux; y = first .uy }) one32 in
+            let w = placeOf (pos (seed .«centre_x»)) (pos (seed .«centre_y»)) zero32 zero32 in
+            let l = slopeAt img columns (cfg .radius) (pos (seed .«centre_x»)) (pos (seed .«centre_y»)) in
+            e
+            ∙ sym (ap (λ (v : Finish). spotAt (finished task overlap wanted first v)) (yes (settled first) (atStart 0) (picked (s .outcome) (λ v. stepsFrom 15 task v (s .count)) (atStart (s .count))) h)
+            ∙ ap spotAt (yes (settled first) (closedAt task overlap wanted w first 0 l) (single task first 0) h)
+            ∙ centre-spot task overlap wanted w first 0 l);
+      }
+
+  module _ (e : Ended) (ends : Ends task first e) where
+    pub comes-window : e .settled ≡ true → r ≡ At (ofInt binary32 (pos (seed .«centre_x»)) ⊕ e .ox ⊕ e .fit .ux) (ofInt binary32 (pos (seed .«centre_y»)) ⊕ e .oy ⊕ e .fit .uy) → Comes task first r
+    comes-window h k =
+        record {
+          is = λ overlap wanted.
+              let w = placeOf (pos (seed .«centre_x»)) (pos (seed .«centre_y»)) (e .ox) (e .oy) in
+              let s = slopeWithin (e .corners) (e .tx) (e .ty) in
+              k
+              ∙ sym (ap spotAt (ends .is overlap wanted ∙ yes (e .settled) (closed task overlap wanted (e .ox) (e .oy) w (e .fit) (e .tries) s) (single task first (e .tries)) h)
+              ∙ closed-spot task overlap wanted (e .ox) (e .oy) w (e .fit) (e .tries) s);
+        }
+
+    pub comes-first : e .settled ≡ false → r ≡ At (ofInt binary32 (pos (seed .«centre_x»)) ⊕ first .ux) (ofInt binary32 (pos (seed .«centre_y»)) ⊕ first .uy) → Comes task first r
+    comes-first h k =
+        record {
+          is = λ overlap wanted.
+              let w = placeOf (pos (seed .«centre_x»)) (pos (seed .«centre_y»)) (e .ox) (e .oy) in
+              k ∙ sym (ap spotAt (ends .is overlap wanted ∙ no (e .settled) (closed task overlap wanted (e .ox) (e .oy) w (e .fit) (e .tries) (slopeWithin (e .corners) (e .tx) (e .ty))) (single task first (e .tries)) h));
+        }
+
+-- ---- the first fit
+module _ (img : Image) (columns : List Float) (cfg : SaddlePointConfig) (seed : Seed) (here coef : List Float) (s : Solved) (fit : here ≡ coef) (solved : s ≡ solve cfg here) where
+  abbrev near : PatchSaddle → Bool
+  near f = nearAlong cfg (pos (seed .«centre_x»)) (f .ux) (seed .x) && nearAlong cfg (pos (seed .«centre_y»)) (f .uy) (seed .y)
+
+  abbrev answer : List Float → Bool → Refined
+  answer overlap wanted = fromFit (taskAt img columns cfg seed) overlap wanted (fitted coef)
+
+  pub lands-refused : (d : Float) → s ≡ Refused d → Lands answer Nowhere
+  lands-refused d e = record { is = λ overlap wanted. ap spotOf (seed-refused img columns overlap cfg seed wanted here coef s fit solved d e) }
+
+  pub lands-accepted : (f : PatchSaddle) (b : Bool) (r : Spot) → s ≡ Saddle f → b ≡ near f → b ≡ true → Comes (taskAt img columns cfg seed) f r → Lands answer r
+  lands-accepted f b r e n h k = record { is = λ overlap wanted. k .is overlap wanted ∙ ap spotOf (seed-accepted img columns overlap cfg seed wanted here coef s fit solved f b (finished (taskAt img columns cfg seed) overlap wanted f (runOf (taskAt img columns cfg seed) f)) e n h refl) }
+
+  pub lands-rejected : (f : PatchSaddle) (b : Bool) → s ≡ Saddle f → b ≡ near f → b ≡ false → Lands answer Nowhere
+  lands-rejected f b e n h = record { is = λ overlap wanted. ap spotOf (seed-rejected img columns overlap cfg seed wanted here coef s fit solved f b e n h) }
+
+-- ---- the tests
+module _ (img : Image) (columns : List Float) (cfg : SaddlePointConfig) (x y : Float) where
+  abbrev whole : List Float → Bool → Refined
+  whole overlap wanted = refineLent img cfg x y wanted columns overlap
+
+  pub lands-good : (seed : Seed) → admitOf img cfg x y ≡ Admitted.Good seed → (r : Spot) → Lands (λ overlap wanted. fittedWith img cfg seed wanted columns overlap) r → Lands whole r
+  lands-good seed h r l = record { is = λ overlap wanted. l .is overlap wanted ∙ ap spotOf (good-answer img cfg x y seed h wanted columns overlap) }
+
+  abbrev nowhere : Admitted → Type 0
+  nowhere d = (a : Refined) → Nowhere ≡ spotOf (answered d a)
+
+  pub lands-other : (d : Admitted) → admitOf img cfg x y ≡ d → nowhere d → Lands whole Nowhere
+  lands-other d h n = record { is = λ overlap wanted. n (refineWith img cfg x y wanted columns overlap) ∙ ap spotOf (other-answer img cfg x y wanted columns overlap d h) }

@@ -1,0 +1,73 @@
+-- `saddle_point::spots::spot_with` meets its contract: each answer of the tests is one law.
+use borrow.Author.Needs.{needs}
+use mathlib.Core.Path.{refl, sym, _∙_}
+use Rattle.imageview.specs.Image.{imageOf}
+use Rattle.saddle_point.proofs.EntryLaws.{good-within}
+use Rattle.saddle_point.proofs.SpotLaws.{lands-good, lands-other}
+use Rattle.saddle_point.proofs.spots.spot_with.Statement.{statement}
+use Rattle.saddle_point.proofs.spots.spot_with.Tie as tie
+
+admit-requires : tie.Need-admit-requires
+admit-requires c κs = search needs
+
+enum-known-admitted : tie.Need-enum-known-admitted
+enum-known-admitted c = search needs
+
+spot-of-seed-requires : tie.Need-spot-of-seed-requires
+spot-of-seed-requires c κs =
+    let a = c .before .before .before .before .before .args in
+    good-within (imageOf (a .img .now) (a .width) (a .height)) (a .cfg) (a .x) (a .y) (c .before .admitted .given .0 .0) (sym (c .before .before .before .admit .ensures) ∙ c .before .admitted .given .1)
+
+enum-told : tie.Need-enum-told
+enum-told c = search needs
+
+enum-told-2 : tie.Need-enum-told-2
+enum-told-2 c = search needs
+
+enum-told-3 : tie.Need-enum-told-3
+enum-told-3 c = search needs
+
+enum-told-4 : tie.Need-enum-told-4
+enum-told-4 c = search needs
+
+returns : tie.Need-returns
+returns c =
+    let a = c .before .before .before .before .before .before .args in
+    lands-good (imageOf (a .img .now) (a .width) (a .height)) (a .columns .now) (a .cfg) (a .x) (a .y) (c .before .before .admitted .given .0 .0) (sym (c .before .before .before .before .admit .ensures) ∙ c .before .before .admitted .given .1) _ (c .spot-of-seed .ensures)
+
+returns-2 : tie.Need-returns-2
+returns-2 c =
+    let a = c .before .before .before .before .args in
+    lands-other (imageOf (a .img .now) (a .width) (a .height)) (a .columns .now) (a .cfg) (a .x) (a .y) _ (sym (c .before .before .admit .ensures) ∙ c .enum-told .given .1) (λ a. refl)
+
+returns-3 : tie.Need-returns-3
+returns-3 c =
+    let a = c .before .before .before .before .args in
+    lands-other (imageOf (a .img .now) (a .width) (a .height)) (a .columns .now) (a .cfg) (a .x) (a .y) _ (sym (c .before .before .admit .ensures) ∙ c .enum-told2 .given .1) (λ a. refl)
+
+returns-4 : tie.Need-returns-4
+returns-4 c =
+    let a = c .before .before .before .before .args in
+    lands-other (imageOf (a .img .now) (a .width) (a .height)) (a .columns .now) (a .cfg) (a .x) (a .y) _ (sym (c .before .before .admit .ensures) ∙ c .enum-told3 .given .1) (λ a. refl)
+
+returns-5 : tie.Need-returns-5
+returns-5 c =
+    let a = c .before .before .before .before .args in
+    lands-other (imageOf (a .img .now) (a .width) (a .height)) (a .columns .now) (a .cfg) (a .x) (a .y) _ (sym (c .before .before .admit .ensures) ∙ c .enum-told4 .given .1) (λ a. refl)
+
+pub spot-with-spec : {M : Type 1} → statement M
+spot-with-spec =
+    tie.close
+    (tie.spec
+    admit-requires
+    enum-known-admitted
+    spot-of-seed-requires
+    enum-told
+    enum-told-2
+    enum-told-3
+    enum-told-4
+    returns
+    returns-2
+    returns-3
+    returns-4
+    returns-5)
