@@ -1,0 +1,96 @@
+-- Laws of the call: which way it goes, test by test, and that each way ends as it should.
+use mathlib.Core.Path.{_≡_, refl, sym, ap, _∙_}
+use mathlib.Core.Bool.{Bool, true, false, not, cond}
+use mathlib.Core.List.{List, _++_}
+use Prim.Native.Nat.{ℕ, _/_, _%_, _≤_, _<_}
+use lib.Dec.{leb, ltb, eqb}
+use lib.ListN.{length, drop}
+use lib.Ieee.{Float}
+use borrow.Author.Tests.{le-leb, lt-leb, lt-ltb, le-ltb, eq-eqb, ne-eqb}
+use Rattle.imageview.specs.Image.{Image, isImage}
+use Rattle.saddle_fit.specs.declared.SaddlePointConfig.{SaddlePointConfig}
+use Rattle.saddle_point.specs.Refine.{goodLimits}
+use Rattle.detect.specs.declared.Refinements.{Refinements}
+use Rattle.detect.specs.declared.Refinements.the-variants.{Refined, BadImage, BadRadius, BadLimit, BadLength, TooMany, BadOut}
+use Rattle.detect.specs.Refining.{recordsOf, Way, refused, wrote, wayOf, answerOf, outAfter, Done}
+use Rattle.detect.specs.Steps.{Filled}
+
+stops : (b : Bool) (v w : Way) → b ≡ true → cond b v w ≡ v
+stops b v w h = ap (λ (c : Bool). cond c v w) h
+
+goes : (b : Bool) (v w : Way) → b ≡ false → cond b v w ≡ w
+goes b v w h = ap (λ (c : Bool). cond c v w) h
+
+module _ (img : Image) (cfg : SaddlePointConfig) (corners out : List Float) where
+  abbrev last : Way
+  last = wrote (recordsOf img cfg corners (length corners / 3))
+
+  abbrev sixth : Way
+  sixth = cond (ltb (length out) (length corners)) (refused BadOut) last
+
+  abbrev fifth : Way
+  fifth = cond (ltb 4096 (length corners / 3)) (refused TooMany) sixth
+
+  abbrev fourth : Way
+  fourth = cond (not (eqb (length corners % 3) 0)) (refused BadLength) fifth
+
+  abbrev third : Way
+  third = cond (not (goodLimits cfg)) (refused BadLimit) fourth
+
+  abbrev second : Way
+  second = cond (not (leb (cfg .radius) 7)) (refused BadRadius) third
+
+  abbrev way : Way
+  way = wayOf img cfg corners (length out)
+
+  refuses : (r : Refinements) → way ≡ refused r → Done img cfg corners out r out
+  refuses r e = record { answers = sym (ap answerOf e); leaves = sym (ap (outAfter out) e) }
+
+  -- ---- test by test
+  first-no : isImage img ≡ false → way ≡ refused BadImage
+  unfolding wayOf
+  first-no h = stops (not (isImage img)) (refused BadImage) second (ap not h)
+
+  first-yes : isImage img ≡ true → way ≡ second
+  unfolding wayOf
+  first-yes h = goes (not (isImage img)) (refused BadImage) second (ap not h)
+
+  pub bad-image : isImage img ≡ false → Done img cfg corners out BadImage out
+  bad-image h = refuses BadImage (first-no h)
+
+  module _ (i : isImage img ≡ true) where
+    pub bad-radius : 7 < cfg .radius → Done img cfg corners out BadRadius out
+    bad-radius h = refuses BadRadius (first-yes i ∙ stops (not (leb (cfg .radius) 7)) (refused BadRadius) third (ap not (lt-leb (cfg .radius) 7 h)))
+
+    module _ (r : cfg .radius ≤ 7) where
+      to-third : way ≡ third
+      to-third = first-yes i ∙ goes (not (leb (cfg .radius) 7)) (refused BadRadius) third (ap not (le-leb (cfg .radius) 7 r))
+
+      pub bad-limit : goodLimits cfg ≡ false → Done img cfg corners out BadLimit out
+      bad-limit h = refuses BadLimit (to-third ∙ stops (not (goodLimits cfg)) (refused BadLimit) fourth (ap not h))
+
+      module _ (l : goodLimits cfg ≡ true) where
+        to-fourth : way ≡ fourth
+        to-fourth = to-third ∙ goes (not (goodLimits cfg)) (refused BadLimit) fourth (ap not l)
+
+        pub bad-length : (length corners % 3 ≡ 0 → ⊥) → Done img cfg corners out BadLength out
+        bad-length h = refuses BadLength (to-fourth ∙ stops (not (eqb (length corners % 3) 0)) (refused BadLength) fifth (ap not (ne-eqb (length corners % 3) 0 h)))
+
+        module _ (w : length corners % 3 ≡ 0) where
+          to-fifth : way ≡ fifth
+          to-fifth = to-fourth ∙ goes (not (eqb (length corners % 3) 0)) (refused BadLength) fifth (ap not (eq-eqb (length corners % 3) 0 w))
+
+          pub too-many : 4096 < length corners / 3 → Done img cfg corners out TooMany out
+          too-many h = refuses TooMany (to-fifth ∙ stops (ltb 4096 (length corners / 3)) (refused TooMany) sixth (lt-ltb 4096 (length corners / 3) h))
+
+          module _ (f : length corners / 3 ≤ 4096) where
+            to-sixth : way ≡ sixth
+            to-sixth = to-fifth ∙ goes (ltb 4096 (length corners / 3)) (refused TooMany) sixth (le-ltb 4096 (length corners / 3) f)
+
+            pub bad-out : length out < length corners → Done img cfg corners out BadOut out
+            bad-out h = refuses BadOut (to-sixth ∙ stops (ltb (length out) (length corners)) (refused BadOut) last (lt-ltb (length out) (length corners) h))
+
+            pub refined : length corners ≤ length out → (n : ℕ) (out' : List Float) → Filled img cfg corners out n out' → Done img cfg corners out (Refined (n / 3)) out'
+            refined h n out' d =
+                let e : way ≡ last = to-sixth ∙ goes (ltb (length out) (length corners)) (refused BadOut) last (le-ltb (length out) (length corners) h) in
+                record { answers = ap (λ (k : ℕ). Refined (k / 3)) (d .count) ∙ sym (ap answerOf e); leaves = d .leaves ∙ sym (ap (outAfter out) e) }

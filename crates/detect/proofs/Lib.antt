@@ -1,0 +1,3 @@
+-- Laws of refining a list.
+pub mod ListLaws
+pub mod CallLaws

@@ -1,0 +1,3 @@
+-- Refining a list of corners.
+pub mod Refining
+pub mod Steps

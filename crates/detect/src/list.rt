@@ -1,0 +1,83 @@
+// The list itself: one operator for all seeds.
+ghost use mathlib.Core.Path.{_≡_};
+ghost use mathlib.Core.List.{_∷_, [], _++_};
+ghost use Prim.Native.Nat.{_+_, _*_, _/_, _<_, _≤_};
+ghost use lib.ListN.{length, take, drop};
+ghost use Rattle.imageview.specs.Image.{imageOf};
+ghost use Rattle.fit_operator.specs.Call.{built, wayOf, columnsAfter};
+ghost use Rattle.detect.specs.Refining.{recordOf};
+ghost use Rattle.detect.specs.Steps.{Front, Filled, Usable};
+use fit_operator::Operator;
+use saddle_fit::SaddlePointConfig;
+use saddle_point::Spot;
+
+// How many numbers were written. Without an operator no seed is accepted.
+pub fn refine_list(
+    img: &[u8],
+    width: usize,
+    height: usize,
+    cfg: SaddlePointConfig,
+    corners: &[f32],
+    out: &mut [f32],
+) -> usize
+    requires { ⌜ length (now corners) ≤ length (now out) ⌝ }
+    ensures { λ n. ⌜ Filled (imageOf (now (img .entry)) width height) cfg (now (corners .entry)) (now (out .entry)) n (now (out .exit)) ⌝ }
+{
+    let mut columns = [0.0f32; 1125];
+    let mut overlap = [0.0f32; 225];
+    let operator = fit_operator::fit_operator(cfg.radius, &mut columns, &mut overlap);
+    match operator {
+        Operator::Built => refine_all(img, width, height, cfg, &columns, corners, out),
+        Operator::Singular => 0,
+        Operator::BadRadius => 0,
+    }
+}
+
+// All seeds in order.
+fn refine_all(
+    img: &[u8],
+    width: usize,
+    height: usize,
+    cfg: SaddlePointConfig,
+    columns: &[f32; 1125],
+    corners: &[f32],
+    out: &mut [f32],
+) -> usize
+    requires { ⌜ length (now corners) ≤ length (now out) ⌝ ∗ ⌜ Usable cfg (now columns) ⌝ }
+    ensures { λ n. ⌜ Filled (imageOf (now (img .entry)) width height) cfg (now (corners .entry)) (now (out .entry)) n (now (out .exit)) ⌝ }
+{
+    let n = corners.len() / 3;
+    let mut written = 0;
+    let mut i = 0;
+    while i < n {
+        let spot = saddle_point::spot_with(
+            img,
+            width,
+            height,
+            cfg,
+            corners[3 * i],
+            corners[3 * i + 1],
+            columns,
+        );
+        written = put(out, written, spot, corners[3 * i + 2]);
+        i += 1;
+    }
+    written
+}
+
+// The record of a seed, after so many numbers.
+fn put(out: &mut [f32], written: usize, spot: Spot, strength: f32) -> usize
+    requires { ⌜ written + 3 ≤ length (now out) ⌝ }
+    ensures { λ n. ⌜ n ≡ written + length (recordOf spot strength) ⌝ }
+    ensures { λ _. ⌜ now (out .exit) ≡ take written (now (out .entry)) ++ (recordOf spot strength ++ drop (written + length (recordOf spot strength)) (now (out .entry))) ⌝ }
+{
+    match spot {
+        Spot::At { x, y } => {
+            out[written] = x;
+            out[written + 1] = y;
+            out[written + 2] = strength;
+            written + 3
+        }
+        Spot::Nowhere => written,
+    }
+}
