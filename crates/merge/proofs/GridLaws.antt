@@ -21,7 +21,7 @@ use Rattle.merge.specs.Claims.{nowhere, at}
 use Rattle.merge.specs.Steps.{within, least, top, Chains, Falling, inCell, Walked, Member, Unlinked, Joinable, Linked, columnIn, rowIn, cellIn, total, cellsOf, meetsIn, Roomy, Chained, columnAt, rowAt, inOneCell, inThreeCells, inNineCells}
 use Rattle.merge.proofs.FlatLaws.{length-corners}
 use Rattle.merge.proofs.LeastLaws.{both-true, either-true, or-left, or-right, same-bool, least-three, least-same, least-none}
-use Rattle.merge.proofs.ChainLaws.{top-le, top-hit, top-above, chain-falling, chains-more}
+use Rattle.merge.proofs.ChainLaws.{top-le, top-none, top-hit, top-above, chain-falling, chains-more}
 
 -- ---- tests
 and-true : (a b : Bool) → a ≡ true → b ≡ true → (a && b) ≡ true
@@ -181,15 +181,25 @@ module _ {g : Cells} {list : List Float} {n : ℕ} {heads links : List ℕ} (k :
     pub past-column : (column row : ℕ) → g .across < column → best ≡ least (inOneCell g list d column row) n best
     past-column column row e = other-column column row (λ j q. let z : ⊥ = omega (arith, column-lt g (at (cornersOf list) j .x) (k .roomy .wide)) in z)
 
-    pub walked-cell :
-        (column row r : ℕ) → 0 < column → column ≤ g .across → row < g .down
-        → Walked list links (getD heads (row * g .across + (column - 1)) 0) d best r → r ≡ least (inOneCell g list d column row) n best
-    walked-cell column row r low high inside walked =
-        let c = row * g .across + (column - 1) in
-        let l : c < total g = cell-lt (g .across) (g .down) row (column - 1) inside (omega arith) in
+    pub walked-in : (c r : ℕ) → c < total g → Walked list links (getD heads c 0) d best r → r ≡ least (inCell (cellsOf g list n) c (within d list)) n best
+    walked-in c r l walked =
         walked (total g) c (cellsOf g list n) (k .chains .nexts) l (k .chains .tops c l)
         ∙ ap (λ (m : ℕ). least (inCell (cellsOf g list n) c (within d list)) m best) (cells-length g list n (k .there))
-        ∙ least-same (inCell (cellsOf g list n) c (within d list)) (inOneCell g list d column row) n best (λ j h. ap (λ (t : Bool). t && within d list j) (same j h))
+
+    -- a cell without a chain has nothing
+    pub empty-in : (c : ℕ) → c < total g → getD heads c 0 ≡ 0 → best ≡ least (inCell (cellsOf g list n) c (within d list)) n best
+    empty-in c l e =
+        least-none (inCell (cellsOf g list n) c (within d list)) n best
+        (λ j h. ap (λ (t : Bool). t && within d list j) (ne-eqb (getD (cellsOf g list n) j 0) c (top-none (cellsOf g list n) c (length (cellsOf g list n)) j (below j) (omega (arith, cells-length g list n (k .there))))))
+      where
+        below : (j : ℕ) → top (cellsOf g list n) c (length (cellsOf g list n)) ≤ j
+        below j = subst (λ (m : ℕ). m ≤ j) (sym e ∙ k .chains .tops c l) (omega arith)
+
+    pub cell-one :
+        (column row : ℕ) → 0 < column → column ≤ g .across
+        → least (inCell (cellsOf g list n) (row * g .across + (column - 1)) (within d list)) n best ≡ least (inOneCell g list d column row) n best
+    cell-one column row low high =
+        least-same (inCell (cellsOf g list n) (row * g .across + (column - 1)) (within d list)) (inOneCell g list d column row) n best (λ j h. ap (λ (t : Bool). t && within d list j) (same j h))
       where
         same : (j : ℕ) → j < n → eqb (getD (cellsOf g list n) j 0) (row * g .across + (column - 1)) ≡ (eqb (columnAt g list j + 1) column && eqb (rowAt g list j) row)
         same j h =

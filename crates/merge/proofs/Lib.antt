@@ -7,6 +7,7 @@ pub mod ChainLaws
 pub mod BoxLaws
 pub mod StepLaws
 pub mod GridLaws
+pub mod NoteLaws
 pub mod CallLaws
 pub mod GrowLaws
 pub mod Theorems

@@ -130,11 +130,7 @@ pub record Chained (g : Cells) (list : List Float) (n : ℕ) (heads links : List
   pub there : 3 * n ≤ length list
   pub chains : Chains (total g) (cellsOf g list n) heads links
 
--- some first corners are kept
-abbrev pub SomeChained : Cells → List Float → List ℕ → List ℕ → Type 0
-SomeChained g list heads links = (n : ℕ) × Chained g list n heads links
-
--- corner j is one of them
+-- corner j is one of some first corners that are kept
 abbrev pub Among : Cells → List Float → ℕ → List ℕ → List ℕ → Type 0
 Among g list j heads links = (n : ℕ) × Chained g list n heads links × (j < n)
 
@@ -153,6 +149,32 @@ inThreeCells g list d column row j = touch column (columnAt g list j) && eqb (ro
 
 abbrev pub inNineCells : Cells → List Float → Disc → ℕ → ℕ → ℕ → Bool
 inNineCells g list d column row j = touch column (columnAt g list j) && touch row (rowAt g list j) && within d list j
+
+-- ---- cells that are noted, to be walked in their order
+-- the lowest number that the first k noted cells have in the disc, of the first n corners, or `best` where that is lower
+unfoldable pub lowestNoted : Cells → List Float → ℕ → Disc → List ℕ → ℕ → ℕ → ℕ
+lowestNoted g list n d notes zero best = best
+lowestNoted g list n d notes (suc k) best = least (inCell (cellsOf g list n) (getD notes k 0) (within d list)) n (lowestNoted g list n d notes k best)
+
+-- the first k notes are cells of the grid
+pub record Noted (g : Cells) (notes : List ℕ) (k : ℕ) : Type 0 where
+  pub room : k ≤ length notes
+  pub inside : (i : ℕ) → i < k → getD notes i 0 < total g
+
+-- at most `most` cells more are noted, and what they have in the disc is what passes a test
+pub record NotedMore (most : ℕ) (g : Cells) (heads : List ℕ) (test : List Float → Disc → ℕ → Bool) (notes : List ℕ) (k : ℕ) (notes' : List ℕ) (k' : ℕ) : Type 0 where
+  pub few : k' ≤ k + most
+  pub noted : Noted g notes' k'
+  pub finds : (list : List Float) (n : ℕ) (links : List ℕ) → Chained g list n heads links → (d : Disc) (best : ℕ) → lowestNoted g list n d notes' k' best ≡ least (test list d) n (lowestNoted g list n d notes k best)
+
+-- some grid's first corners are kept, and k of its cells are noted
+abbrev pub SomeNoted : List Float → List ℕ → List ℕ → List ℕ → ℕ → Type 0
+SomeNoted list heads links notes k = (g : Cells) × (n : ℕ) × Chained g list n heads links × Noted g notes k
+
+-- what the walks find, whatever grid it is
+abbrev pub Sought : List Float → List ℕ → List ℕ → List ℕ → ℕ → Disc → ℕ → ℕ → Type 0
+Sought list heads links notes k d best r =
+    (g : Cells) (n : ℕ) → Chained g list n heads links → Noted g notes k → r ≡ lowestNoted g list n d notes k best
 
 -- ---- one corner, all corners, and the whole merge
 -- corner i found its place among the first `count`

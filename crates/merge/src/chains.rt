@@ -17,13 +17,13 @@ pub fn clear(s: &mut [u16])
     }
 }
 
-// j where it is lower than the best number yet and lies in the disc.
+// j where it lies in the disc and is lower than the best number yet. The disc is asked first, so that the choice needs no branch.
 fn lower(corners: &[f32], j: usize, disc: Disc, best: usize) -> usize
     requires { ⌜ 3 * j + 2 < length (now corners) ⌝ }
     ensures { λ r. ⌜ r ≡ pick disc (now (corners .entry)) j best ⌝ }
 {
-    if j < best {
-        if corners::near(corners, j, disc) {
+    if corners::near(corners, j, disc) {
+        if j < best {
             return j;
         }
         return best;

@@ -1,43 +1,74 @@
--- `merge::seek::lowest` meets its contract: three rows of three cells.
-use Rattle.merge.proofs.GridLaws.{down-room, nine-cells}
+-- `merge::seek::lowest` meets its contract: three rows of three cells are noted, and what is noted is walked.
+use Rattle.merge.proofs.GridLaws.{down-room}
+use Rattle.merge.proofs.NoteLaws.{nine-noted}
 use borrow.Author.Needs.{needs}
 use native.Mathlib.Omega.{arith}
 use Rattle.merge.proofs.seek.lowest.Statement.{statement}
 use Rattle.merge.proofs.seek.lowest.Tie as tie
 
-row-of-three-requires : tie.Need-row-of-three-requires
-row-of-three-requires c κs = search needs
+slice-aggregate-note-three : tie.Need-slice-aggregate-note-three
+slice-aggregate-note-three c = search needs
 
-add-row-of-three : tie.Need-add-row-of-three
-add-row-of-three c = omega arith
+note-three-requires : tie.Need-note-three-requires
+note-three-requires c κs = search needs
 
-row-of-three-requires-2 : tie.Need-row-of-three-requires-2
-row-of-three-requires-2 c κs = search needs
+add-note-three : tie.Need-add-note-three
+add-note-three c = omega arith
 
-add-row-of-three-2 : tie.Need-add-row-of-three-2
-add-row-of-three-2 c = let s = c .before .before .before .before .before in omega (arith, down-room (s .args .cells) (s .pre .0 .roomy))
+slice-aggregate-note-three-2 : tie.Need-slice-aggregate-note-three-2
+slice-aggregate-note-three-2 c = search needs
 
-row-of-three-requires-3 : tie.Need-row-of-three-requires-3
-row-of-three-requires-3 c κs = search needs
+note-three-requires-2 : tie.Need-note-three-requires-2
+note-three-requires-2 c κs =
+    let p = c .before .before in
+    let s = p .before .before .before .before .before in
+    (s .pre .0 .roomy, (s .pre .1 .0, (p .note-three .ensures .noted, omega arith)))
+
+add-note-three-2 : tie.Need-add-note-three-2
+add-note-three-2 c =
+    let s = c .before .before .before .before .before .before .before .before .before in
+    omega (arith, down-room (s .args .cells) (s .pre .0 .roomy))
+
+slice-aggregate-note-three-3 : tie.Need-slice-aggregate-note-three-3
+slice-aggregate-note-three-3 c = search needs
+
+note-three-requires-3 : tie.Need-note-three-requires-3
+note-three-requires-3 c κs =
+    let q = c .before .before in
+    let p = q .before .before .before in
+    let s = p .before .before .before .before .before in
+    (s .pre .0 .roomy, (s .pre .1 .0, (q .note-three2 .ensures .noted, omega arith)))
+
+slice-aggregate-walk-noted : tie.Need-slice-aggregate-walk-noted
+slice-aggregate-walk-noted c = search needs
+
+walk-noted-requires : tie.Need-walk-noted-requires
+walk-noted-requires c κs =
+    let r = c .before .before in
+    let s = r .before .before .before .before .before .before .before .before .before .before .before in
+    (s .args .cells, s .args .count, s .pre .0, r .note-three3 .ensures .noted)
 
 returns : tie.Need-returns
 returns c =
-    let o = c .row-of-three3 in
-    let p = c .before .row-of-three2 in
-    let q = c .before .before .row-of-three in
-    let s = c .before .before .before .before .before .before in
+    let r = c .before .before .before in
+    let q = r .before .before .before in
+    let p = q .before .before .before in
+    let s = p .before .before .before .before .before in
     let a = s .args in
-    let k = s .pre .0 in
-    let n = a .count in
-    nine-cells k (a .disc) n (a .column) (a .row) (q .result) (p .result) (o .result) (q .ensures n k) (p .ensures n k) (o .ensures n k)
+    nine-noted (a .cells) (a .corners .now) (a .count) (a .heads .now) (a .links .now) (s .pre .0) (a .disc) (a .count) (a .column) (a .row) (c .walk-noted .result) (p .note-three .ensures) (q .note-three2 .ensures) (r .note-three3 .ensures) (c .walk-noted .ensures)
 
 pub lowest-spec : {M : Type 1} → statement M
 lowest-spec =
     tie.close
     (tie.spec
-    row-of-three-requires
-    add-row-of-three
-    row-of-three-requires-2
-    add-row-of-three-2
-    row-of-three-requires-3
+    slice-aggregate-note-three
+    note-three-requires
+    add-note-three
+    slice-aggregate-note-three-2
+    note-three-requires-2
+    add-note-three-2
+    slice-aggregate-note-three-3
+    note-three-requires-3
+    slice-aggregate-walk-noted
+    walk-noted-requires
     returns)
