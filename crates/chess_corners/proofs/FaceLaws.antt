@@ -10,7 +10,10 @@ use Rattle.response.specs.Region.{Region}
 use Rattle.response.specs.Call as R
 use Rattle.merge.specs.declared.Merge.{Merge}
 use Rattle.merge.specs.Call as M
-use Rattle.chess_corners.specs.Face.{Responded, Merging, widthAfter, heightAfter, countAfter}
+use Rattle.saddle_fit.specs.declared.SaddlePointConfig.{SaddlePointConfig}
+use Rattle.detect.specs.declared.Refinements.{Refinements}
+use Rattle.detect.specs.Refining as L
+use Rattle.chess_corners.specs.Face.{Responded, Merging, Refining, widthAfter, heightAfter, countAfter, recordsAfter}
 
 pub responded : {img : Image} {ring : List ℤ} {radius : ℕ} {r : Region} {out : List Float} {answer : Response} {out' : List Float} (w h : ℕ) (known : Response)
     → answer ≡ known → R.Done img ring radius r out answer out' → Responded img ring radius r out w h (R.numberOf known) out' (widthAfter w known) (heightAfter h known)
@@ -29,4 +32,12 @@ merging count known e d = record {
   leaves-heads = d .leaves-heads;
   leaves-links = d .leaves-links;
   counts = ap (countAfter count) (sym e ∙ d .answers);
+}
+
+pub refining : {img : Image} {cfg : SaddlePointConfig} {corners out : List Float} {answer : Refinements} {out' : List Float} (count : ℕ) (known : Refinements)
+    → answer ≡ known → L.Done img cfg corners out answer out' → Refining img cfg corners out count (L.numberOf known) out' (recordsAfter count known)
+refining count known e d = record {
+  says = ap L.numberOf (sym e ∙ d .answers);
+  leaves = d .leaves;
+  counts = ap (recordsAfter count) (sym e ∙ d .answers);
 }

@@ -14,6 +14,11 @@ use Rattle.response.specs.Call as R
 use Rattle.merge.specs.declared.Merge.{Merge}
 use Rattle.merge.specs.declared.Merge.the-variants.{Merged, BadLength, TooMany, BadScratch, GridTooBig}
 use Rattle.merge.specs.Call as M
+use Rattle.saddle_fit.specs.declared.SaddlePointConfig.{SaddlePointConfig}
+use Rattle.detect.specs.declared.Refinements.{Refinements}
+use Rattle.detect.specs.declared.Refinements.the-variants as Refinements
+use Rattle.detect.specs.declared.Refinements.the-variants.{Refined, BadLimit}
+use Rattle.detect.specs.Refining as L
 
 -- ---- the response: the clamped width and height
 abbrev pub widthAfter : ℕ → Response → ℕ
@@ -52,3 +57,18 @@ pub record Merging (list : List Float) (radius : Float) (heads links : List ℕ)
   pub leaves-heads : heads' ≡ M.scratchAfter heads (M.wayOf list radius (length heads) (length links))
   pub leaves-links : links' ≡ M.scratchAfter links (M.wayOf list radius (length heads) (length links))
   pub counts : count' ≡ countAfter count (M.answerOf list (M.wayOf list radius (length heads) (length links)))
+
+-- ---- refining a list: the count of records written
+abbrev pub recordsAfter : ℕ → Refinements → ℕ
+recordsAfter old (Refined n) = n
+recordsAfter old Refinements.BadImage = old
+recordsAfter old Refinements.BadRadius = old
+recordsAfter old BadLimit = old
+recordsAfter old Refinements.BadLength = old
+recordsAfter old Refinements.TooMany = old
+recordsAfter old Refinements.BadOut = old
+
+pub record Refining (img : Image) (cfg : SaddlePointConfig) (corners out : List Float) (count : ℕ) (number : ℕ) (out' : List Float) (count' : ℕ) : Type 0 where
+  pub says : number ≡ L.numberOf (L.answerOf (L.wayOf img cfg corners (length out)))
+  pub leaves : out' ≡ L.outAfter out (L.wayOf img cfg corners (length out))
+  pub counts : count' ≡ recordsAfter count (L.answerOf (L.wayOf img cfg corners (length out)))

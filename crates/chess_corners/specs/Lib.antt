@@ -1,2 +1,3 @@
 -- What each exported function returns and writes, by the definitions of the calls that they wrap.
 pub mod Face
+pub mod Seed

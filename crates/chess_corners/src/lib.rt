@@ -1,10 +1,15 @@
 // The public face for C and Rust: one exported function a call, over numbers, references and slices. Each returns document 01's number, 0 where it is
 // done, and writes its further answers only then.
+mod seed;
+
+use detect::Refinements;
 use merge::Merge;
 use response::Response;
 use response::Roi;
+use saddle_fit::SaddlePointConfig;
 ghost use Rattle.response.specs.Call.{regionOf};
-ghost use Rattle.chess_corners.specs.Face.{Responded, Merging};
+ghost use Rattle.chess_corners.specs.Face.{Responded, Merging, Refining};
+ghost use Rattle.chess_corners.specs.Seed.{settings};
 
 // The ChESS response of the region (x0, y0) to (x1, y1), clamped to the image; 0, 10, 11, 13, 14 or 15.
 #[no_mangle]
@@ -68,5 +73,42 @@ pub extern "C" fn chess_corners_merge(
         Merge::TooMany => 16,
         Merge::BadScratch => 18,
         Merge::GridTooBig => 17,
+    }
+}
+
+// The corners that the refiner accepts, in input order with their own strength; 0, 10, 11, 12, 19, 16 or 15.
+#[no_mangle]
+pub extern "C" fn chess_corners_refine_list(
+    img: &[u8],
+    width: usize,
+    height: usize,
+    radius: usize,
+    det_margin: f32,
+    max_offset: f32,
+    min_abs_det: f32,
+    corners: &[f32],
+    out: &mut [f32],
+    count: &mut usize,
+) -> u32
+    ensures { λ r. ⌜ Refining (record { samples = now (img .entry); width = width; height = height }) (settings radius «det_margin» «max_offset» «min_abs_det») (now (corners .entry)) (now (out .entry)) (now (count .entry)) r (now (out .exit)) (now (count .exit)) ⌝ }
+{
+    let cfg = SaddlePointConfig {
+        radius,
+        det_margin,
+        max_offset,
+        min_abs_det,
+    };
+    let answer = detect::refine_corners_on_image(img, width, height, cfg, corners, out);
+    match answer {
+        Refinements::Refined(n) => {
+            *count = n;
+            0
+        }
+        Refinements::BadImage => 10,
+        Refinements::BadRadius => 11,
+        Refinements::BadLimit => 12,
+        Refinements::BadLength => 19,
+        Refinements::TooMany => 16,
+        Refinements::BadOut => 15,
     }
 }
