@@ -1,0 +1,209 @@
+-- What holds of every accepted answer: its score is above zero, its tries are at most 64, and each fit that was taken is a saddle that passed the box test.
+use mathlib.Core.Path.{_≡_, refl, sym, ap, _∙_, subst}
+use mathlib.Core.Bool.{Bool, true, false, _&&_, not, cond}
+use mathlib.Core.List.{List}
+use Prim.Native.Nat.{ℕ, zero, suc, _+_, _*_, _≤_}
+use native.Mathlib.Omega.{arith}
+use lib.Dec.{leb}
+use lib.Ieee.{Float, lt}
+use Rattle.imageview.specs.Image.{Image, isImage}
+use Rattle.imageview.specs.Patch.{supportsPatch}
+use Rattle.fit_operator.specs.Call as Operator
+use Rattle.saddle_fit.specs.declared.SaddlePointConfig.{SaddlePointConfig}
+use Rattle.saddle_fit.specs.declared.PatchSaddle.{PatchSaddle}
+use Rattle.saddle_fit.specs.declared.Move.{Move}
+use Rattle.saddle_fit.specs.declared.Slope.{Slope}
+use Rattle.saddle_fit.specs.declared.Solved.{Solved}
+use Rattle.saddle_fit.specs.declared.Solved.the-variants.{Refused, Saddle}
+use Rattle.saddle_fit.specs.declared.Covariance.{Covariance}
+use Rattle.saddle_fit.specs.declared.Covariance.the-variants.{Unknown}
+use Rattle.saddle_fit.specs.Numbers.{_⊕_, _⊗_, zero32, one32, half}
+use Rattle.saddle_fit.specs.Fit.{Fit, noFit, fitted, fitAt}
+use Rattle.saddle_fit.specs.Solve.{solve, scoreOf, goodLimit}
+use Rattle.saddle_fit.specs.Between.{Place, placeOf, Fits, lacking, four, cornersAt, blend}
+use Rattle.saddle_fit.specs.Covariance.{covarianceOf}
+use Rattle.saddle_fit.specs.Sensitivity.{regular, Sloped, noSlope, sloped, slopeAt, slopeWithin, saddleJacobian, sensitivity}
+use Rattle.saddle_fit.specs.Run.{Task, nearSeed, settled, norm2, Stand, Tried, passed, taken, judged, weighed, candidate, Search, orElse, searchFrom, Finish, atStart, atStand, picked, laterMove, stepsFrom, runOf}
+use Rattle.saddle_fit.proofs.SolveLaws.{score-above-zero}
+use Rattle.saddle_point.specs.declared.Estimate.{Estimate}
+use Rattle.saddle_point.specs.declared.Refined.{Refined}
+use Rattle.saddle_point.specs.declared.Refined.the-variants.{Accepted, Rejected, OutOfBounds, IllConditioned, BadImage, BadRadius, BadLimit}
+use Rattle.saddle_point.specs.Refine.{single, estimate, closed, closedAt, finished, fromSaddle, fromFit, centreOf, taskOf, refineWith, goodLimits, withOperator, tested, refineOf}
+use Rattle.saddle_point.proofs.EntryLaws.{both-true}
+
+-- a saddle of some fit
+pub record Solves (cfg : SaddlePointConfig) (f : PatchSaddle) : Type 0 where
+  pub fit : List Float
+  pub is : solve cfg fit ≡ Saddle f
+
+-- where a run stands, it stands at a saddle in the box about the seed
+pub record Boxed (t : Task) (s : Stand) : Type 0 where
+  pub solves : Solves (t .cfg) (s .fit)
+  pub near : nearSeed t (s .ox ⊕ s .fit .ux) (s .oy ⊕ s .fit .uy) ≡ true
+
+abbrev OfTried : Task → Tried → Type 0
+OfTried t passed = Unit
+OfTried t (taken s) = Boxed t s
+
+-- how a run ends: at a stand in the box, after at most so many tries
+abbrev pub Within : Task → ℕ → Finish → Type 0
+Within t most (atStart n) = n ≤ most
+Within t most (atStand s n) = Boxed t s × (n ≤ most)
+
+module _ (t : Task) where
+  -- ---- one candidate
+  by-tests : (f g : PatchSaddle) (ox oy : Float) (w : Place) (s : Stand) (b : Bool) → Solves (t .cfg) (s .fit) → b ≡ (lt (norm2 g) (norm2 f) && nearSeed t (s .ox ⊕ s .fit .ux) (s .oy ⊕ s .fit .uy)) → OfTried t (cond b (taken s) passed)
+  by-tests f g ox oy w s true l e = record { solves = l; near = both-true (lt (norm2 g) (norm2 f)) (nearSeed t (s .ox ⊕ s .fit .ux) (s .oy ⊕ s .fit .uy)) (sym e) .1 }
+  by-tests f g ox oy w s false l e = tt
+
+  by-fits : (f : PatchSaddle) (ox oy : Float) (w : Place) (v : Fits) → OfTried t (weighed t f ox oy w v)
+  by-fits f ox oy w lacking = tt
+  by-fits f ox oy w (four c) = by-solved (solve (t .cfg) (blend c (w .tx) (w .ty))) refl
+    where
+      by-solved : (v : Solved) → solve (t .cfg) (blend c (w .tx) (w .ty)) ≡ v → OfTried t (judged t f ox oy w c v)
+      by-solved (Refused d) e = tt
+      by-solved (Saddle g) e = by-tests f g ox oy w (record { ox = ox; oy = oy; place = w; corners = c; fit = g }) (lt (norm2 g) (norm2 f) && nearSeed t (ox ⊕ g .ux) (oy ⊕ g .uy)) (record { fit = blend c (w .tx) (w .ty); is = e }) refl
+
+  candidate-boxed : (f : PatchSaddle) (ox oy : Float) → OfTried t (candidate t f ox oy)
+  unfolding candidate
+  candidate-boxed f ox oy =
+      let w = placeOf (t .centreX) (t .centreY) ox oy in
+      by-fits f ox oy w (cornersAt (t .img) (t .columns) (t .cfg .radius) (w .baseX) (w .baseY))
+
+  -- ---- the candidates of a step
+  else-boxed : (o : Tried) (r : Search) → OfTried t o → OfTried t (r .outcome) → OfTried t (orElse o r .outcome)
+  else-boxed passed r p q = q
+  else-boxed (taken s) r p q = p
+
+  else-few : (left : ℕ) (o : Tried) (r : Search) → r .count ≤ left → orElse o r .count ≤ suc left
+  else-few left passed r h = omega arith
+  else-few left (taken s) r h = omega arith
+
+  search-boxed : (left : ℕ) (f : PatchSaddle) (ox oy : Float) (m : Move) (scale : Float) → OfTried t (searchFrom left t f ox oy m scale .outcome)
+  unfolding searchFrom
+  search-boxed zero f ox oy m scale = tt
+  search-boxed (suc left) f ox oy m scale =
+      else-boxed (candidate t f (ox ⊕ scale ⊗ m .x) (oy ⊕ scale ⊗ m .y)) (searchFrom left t f ox oy m (scale ⊗ half)) (candidate-boxed f (ox ⊕ scale ⊗ m .x) (oy ⊕ scale ⊗ m .y)) (search-boxed left f ox oy m (scale ⊗ half))
+
+  search-few : (left : ℕ) (f : PatchSaddle) (ox oy : Float) (m : Move) (scale : Float) → searchFrom left t f ox oy m scale .count ≤ left
+  unfolding searchFrom
+  search-few zero f ox oy m scale = omega arith
+  search-few (suc left) f ox oy m scale = else-few left (candidate t f (ox ⊕ scale ⊗ m .x) (oy ⊕ scale ⊗ m .y)) (searchFrom left t f ox oy m (scale ⊗ half)) (search-few left f ox oy m (scale ⊗ half))
+
+  -- ---- the steps
+  picked-within : (most : ℕ) (o : Tried) (go : Stand → Finish) (stay : Finish) → OfTried t o → ((s : Stand) → Boxed t s → Within t most (go s)) → Within t most stay → Within t most (picked o go stay)
+  picked-within most passed go stay p q r = r
+  picked-within most (taken s) go stay p q r = q s p
+
+  either : (most : ℕ) (b : Bool) (e f : Finish) → Within t most e → Within t most f → Within t most (cond b e f)
+  either most true e f p q = p
+  either most false e f p q = q
+
+  more : (n k left most : ℕ) → n + 4 * suc left ≤ most → k ≤ 4 → n + k + 4 * left ≤ most
+  more n k left most h l = omega arith
+
+  here : (n left most : ℕ) → n + 4 * left ≤ most → n ≤ most
+  here n left most h = omega arith
+
+  steps-within : (most left : ℕ) (s : Stand) (n : ℕ) → Boxed t s → n + 4 * left ≤ most → Within t most (stepsFrom left t s n)
+  unfolding stepsFrom
+  steps-within most zero s n b h = (b, here n zero most h)
+  steps-within most (suc left) s n b h =
+      let r = searchFrom 4 t (s .fit) (s .ox) (s .oy) (laterMove s) one32 in
+      let k : n + r .count + 4 * left ≤ most = more n (r .count) left most h (search-few 4 (s .fit) (s .ox) (s .oy) (laterMove s) one32) in
+      either most (settled (s .fit)) (atStand s n) (picked (r .outcome) (λ s'. stepsFrom left t s' (n + r .count)) (atStand s (n + r .count)))
+      (b, here n (suc left) most h)
+      (picked-within most (r .outcome) (λ s'. stepsFrom left t s' (n + r .count)) (atStand s (n + r .count)) (search-boxed 4 (s .fit) (s .ox) (s .oy) (laterMove s) one32) (λ s' b'. steps-within most left s' (n + r .count) b' k) (b, here (n + r .count) left most k))
+
+  pub run-within : (f : PatchSaddle) → Within t 64 (runOf t f)
+  unfolding runOf
+  run-within f =
+      let m : Move = record { x = f .ux; y = f .uy } in
+      let r = searchFrom 4 t f zero32 zero32 m one32 in
+      let k : r .count ≤ 4 = search-few 4 f zero32 zero32 m one32 in
+      either 64 (settled f) (atStart 0) (picked (r .outcome) (λ s. stepsFrom 15 t s (r .count)) (atStart (r .count)))
+      (omega arith)
+      (picked-within 64 (r .outcome) (λ s. stepsFrom 15 t s (r .count)) (atStart (r .count)) (search-boxed 4 f zero32 zero32 m one32) (λ s b. steps-within 64 15 s (r .count) b (sum (r .count) k)) (top (r .count) k))
+    where
+      sum : (n : ℕ) → n ≤ 4 → n + 4 * 15 ≤ 64
+      sum n h = omega arith
+      top : (n : ℕ) → n ≤ 4 → n ≤ 64
+      top n h = omega arith
+
+-- ---- the end
+pub record Sound (e : Estimate) : Type 0 where
+  pub score : lt zero32 (e .score) ≡ true
+  pub tries : e .tries ≤ 64
+
+abbrev Answers : Refined → Type 0
+Answers (Accepted e) = Sound e
+Answers (Rejected d) = Unit
+Answers OutOfBounds = Unit
+Answers (IllConditioned d) = Unit
+Answers BadImage = Unit
+Answers BadRadius = Unit
+Answers BadLimit = Unit
+
+module _ (t : Task) (overlap : List Float) (wanted : Bool) (good : goodLimit (t .cfg .«det_margin») ≡ true) where
+  scored : (f : PatchSaddle) → Solves (t .cfg) f → lt zero32 (scoreOf f) ≡ true
+  scored f s = score-above-zero (t .cfg) (s .fit) f good (s .is)
+
+  pick : (b : Bool) (e f : Estimate) → Sound e → Sound f → Sound (cond b e f)
+  pick true e f p q = p
+  pick false e f p q = q
+
+  closed-sound : (ox oy : Float) (w : Place) (f : PatchSaddle) (n : ℕ) (s : Slope) → Solves (t .cfg) f → n ≤ 64 → Sound (closed t overlap wanted ox oy w f n s)
+  closed-sound ox oy w f n s p h =
+      let j = saddleJacobian f in
+      let m = sensitivity j s in
+      pick (regular m) (estimate t ox oy f true n (cond wanted (covarianceOf overlap (w .tx) (w .ty) j m) Unknown)) (estimate t ox oy f false n Unknown) (record { score = scored f p; tries = h }) (record { score = scored f p; tries = h })
+
+  centre-sound : (w : Place) (f : PatchSaddle) (n : ℕ) (s : Sloped) → Solves (t .cfg) f → n ≤ 64 → Sound (closedAt t overlap wanted w f n s)
+  centre-sound w f n noSlope p h = record { score = scored f p; tries = h }
+  centre-sound w f n (sloped s) p h = closed-sound zero32 zero32 w f n s p h
+
+  finished-sound : (f : PatchSaddle) (e : Finish) → Solves (t .cfg) f → Within t 64 e → Sound (finished t overlap wanted f e)
+  finished-sound f (atStart n) p h =
+      let l = slopeAt (t .img) (t .columns) (t .cfg .radius) (t .centreX) (t .centreY) in
+      let w = placeOf (t .centreX) (t .centreY) zero32 zero32 in
+      pick (settled f) (closedAt t overlap wanted w f n l) (single t f n) (centre-sound w f n l p h) (record { score = scored f p; tries = h })
+  finished-sound f (atStand s n) p h =
+      pick (settled (s .fit)) (closed t overlap wanted (s .ox) (s .oy) (s .place) (s .fit) n (slopeWithin (s .corners) (s .place .tx) (s .place .ty))) (single t f n)
+      (closed-sound (s .ox) (s .oy) (s .place) (s .fit) n (slopeWithin (s .corners) (s .place .tx) (s .place .ty)) (h .0 .solves) (h .1)) (record { score = scored f p; tries = h .1 })
+
+  by-box : (b : Bool) (e : Estimate) (d : Float) → Sound e → Answers (cond b (Accepted e) (Rejected d))
+  by-box true e d p = p
+  by-box false e d p = tt
+
+  saddle-sound : (v : Solved) (l : List Float) → solve (t .cfg) l ≡ v → Answers (fromSaddle t overlap wanted v)
+  saddle-sound (Refused d) l e = tt
+  saddle-sound (Saddle f) l e = by-box (nearSeed t (f .ux) (f .uy)) (finished t overlap wanted f (runOf t f)) (f .«det_h») (finished-sound f (runOf t f) (record { fit = l; is = e }) (run-within t f))
+
+  fit-sound : (f : Fit) → Answers (fromFit t overlap wanted f)
+  fit-sound noFit = tt
+  fit-sound (fitted l) = saddle-sound (solve (t .cfg) l) l refl
+
+-- ---- with the tests before it
+module _ (img : Image) (cfg : SaddlePointConfig) (x y : Float) (wanted : Bool) where
+  by-way : (w : Operator.Way) → goodLimit (cfg .«det_margin») ≡ true → Answers (withOperator img cfg x y wanted w)
+  unfolding refineWith
+  by-way Operator.badRadius g = tt
+  by-way Operator.none g = tt
+  by-way (Operator.built columns overlap) g = fit-sound (taskOf img columns cfg x y) overlap wanted g (fitAt img columns (cfg .radius) (centreOf x) (centreOf y))
+
+  by-bools : (i r l p : Bool) (a : Refined) → (l ≡ true → Answers a) → Answers (cond (not i) BadImage (cond (not r) BadRadius (cond (not l) BadLimit (cond (not p) OutOfBounds a))))
+  by-bools false r l p a h = tt
+  by-bools true false l p a h = tt
+  by-bools true true false p a h = tt
+  by-bools true true true false a h = tt
+  by-bools true true true true a h = h refl
+
+  sound : Answers (refineOf img cfg x y wanted)
+  unfolding refineOf
+  sound =
+      by-bools (isImage img) (leb (cfg .radius) 7) (goodLimits cfg) (supportsPatch img (cfg .radius) (centreOf x) (centreOf y)) (withOperator img cfg x y wanted (Operator.wayOf (cfg .radius)))
+      (λ g. by-way (Operator.wayOf (cfg .radius)) (both-true (goodLimit (cfg .«det_margin»)) (goodLimit (cfg .«max_offset»)) (both-true (goodLimit (cfg .«det_margin») && goodLimit (cfg .«max_offset»)) (goodLimit (cfg .«min_abs_det»)) g .0) .0))
+
+  -- every accepted score is above zero, and the tries are at most 64
+  pub accepted-sound : (e : Estimate) → refineOf img cfg x y wanted ≡ Accepted e → Sound e
+  accepted-sound e h = subst Answers h sound
