@@ -8,6 +8,7 @@ pub mod lists;
 pub mod marked;
 pub mod pictures;
 pub mod random;
+pub mod road;
 pub mod rules;
 pub mod rust_or_rule;
 pub mod types;

@@ -1,6 +1,7 @@
 //! `oracle write FOLDER [SEED]` writes every list and prints what it counts.
 //! `oracle marked` runs document 01's examples and shortcuts on the Rust.
 //! `oracle differences` runs the smallest inputs of docs/DIFFERENCES.md on it.
+//! `oracle road FOLDER` writes the board of examples/ and its corners.
 //! `oracle hunt TURNS SEED` and `oracle far TURNS SEED` look for runs of the
 //! refiner that are hard to meet.
 
@@ -31,6 +32,19 @@ fn write(folder: &Path, seed: u64) -> bool {
     }
 }
 
+fn road(folder: &Path) -> bool {
+    let board = oracle::road::board(oracle::SEED);
+    let corners = oracle::road::corners(&board);
+    let written = std::fs::create_dir_all(folder)
+        .and_then(|()| std::fs::write(folder.join("board.gray"), &board.bytes))
+        .and_then(|()| std::fs::write(folder.join("board.corners"), oracle::road::text(&corners)));
+    if let Err(e) = &written {
+        eprintln!("oracle: {e}");
+    }
+    println!("road: {} corners", corners.len());
+    written.is_ok()
+}
+
 fn said(lines: Vec<(String, bool)>) -> bool {
     for (line, holds) in &lines {
         println!("{} {line}", if *holds { "holds" } else { "FAILS" });
@@ -48,6 +62,7 @@ fn main() -> ExitCode {
         ["write", folder, seed] if number(seed).is_some() => {
             write(Path::new(folder), number(seed).unwrap_or(0))
         }
+        ["road", folder] => road(Path::new(folder)),
         ["marked"] => said(oracle::marked::all()),
         ["differences"] => said(oracle::differences::all()),
         ["hunt", turns, seed] if number(turns).is_some() && number(seed).is_some() => {
@@ -65,7 +80,7 @@ fn main() -> ExitCode {
             true
         }
         _ => {
-            eprintln!("oracle: write FOLDER [SEED], marked, differences, hunt TURNS SEED, or far TURNS SEED");
+            eprintln!("oracle: write FOLDER [SEED], road FOLDER, marked, differences, hunt TURNS SEED, or far TURNS SEED");
             false
         }
     };

@@ -1,3 +1,4 @@
 -- Laws of the face.
 pub mod FaceLaws
 pub mod SeedLaws
+pub mod Marked

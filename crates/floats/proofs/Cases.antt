@@ -1,4 +1,4 @@
--- Closed cases of the definitions, by bit patterns: the marked examples P6 to P8 and one case of each class.
+-- Closed cases of the definitions, by bit patterns: one case of each class.
 use mathlib.Core.Path.{_≡_, refl}
 use mathlib.Core.Bool.{Bool, true, false}
 use mathlib.Core.List.{List, [], _∷_, map}
@@ -18,11 +18,11 @@ use Rattle.floats.specs.TotalOrder.{totalCmp}
 abbrev at32 : (Float → Float) → List ℕ → List ℕ
 at32 g l = map (λ (b : ℕ). toBits binary32 (g (ofBits binary32 b))) l
 
--- P6: 2.5 to 3, -2.5 to -3; then 0.49999997 to 0, -0.3 to -0.0, -0.0, 0.5 to 1, 8388607.5 to 8388608, 2^23 + 1, infinity, NaN, the least subnormal
-P6 : at32 (roundAway binary32) (0x40200000 ∷ 0xC0200000 ∷ 0x3EFFFFFF ∷ 0xBE99999A ∷ 0x80000000 ∷ 0x3F000000 ∷ 0x4AFFFFFF ∷ 0x4B000001 ∷ 0x7F800000 ∷ 0x7FC00000 ∷ 1 ∷ [])
+-- rounding: 2.5 to 3, -2.5 to -3, 0.49999997 to 0, -0.3 to -0.0, -0.0, 0.5 to 1, 8388607.5 to 8388608, 2^23 + 1, infinity, NaN, the least subnormal
+rounds : at32 (roundAway binary32) (0x40200000 ∷ 0xC0200000 ∷ 0x3EFFFFFF ∷ 0xBE99999A ∷ 0x80000000 ∷ 0x3F000000 ∷ 0x4AFFFFFF ∷ 0x4B000001 ∷ 0x7F800000 ∷ 0x7FC00000 ∷ 1 ∷ [])
     ≡ 0x40400000 ∷ 0xC0400000 ∷ 0 ∷ 0x80000000 ∷ 0x80000000 ∷ 0x3F800000 ∷ 0x4B000000 ∷ 0x4B000001 ∷ 0x7F800000 ∷ 0x7FC00000 ∷ 0 ∷ []
 unfolding ofBits toBits roundAway
-P6 = refl
+rounds = refl
 
 -- floor of 2.5, -2.5, -0.0, -0.3, 0.99999994, -8388607.5, -2^23 - 1, -infinity, NaN, the least subnormal and its negative
 floors : at32 (floor binary32) (0x40200000 ∷ 0xC0200000 ∷ 0x80000000 ∷ 0xBE99999A ∷ 0x3F7FFFFF ∷ 0xCAFFFFFF ∷ 0xCB000001 ∷ 0xFF800000 ∷ 0x7FC00000 ∷ 1 ∷ 0x80000001 ∷ [])
@@ -34,11 +34,11 @@ magnitudes : at32 magnitude (0x80000000 ∷ 0xC0200000 ∷ 0xFF800000 ∷ 0x7FC0
 unfolding ofBits toBits magnitude
 magnitudes = refl
 
--- P7: NaN to 0 and +inf to 2147483647; then -inf, -2147483648, 2147483520, -2.9
-P7 : map (λ (b : ℕ). toSigned 31 (ofBits binary32 b)) (0x7FC00000 ∷ 0x7F800000 ∷ 0xFF800000 ∷ 0xCF000000 ∷ 0x4EFFFFFF ∷ 0xC039999A ∷ [])
+-- as i32: NaN to 0, +inf to 2147483647, -inf, -2147483648, 2147483520, -2.9
+signed : map (λ (b : ℕ). toSigned 31 (ofBits binary32 b)) (0x7FC00000 ∷ 0x7F800000 ∷ 0xFF800000 ∷ 0xCF000000 ∷ 0x4EFFFFFF ∷ 0xC039999A ∷ [])
     ≡ pos 0 ∷ pos 2147483647 ∷ negsuc 2147483647 ∷ negsuc 2147483647 ∷ pos 2147483520 ∷ negsuc 1 ∷ []
 unfolding ofBits toSigned
-P7 = refl
+signed = refl
 
 -- as usize: NaN, -1, +inf, 2^64, 2.9
 sizes : map (λ (b : ℕ). toUnsigned 64 (ofBits binary32 b)) (0x7FC00000 ∷ 0xBF800000 ∷ 0x7F800000 ∷ 0x5F800000 ∷ 0x4039999A ∷ []) ≡ 0 ∷ 0 ∷ 18446744073709551615 ∷ 18446744073709551615 ∷ 2 ∷ []
@@ -58,11 +58,11 @@ narrowed : map (λ (b : ℕ). toBits binary32 (convert binary32 (ofBits binary64
 unfolding ofBits toBits convert
 narrowed = refl
 
--- P8: the root of 2; then of 4, the least subnormal, the greatest subnormal, the greatest value, 0, -0.0, +inf, -1, -inf, NaN
-P8 : at32 (sqrt binary32) (0x40000000 ∷ 0x40800000 ∷ 1 ∷ 0x007FFFFF ∷ 0x7F7FFFFF ∷ 0 ∷ 0x80000000 ∷ 0x7F800000 ∷ 0xBF800000 ∷ 0xFF800000 ∷ 0x7FC00000 ∷ [])
+-- the root of 2, 4, the least subnormal, the greatest subnormal, the greatest value, 0, -0.0, +inf, -1, -inf, NaN
+roots : at32 (sqrt binary32) (0x40000000 ∷ 0x40800000 ∷ 1 ∷ 0x007FFFFF ∷ 0x7F7FFFFF ∷ 0 ∷ 0x80000000 ∷ 0x7F800000 ∷ 0xBF800000 ∷ 0xFF800000 ∷ 0x7FC00000 ∷ [])
     ≡ 0x3FB504F3 ∷ 0x40000000 ∷ 0x1A3504F3 ∷ 0x1FFFFFFF ∷ 0x5F7FFFFF ∷ 0 ∷ 0x80000000 ∷ 0x7F800000 ∷ 0x7FC00000 ∷ 0x7FC00000 ∷ 0x7FC00000 ∷ []
 unfolding ofBits toBits sqrt
-P8 = refl
+roots = refl
 
 finites : map (λ (b : ℕ). finite (ofBits binary64 b)) (0 ∷ 1 ∷ 0x7FEFFFFFFFFFFFFF ∷ 0x7FF0000000000000 ∷ 0xFFF0000000000000 ∷ 0x7FF8000000000000 ∷ []) ≡ true ∷ true ∷ true ∷ false ∷ false ∷ false ∷ []
 unfolding ofBits

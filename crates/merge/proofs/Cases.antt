@@ -1,4 +1,4 @@
--- Closed cases: the marked examples P11 and P12, two lists on which the grid and the plain scan part, and one on which a second merge does more.
+-- Closed cases: two lists on which the grid and the plain scan part, and one on which a second merge does more.
 use mathlib.Core.Path.{_≡_, refl}
 use mathlib.Core.List.{List, [], _∷_, _++_, map}
 use Prim.Native.Nat.{ℕ}
@@ -18,14 +18,6 @@ bits l = map (λ (x : Float). toBits binary32 x) l
 
 abbrev after : List ℕ → ℕ → List ℕ
 after l radius = bits (listAfter (floats l) (wayOf (floats l) (ofBits binary32 radius) 16384 4096))
-
-P11 : after (0 ∷ 0 ∷ 0x3F800000 ∷ 0x40000000 ∷ 0 ∷ 0x40000000 ∷ 0x40800000 ∷ 0 ∷ 0x40400000 ∷ []) 0x40000000 ≡ 0x40800000 ∷ 0 ∷ 0x40400000 ∷ 0 ∷ 0 ∷ 0 ∷ 0 ∷ 0 ∷ 0 ∷ []
-unfolding wayOf ofBits toBits merged near neighbours boxOf mul add sub div le lt toUnsigned floor
-P11 = refl
-
-P12 : after (0 ∷ 0 ∷ 0x40400000 ∷ 0x40000000 ∷ 0 ∷ 0x40000000 ∷ 0x40800000 ∷ 0 ∷ 0x3F800000 ∷ []) 0x40000000 ≡ 0 ∷ 0 ∷ 0x40400000 ∷ 0x40800000 ∷ 0 ∷ 0x3F800000 ∷ 0 ∷ 0 ∷ 0 ∷ []
-unfolding wayOf ofBits toBits merged near neighbours boxOf mul add sub div le lt toUnsigned floor
-P12 = refl
 
 abbrev by-grid : List ℕ → ℕ → List ℕ
 by-grid l radius = bits (flat (merged (gridMeets (gridOf (ofBits binary32 radius) (cornersOf (floats l))) (mul binary32 (ofBits binary32 radius) (ofBits binary32 radius))) (cornersOf (floats l))))

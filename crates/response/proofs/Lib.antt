@@ -1,5 +1,4 @@
--- Laws of the response, demand 3, and the closed cases.
-pub mod Cases
+-- Laws of the response, and demand 3.
 pub mod PixelLaws
 pub mod PassLaws
 pub mod RowLaws

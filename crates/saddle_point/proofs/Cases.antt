@@ -1,8 +1,7 @@
--- Closed cases: the marked examples P9 and P10 of `solve`, and two seeds with the oracle's own answers: one whose steps fail after four tries, one that
--- converges where it starts.
+-- Closed cases: two seeds with the oracle's own answers, one whose steps fail after four tries, one that converges where it starts.
 use mathlib.Core.Path.{_≡_, refl}
 use mathlib.Core.Bool.{Bool, true, false, cond}
-use mathlib.Core.List.{List, [], _∷_, map}
+use mathlib.Core.List.{List, [], _∷_}
 use Prim.Native.Nat.{ℕ}
 use lib.Ieee.{Float, binary32, ofBits, toBits, ofInt, add, sub, mul, div, lt, le, eq, neg, toSigned}
 use Rattle.floats.specs.Magnitude.{magnitude}
@@ -21,14 +20,11 @@ use Rattle.saddle_fit.specs.Between.{placeOf, cornersAt, blend}
 use Rattle.saddle_fit.specs.Sensitivity.{slopeWithin, slopeAt, saddleJacobian, sensitivity, newtonStep}
 use Rattle.saddle_fit.specs.Run.{runOf}
 use Rattle.saddle_fit.specs.Covariance.{covarianceOf}
-use Rattle.saddle_fit.specs.declared.SaddlePointConfig.{SaddlePointConfig}
 use Rattle.saddle_fit.specs.declared.Covariance.{Covariance}
 use Rattle.saddle_fit.specs.declared.Covariance.the-variants.{Known, Unknown}
 use Rattle.saddle_point.specs.declared.Refined.{Refined}
 use Rattle.saddle_point.specs.declared.Refined.the-variants.{Accepted, Rejected, OutOfBounds, IllConditioned, BadImage, BadRadius, BadLimit}
-use Rattle.saddle_fit.specs.declared.Solved.{Solved}
-use Rattle.saddle_fit.specs.declared.Solved.the-variants.{Refused, Saddle}
-use Rattle.saddle_point.specs.Refine.{refineOf, numberOf, Values, nothing, values, valuesOf}
+use Rattle.saddle_point.specs.Refine.{refineOf, numberOf}
 
 abbrev f32 : ℕ → Float
 f32 b = ofBits binary32 b
@@ -56,24 +52,6 @@ abbrev shown : List ℕ → ℕ → ℕ → ℕ → ℕ → ℕ → ℕ → Bool
 shown s w h r dm mo md c x y =
     let a = refineOf (record { samples = s; width = w; height = h }) (record { radius = r; «det_margin» = f32 dm; «max_offset» = f32 mo; «min_abs_det» = f32 md }) (f32 x) (f32 y) c in
     numberOf a ∷ rest a
-
--- ---- `solve` at thresholds 0
-abbrev solved : Solved → List ℕ
-solved (Refused d) = b32 d ∷ []
-solved (Saddle f) = b32 (f .ux) ∷ b32 (f .uy) ∷ b32 (sqrt binary32 (neg (f .«det_h»))) ∷ []
-
-abbrev plain : SaddlePointConfig
-plain = record { radius = 2; «det_margin» = f32 0; «max_offset» = f32 0; «min_abs_det» = f32 0 }
-
--- coefficients (1, 0, -1, 1, 0): u (-0.5, -0.0), score 2
-P9 : solved (solve plain (map f32 (0x3F800000 ∷ 0 ∷ 0xBF800000 ∷ 0x3F800000 ∷ 0 ∷ []))) ≡ 0xBF000000 ∷ 0x80000000 ∷ 0x40000000 ∷ []
-unfolding solve ofBits toBits add sub mul div lt neg magnitude sqrt
-P9 = refl
-
--- all zero: refused with 0
-P10 : solved (solve plain (map f32 (0 ∷ 0 ∷ 0 ∷ 0 ∷ 0 ∷ []))) ≡ 0 ∷ []
-unfolding solve ofBits toBits add sub mul div lt neg magnitude sqrt
-P10 = refl
 
 unsettled : shown (128 ∷ 126 ∷ 128 ∷ 129 ∷ 128 ∷ 131 ∷ 126 ∷ 126 ∷ 130 ∷ []) 3 3 1 0 1090519040 0 true 1065353216 1065353216 ≡ 0 ∷ 1061405636 ∷ 1064366321 ∷ 1082388603 ∷ 0 ∷ 4 ∷ 0 ∷ 0 ∷ 0 ∷ 0 ∷ []
 unfolding refineOf supportsPatch fitAt solve placeOf cornersAt blend slopeWithin slopeAt saddleJacobian sensitivity newtonStep runOf covarianceOf inverseNormalMatrix pivotOf swapped scaled cleared columnsOf overlapOf isImage wayOf pixel ofBits toBits ofInt add sub mul div lt le eq neg toSigned magnitude convert floor roundAway sqrt totalCmp

@@ -127,6 +127,7 @@ module _ (t : Task) where
     where
       sum : (n : ℕ) → n ≤ 4 → n + 4 * 15 ≤ 64
       sum n h = omega arith
+
       top : (n : ℕ) → n ≤ 4 → n ≤ 64
       top n h = omega arith
 

@@ -1,0 +1,117 @@
+/* Proved chessboard corners: the ChESS response, its peaks, the saddle-point refiner and the merge.
+ *
+ * Link with libchess_corners.a. Every call takes any numbers and any contents of its buffers, ends, and returns
+ * a number: 0 done, 1 to 3 a seed's status, from 10 up a refusal. A refusal writes nothing, neither to a buffer
+ * nor to a further answer. A call that is done decides every element of what it may write; which elements stay
+ * as they were is said with each call. Nothing is kept after a call, nothing is allocated, nothing is called
+ * back; calls on separate buffers may run at the same time.
+ *
+ * A buffer goes in as a pointer and the number of its elements. The caller owns all of them. The pointer must be
+ * one of that many elements for as long as the call lasts, aligned for its type and not null, also where the
+ * number is 0; and a buffer that is written must share no element with any other of the same call.
+ *
+ * Numbers, in the order in which a call looks:
+ *    0 Accepted        1 Rejected: the first fit lies outside the box about the seed
+ *    2 OutOfBounds: the patch at the rounded seed leaves the image
+ *    3 IllConditioned: no fit operator (radius 0), or the first fit is refused
+ *   10 BadImage: width or height outside 1..4096, or a count that is not width times height
+ *   11 BadRadius: refiner radius above 7, ring radius outside 1..10, window radius outside 1..8
+ *   12 BadLimit: a float setting that is not finite or below zero (the peak threshold may be below zero)
+ *   13 BadRing: a ring component beyond the ring radius
+ *   14 EmptyRoi: x0 >= x1 or y0 >= y1
+ *   15 BadOut: a response buffer not of the clamped region's size; a refine output shorter than its input
+ *   16 TooMany: over 4,096 corners, or more peaks than the output holds
+ *   17 GridTooBig: more cells of the merge than heads
+ *   18 BadScratch: fewer links than corners
+ *   19 BadLength: a list of corners that is not made of whole triples
+ */
+#ifndef CHESS_CORNERS_H
+#define CHESS_CORNERS_H
+
+#include <stddef.h>
+#include <stdint.h>
+
+#ifdef __cplusplus
+extern "C" {
+#endif
+
+enum chess_corners_number {
+    CHESS_CORNERS_ACCEPTED = 0,
+    CHESS_CORNERS_REJECTED = 1,
+    CHESS_CORNERS_OUT_OF_BOUNDS = 2,
+    CHESS_CORNERS_ILL_CONDITIONED = 3,
+    CHESS_CORNERS_BAD_IMAGE = 10,
+    CHESS_CORNERS_BAD_RADIUS = 11,
+    CHESS_CORNERS_BAD_LIMIT = 12,
+    CHESS_CORNERS_BAD_RING = 13,
+    CHESS_CORNERS_EMPTY_ROI = 14,
+    CHESS_CORNERS_BAD_OUT = 15,
+    CHESS_CORNERS_TOO_MANY = 16,
+    CHESS_CORNERS_GRID_TOO_BIG = 17,
+    CHESS_CORNERS_BAD_SCRATCH = 18,
+    CHESS_CORNERS_BAD_LENGTH = 19
+};
+
+/* The ChESS response of the region (x0, y0) up to but without (x1, y1), clamped to the image, row after row.
+ * ring: sixteen pairs dx, dy. out: exactly the clamped region's elements, all of which are written, +0.0 where
+ * the ring does not fit. out_width, out_height: the clamped size; both 0, with an empty out, where nothing of the
+ * region lies in the image. Returns 0, 10, 11, 13, 14, 15. */
+uint32_t chess_corners_response(const uint8_t *img, size_t img_len, size_t width, size_t height,
+                                const int32_t ring[32], size_t radius,
+                                size_t x0, size_t y0, size_t x1, size_t y1,
+                                float *out, size_t out_len, size_t *out_width, size_t *out_height);
+
+/* The peaks of a response of width times height values: x, y and value of each, by row, to the front of out; its
+ * other elements stay. count: how many peaks. refine_radius widens the border by the refiner's patch.
+ * Returns 0, 10 (the response takes the image's place), 11, 12, 19 (out_len is no multiple of 3), 16. */
+uint32_t chess_corners_peaks(const float *response, size_t response_len, size_t width, size_t height,
+                             size_t ring_radius, size_t window_radius, size_t refine_radius,
+                             float threshold, uint32_t min_cluster_size,
+                             float *out, size_t out_len, size_t *count);
+
+/* The operator of a refiner radius, for chess_corners_refine_with. columns: the first 5 times (2 radius + 1)^2 are
+ * written and the rest stays; overlap: all. Returns 0, 3 where there is none (radius 0), 11; on 3 and 11 nothing
+ * is written. */
+uint32_t chess_corners_fit_operator(size_t radius, float columns[1125], float overlap[225]);
+
+/* Refines one seed. wanted: 0, or not 0 for a covariance.
+ * 0 to 3 write place: x, y and score (1 to 3: the seed's own x and y; the score is 0.0 for 2 and for radius 0, else
+ * the determinant of the first fit). 0 alone writes state: converged (0 or 1), tries (0 to 64), and whether there
+ * is a covariance (0 or 1), and where there is one covariance: xx, xy and yy for unit noise.
+ * Returns 0, 10, 11, 12, 2, 3, 1. */
+uint32_t chess_corners_refine(const uint8_t *img, size_t img_len, size_t width, size_t height,
+                              size_t radius, float det_margin, float max_offset, float min_abs_det,
+                              float x, float y, uint32_t wanted,
+                              float place[3], uint32_t state[3], float covariance[3]);
+
+/* The same with an operator that was built before, so that many seeds share it. With the operator of the same
+ * radius, built with 0, the answer is that of chess_corners_refine; with other contents it is the answer for
+ * those. */
+uint32_t chess_corners_refine_with(const uint8_t *img, size_t img_len, size_t width, size_t height,
+                                   size_t radius, float det_margin, float max_offset, float min_abs_det,
+                                   float x, float y, uint32_t wanted,
+                                   const float columns[1125], const float overlap[225],
+                                   float place[3], uint32_t state[3], float covariance[3]);
+
+/* Refines corners, x, y and strength of each, and writes those that are accepted, in input order with their own
+ * strength, to the front of out; its other elements stay. out_len: corners_len or more. count: how many.
+ * Returns 0, 10, 11, 12, 19, 16, 15. */
+uint32_t chess_corners_refine_list(const uint8_t *img, size_t img_len, size_t width, size_t height,
+                                   size_t radius, float det_margin, float max_offset, float min_abs_det,
+                                   const float *corners, size_t corners_len,
+                                   float *out, size_t out_len, size_t *count);
+
+/* Merges corners, x, y and strength of each, that lie within the radius of each other, in place: the kept ones
+ * stand at the front and the rest of the list is +0.0. heads: one a cell of the grid (16,384 serve 640 by 480 at
+ * radius 5 and up); links: one a corner. After a merge on the grid heads and links are all zero, on the other ways
+ * (nothing to merge; a place that is not finite) they are as they were. count: how many are kept.
+ * Returns 0, 19, 16, 18, 17. */
+uint32_t chess_corners_merge(float *corners, size_t corners_len, float radius,
+                             uint16_t *heads, size_t heads_len, uint16_t *links, size_t links_len,
+                             size_t *count);
+
+#ifdef __cplusplus
+}
+#endif
+
+#endif
