@@ -13,7 +13,10 @@ use Rattle.merge.specs.Call as M
 use Rattle.saddle_fit.specs.declared.SaddlePointConfig.{SaddlePointConfig}
 use Rattle.detect.specs.declared.Refinements.{Refinements}
 use Rattle.detect.specs.Refining as L
-use Rattle.chess_corners.specs.Face.{Responded, Merging, Refining, widthAfter, heightAfter, countAfter, recordsAfter}
+use Rattle.peaks.specs.declared.Peaks.{Peaks}
+use Rattle.peaks.specs.Peak.{Scan}
+use Rattle.peaks.specs.Call as P
+use Rattle.chess_corners.specs.Face.{Responded, Merging, Refining, Scanning, widthAfter, heightAfter, countAfter, recordsAfter, peaksAfter}
 
 pub responded : {img : Image} {ring : List ℤ} {radius : ℕ} {r : Region} {out : List Float} {answer : Response} {out' : List Float} (w h : ℕ) (known : Response)
     → answer ≡ known → R.Done img ring radius r out answer out' → Responded img ring radius r out w h (R.numberOf known) out' (widthAfter w known) (heightAfter h known)
@@ -40,4 +43,11 @@ refining count known e d = record {
   says = ap L.numberOf (sym e ∙ d .answers);
   leaves = d .leaves;
   counts = ap (recordsAfter count) (sym e ∙ d .answers);
+}
+
+pub scanning : {s : Scan} {out : List Float} {answer : Peaks} {out' : List Float} (count : ℕ) (known : Peaks) → answer ≡ known → P.Done s out answer out' → Scanning s out count (P.numberOf known) out' (peaksAfter count known)
+scanning count known e d = record {
+  says = ap P.numberOf (sym e ∙ d .answers);
+  leaves = d .leaves;
+  counts = ap (peaksAfter count) (sym e ∙ d .answers);
 }

@@ -2,3 +2,4 @@
 pub mod FaceLaws
 pub mod SeedLaws
 pub mod Marked
+pub mod Road

@@ -19,6 +19,11 @@ use Rattle.detect.specs.declared.Refinements.{Refinements}
 use Rattle.detect.specs.declared.Refinements.the-variants as Refinements
 use Rattle.detect.specs.declared.Refinements.the-variants.{Refined, BadLimit}
 use Rattle.detect.specs.Refining as L
+use Rattle.peaks.specs.declared.Peaks.{Peaks}
+use Rattle.peaks.specs.declared.Peaks.the-variants as Peaks
+use Rattle.peaks.specs.declared.Peaks.the-variants.{Found}
+use Rattle.peaks.specs.Peak.{Scan}
+use Rattle.peaks.specs.Call as P
 
 -- ---- the response: the clamped width and height
 abbrev pub widthAfter : ℕ → Response → ℕ
@@ -72,3 +77,17 @@ pub record Refining (img : Image) (cfg : SaddlePointConfig) (corners out : List 
   pub says : number ≡ L.numberOf (L.answerOf (L.wayOf img cfg corners (length out)))
   pub leaves : out' ≡ L.outAfter out (L.wayOf img cfg corners (length out))
   pub counts : count' ≡ recordsAfter count (L.answerOf (L.wayOf img cfg corners (length out)))
+
+-- ---- peaks: their count
+abbrev pub peaksAfter : ℕ → Peaks → ℕ
+peaksAfter old (Found n) = n
+peaksAfter old Peaks.BadImage = old
+peaksAfter old Peaks.BadRadius = old
+peaksAfter old Peaks.BadLimit = old
+peaksAfter old Peaks.BadLength = old
+peaksAfter old Peaks.TooMany = old
+
+pub record Scanning (s : Scan) (out : List Float) (count : ℕ) (number : ℕ) (out' : List Float) (count' : ℕ) : Type 0 where
+  pub says : number ≡ P.numberOf (P.answerOf (P.wayOf s (length out)))
+  pub leaves : out' ≡ P.outAfter s out (P.wayOf s (length out))
+  pub counts : count' ≡ peaksAfter count (P.answerOf (P.wayOf s (length out)))

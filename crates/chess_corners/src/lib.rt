@@ -4,11 +4,12 @@ mod seed;
 
 use detect::Refinements;
 use merge::Merge;
+use peaks::Peaks;
 use response::Response;
 use response::Roi;
 use saddle_fit::SaddlePointConfig;
 ghost use Rattle.response.specs.Call.{regionOf};
-ghost use Rattle.chess_corners.specs.Face.{Responded, Merging, Refining};
+ghost use Rattle.chess_corners.specs.Face.{Responded, Merging, Refining, Scanning};
 ghost use Rattle.chess_corners.specs.Seed.{settings};
 
 // The ChESS response of the region (x0, y0) to (x1, y1), clamped to the image; 0, 10, 11, 13, 14 or 15.
@@ -52,6 +53,46 @@ pub extern "C" fn chess_corners_response(
     }
 }
 
+// The peaks of a response, x, y and value of each, by row; 0, 10, 11, 12, 19 or 16.
+#[no_mangle]
+pub extern "C" fn chess_corners_peaks(
+    response: &[f32],
+    width: usize,
+    height: usize,
+    ring_radius: usize,
+    window_radius: usize,
+    refine_radius: usize,
+    threshold: f32,
+    min_cluster_size: u32,
+    out: &mut [f32],
+    count: &mut usize,
+) -> u32
+    ensures { λ r. ⌜ Scanning (record { values = now (response .entry); width = width; height = height; ring = «ring_radius»; window = «window_radius»; refine = «refine_radius»; threshold = threshold; cluster = «min_cluster_size» }) (now (out .entry)) (now (count .entry)) r (now (out .exit)) (now (count .exit)) ⌝ }
+{
+    let answer = peaks::detect_peaks_from_response_with_refine_radius(
+        response,
+        width,
+        height,
+        ring_radius,
+        window_radius,
+        refine_radius,
+        threshold,
+        min_cluster_size,
+        out,
+    );
+    match answer {
+        Peaks::Found(found) => {
+            *count = found;
+            0
+        }
+        Peaks::BadImage => 10,
+        Peaks::BadRadius => 11,
+        Peaks::BadLimit => 12,
+        Peaks::BadLength => 19,
+        Peaks::TooMany => 16,
+    }
+}
+
 // Corners within the radius of each other merged in place; 0, 19, 16, 18 or 17.
 #[no_mangle]
 pub extern "C" fn chess_corners_merge(
@@ -65,8 +106,8 @@ pub extern "C" fn chess_corners_merge(
 {
     let answer = merge::merge_corners_simple(corners, radius, heads, links);
     match answer {
-        Merge::Merged(n) => {
-            *count = n;
+        Merge::Merged(kept) => {
+            *count = kept;
             0
         }
         Merge::BadLength => 19,
@@ -100,8 +141,8 @@ pub extern "C" fn chess_corners_refine_list(
     };
     let answer = detect::refine_corners_on_image(img, width, height, cfg, corners, out);
     match answer {
-        Refinements::Refined(n) => {
-            *count = n;
+        Refinements::Refined(accepted) => {
+            *count = accepted;
             0
         }
         Refinements::BadImage => 10,

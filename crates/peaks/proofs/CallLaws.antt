@@ -1,0 +1,138 @@
+-- The public call's tests one after the other, and what each way leaves behind.
+use mathlib.Core.Path.{_≡_, refl, sym, ap, _∙_, subst}
+use mathlib.Core.Bool.{Bool, true, false, _&&_, not, cond}
+use mathlib.Core.List.{List}
+use Prim.Native.Nat.{ℕ, _*_, _/_, _%_, _≤_, _<_}
+use lib.Dec.{T, leb, ltb, eqb}
+use lib.ListN.{length}
+use lib.Ieee.{Float}
+use lib.Ieee.Scale.{finite}
+use borrow.Author.Tests.{lt-leb, le-leb, leb-true, lt-ltb, le-ltb, eq-eqb, ne-eqb}
+use Rattle.imageview.specs.Image.{sizesFit}
+use Rattle.imageview.proofs.ImageLaws.{sized}
+use Rattle.peaks.specs.declared.Peaks.{Peaks}
+use Rattle.peaks.specs.declared.Peaks.the-variants.{Found, BadImage, BadRadius, BadLimit, BadLength, TooMany}
+use Rattle.peaks.specs.Peak.{Scan}
+use Rattle.peaks.specs.Call.{Way, refused, found, peaksOf, radiiFit, wayOf, answerOf, outAfter, Done}
+use Rattle.peaks.specs.Steps.{Sound, filled}
+use Rattle.peaks.proofs.CountLaws.{and-false, first-of, second-of}
+
+-- ---- the test of the radii
+abbrev five : Bool → Bool → Bool → Bool → Bool → Bool
+five a b c d e = a && b && c && d && e
+
+second : (a c d e : Bool) → five a false c d e ≡ false
+second true c d e = refl
+second false c d e = refl
+
+third : (a b d e : Bool) → five a b false d e ≡ false
+third a b d e = ap (λ (z : Bool). z && d && e) (and-false (a && b))
+
+fourth : (a b c e : Bool) → five a b c false e ≡ false
+fourth a b c e = ap (λ (z : Bool). z && e) (and-false (a && b && c))
+
+module _ (ring window refine : ℕ) where
+  abbrev fits : Bool
+  fits = five (leb 1 ring) (leb ring 10) (leb 1 window) (leb window 8) (leb refine 7)
+
+  pub no-ring : ring < 1 → false ≡ fits
+  no-ring h = sym (ap (λ (z : Bool). five z (leb ring 10) (leb 1 window) (leb window 8) (leb refine 7)) (lt-leb 1 ring h))
+
+  pub wide-ring : 10 < ring → false ≡ fits
+  wide-ring h = sym (ap (λ (z : Bool). five (leb 1 ring) z (leb 1 window) (leb window 8) (leb refine 7)) (lt-leb ring 10 h) ∙ second (leb 1 ring) (leb 1 window) (leb window 8) (leb refine 7))
+
+  pub no-window : window < 1 → false ≡ fits
+  no-window h = sym (ap (λ (z : Bool). five (leb 1 ring) (leb ring 10) z (leb window 8) (leb refine 7)) (lt-leb 1 window h) ∙ third (leb 1 ring) (leb ring 10) (leb window 8) (leb refine 7))
+
+  pub wide-window : 8 < window → false ≡ fits
+  wide-window h = sym (ap (λ (z : Bool). five (leb 1 ring) (leb ring 10) (leb 1 window) z (leb refine 7)) (lt-leb window 8 h) ∙ fourth (leb 1 ring) (leb ring 10) (leb 1 window) (leb refine 7))
+
+  pub by-refine : 1 ≤ ring → ring ≤ 10 → 1 ≤ window → window ≤ 8 → leb refine 7 ≡ fits
+  by-refine a b c d =
+      sym (ap (λ (z : Bool). five z (leb ring 10) (leb 1 window) (leb window 8) (leb refine 7)) (le-leb 1 ring a)
+      ∙ ap (λ (z : Bool). five true z (leb 1 window) (leb window 8) (leb refine 7)) (le-leb ring 10 b)
+      ∙ ap (λ (z : Bool). five true true z (leb window 8) (leb refine 7)) (le-leb 1 window c)
+      ∙ ap (λ (z : Bool). five true true true z (leb refine 7)) (le-leb window 8 d))
+
+-- the parameters of the call
+abbrev pub scanFor : List Float → ℕ → ℕ → ℕ → ℕ → ℕ → Float → ℕ → Scan
+scanFor values width height ring window refine threshold cluster =
+    record { values = values; width = width; height = height; ring = ring; window = window; refine = refine; threshold = threshold; cluster = cluster }
+
+-- what the tests leave
+pub sound : (s : Scan) → sizesFit (length (s .values)) (s .width) (s .height) ≡ true → radiiFit s ≡ true → Sound s
+sound s e f =
+    let z = sized (length (s .values)) (s .width) (s .height) (subst T (sym e) tt) in
+    let a = leb 1 (s .ring) in
+    let b = leb (s .ring) 10 in
+    let c = leb 1 (s .window) in
+    let d = leb (s .window) 8 in
+    let abcd = first-of (a && b && c && d) (leb (s .refine) 7) f in
+    record {
+      wide = z .wide;
+      width-most = z .width-most;
+      height-most = z .height-most;
+      size = z .count;
+      ring-most = leb-true (s .ring) 10 (second-of a b (first-of (a && b) c (first-of (a && b && c) d abcd)));
+      window-most = leb-true (s .window) 8 (second-of (a && b && c) d abcd);
+      refine-most = leb-true (s .refine) 7 (second-of (a && b && c && d) (leb (s .refine) 7) f);
+    }
+
+-- ---- the ways, test by test
+module _ (s : Scan) (room : ℕ) where
+  abbrev fitting : Way
+  fitting = cond (ltb (room / 3) (length (peaksOf s))) (refused TooMany) (found (peaksOf s))
+
+  abbrev whole : Way
+  whole = cond (not (eqb (room % 3) 0)) (refused BadLength) fitting
+
+  abbrev limited : Way
+  limited = cond (not (finite (s .threshold))) (refused BadLimit) whole
+
+  abbrev ranged : Way
+  ranged = cond (not (radiiFit s)) (refused BadRadius) limited
+
+  tested : wayOf s room ≡ cond (not (sizesFit (length (s .values)) (s .width) (s .height))) (refused BadImage) ranged
+  unfolding wayOf
+  tested = refl
+
+  pub way-image : sizesFit (length (s .values)) (s .width) (s .height) ≡ false → wayOf s room ≡ refused BadImage
+  way-image e = tested ∙ ap (λ (z : Bool). cond (not z) (refused BadImage) ranged) e
+
+  module _ (image : sizesFit (length (s .values)) (s .width) (s .height) ≡ true) where
+    is-image : wayOf s room ≡ ranged
+    is-image = tested ∙ ap (λ (z : Bool). cond (not z) (refused BadImage) ranged) image
+
+    pub way-radius : radiiFit s ≡ false → wayOf s room ≡ refused BadRadius
+    way-radius e = is-image ∙ ap (λ (z : Bool). cond (not z) (refused BadRadius) limited) e
+
+    module _ (radii : radiiFit s ≡ true) where
+      is-ranged : wayOf s room ≡ limited
+      is-ranged = is-image ∙ ap (λ (z : Bool). cond (not z) (refused BadRadius) limited) radii
+
+      pub way-limit : finite (s .threshold) ≡ false → wayOf s room ≡ refused BadLimit
+      way-limit e = is-ranged ∙ ap (λ (z : Bool). cond (not z) (refused BadLimit) whole) e
+
+      module _ (limit : finite (s .threshold) ≡ true) where
+        is-limited : wayOf s room ≡ whole
+        is-limited = is-ranged ∙ ap (λ (z : Bool). cond (not z) (refused BadLimit) whole) limit
+
+        pub way-length : (room % 3 ≡ 0 → ⊥) → wayOf s room ≡ refused BadLength
+        way-length e = is-limited ∙ ap (λ (z : Bool). cond (not z) (refused BadLength) fitting) (ne-eqb (room % 3) 0 e)
+
+        module _ (records : room % 3 ≡ 0) where
+          is-whole : wayOf s room ≡ fitting
+          is-whole = is-limited ∙ ap (λ (z : Bool). cond (not z) (refused BadLength) fitting) (eq-eqb (room % 3) 0 records)
+
+          pub way-many : room / 3 < length (peaksOf s) → wayOf s room ≡ refused TooMany
+          way-many h = is-whole ∙ ap (λ (z : Bool). cond z (refused TooMany) (found (peaksOf s))) (lt-ltb (room / 3) (length (peaksOf s)) h)
+
+          pub way-found : length (peaksOf s) ≤ room / 3 → wayOf s room ≡ found (peaksOf s)
+          way-found h = is-whole ∙ ap (λ (z : Bool). cond z (refused TooMany) (found (peaksOf s))) (le-ltb (room / 3) (length (peaksOf s)) h)
+
+-- ---- what a way leaves behind
+pub done-refused : {s : Scan} {out : List Float} {r : Peaks} → wayOf s (length out) ≡ refused r → Done s out r out
+done-refused {s} {out} e = record { answers = sym (ap answerOf e); leaves = sym (ap (outAfter s out) e) }
+
+pub done-found : {s : Scan} {out out' : List Float} {n : ℕ} → wayOf s (length out) ≡ found (peaksOf s) → n ≡ length (peaksOf s) → out' ≡ filled s out → Done s out (Found n) out'
+done-found {s} {out} e f g = record { answers = ap Found f ∙ sym (ap answerOf e); leaves = g ∙ sym (ap (outAfter s out) e) }

@@ -1,0 +1,102 @@
+-- What the steps below the public call promise each other.
+use mathlib.Core.Path.{_≡_}
+use mathlib.Core.Bool.{true, false}
+use mathlib.Core.List.{List, _++_}
+use Prim.Native.Nat.{ℕ, _+_, _*_, _/_, _%_, _≤_, _<_}
+use lib.ListN.{length, getD, set, drop}
+use lib.Ieee.{Float, nan}
+use Rattle.peaks.specs.declared.Rule.{Rule}
+use Rattle.peaks.specs.Peak.{Scan, border, least, inside, isPeak}
+use Rattle.peaks.specs.Call.{peakAt, peaksOf, recordsOf}
+
+-- a response and the rule by which it is scanned
+abbrev pub scanOf : List Float → Rule → Scan
+scanOf values rule =
+    record {
+      values = values;
+      width = rule .width;
+      height = rule .height;
+      ring = rule .ring;
+      window = rule .window;
+      refine = rule .refine;
+      threshold = rule .threshold;
+      cluster = rule .cluster;
+    }
+
+-- what the public call has tested before it scans
+pub record Sound (s : Scan) : Type 0 where
+  pub wide : 1 ≤ s .width
+  pub width-most : s .width ≤ 4096
+  pub height-most : s .height ≤ 4096
+  pub size : length (s .values) ≡ s .width * s .height
+  pub ring-most : s .ring ≤ 10
+  pub window-most : s .window ≤ 8
+  pub refine-most : s .refine ≤ 7
+
+-- ---- runs of a row, and blocks of n rows of `side` values each, `width` apart
+abbrev pub runAt : List Float → ℕ → ℕ → Float
+runAt values start i = getD values (start + i) nan
+
+abbrev pub blockAt : List Float → ℕ → ℕ → ℕ → ℕ → Float
+blockAt values start width side j = getD values (start + j / side * width + j % side) nan
+
+abbrev pub BlockFits : List Float → ℕ → ℕ → ℕ → ℕ → Type 0
+BlockFits values start width side n = (r : ℕ) → r < n → start + r * width + side ≤ length values
+
+-- the window of (x, y) lies in the response
+pub record Framed (s : Scan) (x y : ℕ) : Type 0 where
+  pub sound : Sound s
+  pub left : s .window ≤ x
+  pub right : x + s .window < s .width
+  pub above : s .window ≤ y
+  pub below : y + s .window < s .height
+
+-- a pixel inside the border, and the floor of the scan
+pub record Within (s : Scan) (floor : Float) (x y : ℕ) : Type 0 where
+  pub framed : Framed s x y
+  pub inner : inside s x y ≡ true
+  pub least-is : floor ≡ least s
+
+-- columns of row y inside the border
+pub record Bordered (s : Scan) (floor : Float) (y start end : ℕ) : Type 0 where
+  pub sound : Sound s
+  pub above : border s ≤ y
+  pub below : y + border s < s .height
+  pub left : border s ≤ start
+  pub start-most : start ≤ s .width
+  pub right : end + border s ≤ s .width
+  pub least-is : floor ≡ least s
+
+-- ---- the first peak of row y of the columns from `start` up to `end`; the width where there is none
+pub record FirstIn (s : Scan) (start end y r : ℕ) : Type 0 where
+  pub low : start ≤ r
+  pub passed : (k : ℕ) → start ≤ k → k < end → k < r → isPeak s k y ≡ false
+  pub most : r ≤ s .width
+  pub hit : r < s .width → isPeak s r y ≡ true
+
+-- the same from column x on
+pub record InRow (s : Scan) (x y r : ℕ) : Type 0 where
+  pub low : x ≤ r
+  pub passed : (k : ℕ) → x ≤ k → k < r → isPeak s k y ≡ false
+  pub most : r ≤ s .width
+  pub hit : r < s .width → isPeak s r y ≡ true
+
+-- the first peak from place k on; the number of places where there is none
+pub record Next (s : Scan) (k r : ℕ) : Type 0 where
+  pub low : k ≤ r
+  pub passed : (i : ℕ) → k ≤ i → i < r → peakAt s i ≡ false
+  pub most : r ≤ length (s .values)
+  pub hit : r < length (s .values) → peakAt s r ≡ true
+
+-- r is the number of peaks, or above the room for them where that is
+pub record Tallied (s : Scan) (room r : ℕ) : Type 0 where
+  pub few : r ≤ room → r ≡ length (peaksOf s)
+  pub many : room < r → room < length (peaksOf s)
+
+-- a record's three floats, the record by its number
+abbrev pub recorded : List Float → ℕ → Float → Float → Float → List Float
+recorded out n x y v = set (set (set out (3 * n) x) (3 * n + 1) y) (3 * n + 2) v
+
+-- records of all peaks, and what stood past them
+abbrev pub filled : Scan → List Float → List Float
+filled s out = recordsOf s (peaksOf s) ++ drop (3 * length (peaksOf s)) out

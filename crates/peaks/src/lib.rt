@@ -1,0 +1,92 @@
+// Peaks of a response, after `detect.rs` and `neighbors.rs`; the window rule is document 01's.
+ghost use mathlib.Core.Path.{_≡_};
+ghost use mathlib.Core.Bool.{_&&_};
+ghost use lib.Dec.{leb};
+ghost use Rattle.peaks.specs.Call.{Done};
+
+mod scan;
+mod window;
+
+// How the scan ended, by document 01's names.
+pub enum Peaks {
+    Found(usize),
+    BadImage,
+    BadRadius,
+    BadLimit,
+    BadLength,
+    TooMany,
+}
+
+// The sizes of a response and the settings.
+struct Rule {
+    width: usize,
+    height: usize,
+    ring: usize,
+    window: usize,
+    refine: usize,
+    threshold: f32,
+    cluster: u32,
+}
+
+// Writes x, y and value of every peak of the response, by row; the rest of the output stays.
+pub fn detect_peaks_from_response_with_refine_radius(
+    response: &[f32],
+    width: usize,
+    height: usize,
+    ring_radius: usize,
+    window_radius: usize,
+    refine_radius: usize,
+    threshold: f32,
+    min_cluster_size: u32,
+    out: &mut [f32],
+) -> Peaks
+    ensures { λ r. ⌜ Done (record { values = now (response .entry); width = width; height = height; ring = «ring_radius»; window = «window_radius»; refine = «refine_radius»; threshold = threshold; cluster = «min_cluster_size» }) (now (out .entry)) r (now (out .exit)) ⌝ }
+{
+    if !imageview::fits(response.len(), width, height) {
+        return Peaks::BadImage;
+    }
+    if !radii_fit(ring_radius, window_radius, refine_radius) {
+        return Peaks::BadRadius;
+    }
+    if !floats::is_finite_f32(threshold) {
+        return Peaks::BadLimit;
+    }
+    if out.len() % 3 != 0 {
+        return Peaks::BadLength;
+    }
+    let rule = Rule {
+        width,
+        height,
+        ring: ring_radius,
+        window: window_radius,
+        refine: refine_radius,
+        threshold,
+        cluster: min_cluster_size,
+    };
+    let room = out.len() / 3;
+    let count = scan::tally(response, rule, room);
+    if room < count {
+        return Peaks::TooMany;
+    }
+    scan::write(response, rule, out);
+    Peaks::Found(count)
+}
+
+// Document 01's test of the three radii.
+fn radii_fit(ring: usize, window: usize, refine: usize) -> bool
+    ensures { λ r. ⌜ r ≡ (leb 1 ring && leb ring 10 && leb 1 window && leb window 8 && leb refine 7) ⌝ }
+{
+    if ring < 1 {
+        return false;
+    }
+    if 10 < ring {
+        return false;
+    }
+    if window < 1 {
+        return false;
+    }
+    if 8 < window {
+        return false;
+    }
+    refine <= 7
+}
