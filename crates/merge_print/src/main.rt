@@ -4,11 +4,6 @@ use libc::STDIN_FILENO;
 use libc::STDOUT_FILENO;
 use merge::Merge;
 
-mod text;
-
-ghost use mathlib.Core.Path.{_≡_};
-ghost use Rattle.merge_print.specs.Text.{refusal};
-
 // No file is read further than this, so that the program ends; it is more than any disk holds.
 const MOST: usize = 0x1000_0000_0000_0000;
 
@@ -23,7 +18,7 @@ fn main() {
 // The whole file is read before anything is decided: a cut file is 19 also where it is too long.
 fn run(bytes: &mut [u8], list: &mut [f32], heads: &mut [u16], links: &mut [u16]) {
     let got = io::read_full(STDIN_FILENO, bytes);
-    let no = refused(past(got));
+    let no = merge_text::refused(past(got));
     if 0 < no {
         print_refused(no);
         return;
@@ -33,7 +28,7 @@ fn run(bytes: &mut [u8], list: &mut [f32], heads: &mut [u16], links: &mut [u16])
         print_refused(16);
         return;
     }
-    text::read_numbers(bytes, &mut list[..n]);
+    merge_text::read_numbers(bytes, &mut list[..n]);
     let answer = merge::merge_corners_simple(&mut list[..n], 2.0, heads, links);
     match answer {
         Merge::Merged(count) => print_corners(list, count),
@@ -62,19 +57,6 @@ fn past(got: usize) -> usize {
     n
 }
 
-// The number that refuses a file of n bytes, or 0.
-fn refused(n: usize) -> u64
-    ensures { λ r. ⌜ r ≡ refusal n ⌝ }
-{
-    if 0 < n % 12 {
-        return 19;
-    }
-    if 4096 < n / 12 {
-        return 16;
-    }
-    0
-}
-
 fn print_corners(list: &[f32], count: usize) {
     let mut i = 0;
     while i < count {
@@ -92,7 +74,7 @@ fn print_corners(list: &[f32], count: usize) {
 }
 
 fn print_number(x: f32, end: u8) {
-    let text = text::hex(floats::f32_to_bits(x), end);
+    let text = merge_text::hex(floats::f32_to_bits(x), end);
     io::write_all(STDOUT_FILENO, &text);
 }
 

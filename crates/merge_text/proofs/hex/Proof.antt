@@ -1,10 +1,10 @@
--- `merge_print::text::hex` meets its contract, digit by digit.
+-- `merge_text::hex` meets its contract, digit by digit.
 use mathlib.Core.Path.{_≡_}
 use mathlib.Core.List.{List, [], _∷_}
 use Prim.Native.Nat.{ℕ}
 use borrow.Author.Needs.{needs}
-use Rattle.merge_print.proofs.text.hex.Statement.{statement}
-use Rattle.merge_print.proofs.text.hex.Tie as tie
+use Rattle.merge_text.proofs.hex.Statement.{statement}
+use Rattle.merge_text.proofs.hex.Tie as tie
 
 nine : (z : ℕ) {a b c d e f g h a' b' c' d' e' f' g' h' : ℕ} → a ≡ a' → b ≡ b' → c ≡ c' → d ≡ d' → e ≡ e' → f ≡ f' → g ≡ g' → h ≡ h'
     → _≡_ {A = List ℕ} (a ∷ b ∷ c ∷ d ∷ e ∷ f ∷ g ∷ h ∷ z ∷ []) (a' ∷ b' ∷ c' ∷ d' ∷ e' ∷ f' ∷ g' ∷ h' ∷ z ∷ [])

@@ -1,7 +1,7 @@
--- `merge_print::refused` meets its contract: each return is one law.
-use Rattle.merge_print.proofs.TextLaws.{cut-file, long-file, good-file}
-use Rattle.merge_print.proofs.refused.Statement.{statement}
-use Rattle.merge_print.proofs.refused.Tie as tie
+-- `merge_text::refused` meets its contract: each return is one law.
+use Rattle.merge_text.proofs.TextLaws.{cut-file, long-file, good-file}
+use Rattle.merge_text.proofs.refused.Statement.{statement}
+use Rattle.merge_text.proofs.refused.Tie as tie
 
 returns : tie.Need-returns
 returns c = cut-file (c .before .args .n) (c .if1 .taken)

@@ -1,4 +1,4 @@
--- `merge_print::text::read_numbers` meets its contract. The invariant: the list keeps its length, and its first i numbers are those of the file.
+-- `merge_text::read_numbers` meets its contract. The invariant: the list keeps its length, and its first i numbers are those of the file.
 use mathlib.Core.Path.{_≡_, sym, ap, _∙_}
 use Prim.Native.Nat.{ℕ, _-_, _≤_}
 use native.Mathlib.Omega.{arith}
@@ -6,10 +6,10 @@ use borrow.Author.Needs.{needs}
 use denote.Ref.{now}
 use lib.ListN.{length, take, length-set}
 use lib.Seq.{take-all}
-use Rattle.merge_print.specs.Text.{numbers}
-use Rattle.merge_print.proofs.TextLaws.{filled-next, none-filled}
-use Rattle.merge_print.proofs.text.read_numbers.Statement.{statement}
-use Rattle.merge_print.proofs.text.read_numbers.Tie as tie
+use Rattle.merge_text.specs.Text.{numbers}
+use Rattle.merge_text.proofs.TextLaws.{filled-next, none-filled}
+use Rattle.merge_text.proofs.read_numbers.Statement.{statement}
+use Rattle.merge_text.proofs.read_numbers.Tie as tie
 
 abbrev Inv-loop : tie.InvT-loop
 Inv-loop bytes list₀ i₀ list i = (length list ≡ length list₀) × (i ≤ length list₀) × (take i list ≡ numbers i bytes)

@@ -1,9 +1,9 @@
--- `merge_print::text::digit` meets its contract: a digit below ten, and a letter.
+-- `merge_text::digit` meets its contract: a digit below ten, and a letter.
 use Prim.Native.Nat.{_%_}
-use Rattle.merge_print.proofs.TextLaws.{digit-low, digit-high}
+use Rattle.merge_text.proofs.TextLaws.{digit-low, digit-high}
 use borrow.Author.Needs.{needs}
-use Rattle.merge_print.proofs.text.digit.Statement.{statement}
-use Rattle.merge_print.proofs.text.digit.Tie as tie
+use Rattle.merge_text.proofs.digit.Statement.{statement}
+use Rattle.merge_text.proofs.digit.Tie as tie
 
 cast-d : tie.Need-cast-d
 cast-d c = search needs

@@ -1,8 +1,21 @@
-// Records to numbers, and numbers to text.
+// What merge-print and its replay have in common: the refusal of a file by its length, records to numbers, and numbers to text.
 ghost use mathlib.Core.Path.{_≡_};
 ghost use Prim.Native.Nat.{_%_};
 ghost use lib.ListN.{length};
-ghost use Rattle.merge_print.specs.Text.{numbers, hexDigit, shown};
+ghost use Rattle.merge_text.specs.Text.{numbers, hexDigit, shown, refusal};
+
+// The number that refuses a file of n bytes, or 0.
+pub fn refused(n: usize) -> u64
+    ensures { λ r. ⌜ r ≡ refusal n ⌝ }
+{
+    if 0 < n % 12 {
+        return 19;
+    }
+    if 4096 < n / 12 {
+        return 16;
+    }
+    0
+}
 
 // The numbers that the bytes stand for, as many as the list takes.
 pub fn read_numbers(bytes: &[u8], list: &mut [f32])

@@ -10,7 +10,7 @@ use lib.Seq.{take-suc-set}
 use lib.Ieee.{Float, binary32, ofBits}
 use borrow.Author.Tests.{lt-ltb, le-ltb}
 use Rattle.words.specs.Words.{wordAt}
-use Rattle.merge_print.specs.Text.{numbers, hexDigit, refusal}
+use Rattle.merge_text.specs.Text.{numbers, hexDigit, refusal}
 
 numbers-next : (i : ℕ) (bytes : List ℕ) → numbers (suc i) bytes ≡ numbers i bytes ++ (ofBits binary32 (wordAt bytes (4 * i)) ∷ [])
 unfolding numbers

@@ -1,2 +1,0 @@
--- What merge-print reads and prints.
-pub mod Text
