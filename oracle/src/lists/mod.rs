@@ -9,6 +9,7 @@ pub mod fallback;
 pub mod floats;
 pub mod gradient;
 pub mod merge;
+pub mod merge_print;
 pub mod operator;
 pub mod peaks;
 pub mod pieces;
@@ -31,6 +32,7 @@ pub const ALL: &[Writer] = &[
     ("refine_list", refine_list::list),
     ("fallback", fallback::list),
     ("merge", merge::list),
+    ("merge_print", merge_print::list),
     ("peaks", peaks::list),
     ("solve", solve::list),
     ("operator", operator::list),
@@ -53,6 +55,7 @@ const REACHED: &[(&str, &[u32])] = &[
     ("refine_list", &[0, 10, 11, 12, 15, 16, 19]),
     ("fallback", &[0, 10, 11, 12, 15, 16, 19]),
     ("merge", &[0, 16, 17, 18, 19]),
+    ("merge_print", &[0, 16, 17, 19]),
     ("gradient", &[0, 10, 13, 15]),
 ];
 
