@@ -1,0 +1,58 @@
+// Solving a fit: five coefficients, the margin and the least determinant; the outcome, u, the determinant and the score.
+use crate::numbers;
+use saddle_fit::PatchSaddle;
+use saddle_fit::SaddlePointConfig;
+use saddle_fit::Solved;
+use saddle_fit::solve;
+
+pub fn solve_holds(case: &[u8]) -> bool {
+    let coefs = numbers::five(case, 0);
+    let solved = solve::solve(limits(case), coefs);
+    match solved {
+        Solved::Refused(det) => refused(case, det),
+        Solved::Saddle(f) => fitted(case, f),
+    }
+}
+
+fn limits(case: &[u8]) -> SaddlePointConfig {
+    SaddlePointConfig {
+        radius: 0,
+        det_margin: numbers::float(case, 0, 5),
+        max_offset: 0.0,
+        min_abs_det: numbers::float(case, 0, 6),
+    }
+}
+
+// Which of the three tests refused it is not ours to answer.
+fn refused(case: &[u8], det: f32) -> bool {
+    let outcome = words::word(case, 28);
+    if outcome < 5 {
+        return false;
+    }
+    if 7 < outcome {
+        return false;
+    }
+    if !numbers::is(case, 0, 10, det) {
+        return false;
+    }
+    words::word(case, 32) == 0 && words::word(case, 36) == 0 && words::word(case, 44) == 0
+}
+
+fn fitted(case: &[u8], f: PatchSaddle) -> bool {
+    if words::word(case, 28) != 0 {
+        return false;
+    }
+    if !numbers::is(case, 0, 8, f.ux) {
+        return false;
+    }
+    if !numbers::is(case, 0, 9, f.uy) {
+        return false;
+    }
+    if !numbers::is(case, 0, 10, f.det_h) {
+        return false;
+    }
+    if !numbers::is(case, 0, 11, floats::sqrt_f32(-f.det_h)) {
+        return false;
+    }
+    numbers::is(case, 0, 0, f.a) && numbers::is(case, 0, 1, f.b) && numbers::is(case, 0, 2, f.c)
+}
