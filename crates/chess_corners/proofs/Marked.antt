@@ -9,7 +9,7 @@ use lib.Ieee.{Float, nan, inf, fin, binary32, ofBits, toBits, ofInt, toSigned, t
 use Rattle.floats.specs.Magnitude.{magnitude}
 use Rattle.floats.specs.Whole.{floor, roundAway}
 use Rattle.floats.specs.Root.{sqrt}
-use Rattle.response.specs.Samples.{gain, loss, responseOf}
+use Rattle.pixel_response.specs.Samples.{gain, loss, responseOf}
 use Rattle.saddle_fit.specs.declared.SaddlePointConfig.{SaddlePointConfig}
 use Rattle.saddle_fit.specs.declared.Solved.{Solved}
 use Rattle.saddle_fit.specs.declared.Solved.the-variants.{Refused, Saddle}

@@ -14,7 +14,7 @@ use lib.Ieee.{Float, nan, lt}
 use borrow.Author.Tests.{le-leb, lt-leb, lt-ltb, leb-true, ltb-true, eqb-false}
 use Rattle.imageview.specs.Image.{Image}
 use Rattle.fit_operator.proofs.ListLaws.{at-is}
-use Rattle.response.specs.Samples.{gain, loss}
+use Rattle.pixel_response.specs.Samples.{gain, loss}
 use Rattle.response.specs.Region.{Region, isEmpty, widthOf, heightOf, ringFits, ringSample, crossSample}
 use Rattle.response.specs.Demand.{columnAt, rowAt, fitsAt, gainAt, lossAt, DemandThree}
 use Rattle.peaks.specs.Peak.{Scan, zeroFloat, valueAt, border, inside, least, side, cells, middle, neighbour, every, beats, highest, positives, isPeak}

@@ -18,10 +18,10 @@ use Rattle.response.specs.declared.Response.{Response}
 use Rattle.response.specs.declared.Response.the-variants.{Written, BadImage, BadRadius, BadRing, EmptyRoi, BadOut}
 use Rattle.response.specs.Region.{Region, clamped, isEmpty, widthOf, heightOf, moved, ringSample, crossSample, ringFits, ringWithin, writtenAt, tabulated, written, zeroFloat}
 use Rattle.response.specs.Call.{Way, refused, wrote, wayOf, answerOf, outAfter, Done}
-use Rattle.response.specs.Steps.{Wrote}
+use Rattle.pixel_response.specs.Steps.{Wrote}
 use Rattle.response.specs.Starts.{Offsets, startOf, startedAt}
 use Rattle.response.specs.Frame.{shiftedAt, sizeFits, Clamped}
-use Rattle.response.proofs.PixelLaws.{response-cong}
+use Rattle.pixel_response.proofs.PixelLaws.{response-cong}
 use Rattle.response.proofs.RingLaws.{inside, all-within}
 
 -- ---- sizes

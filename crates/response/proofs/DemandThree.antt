@@ -10,12 +10,13 @@ use lib.Ieee.{Float, lt}
 use lib.Ieee.Bits.{is-true}
 use Rattle.imageview.specs.Image.{Image}
 use Rattle.response.specs.declared.Response.{Response}
-use Rattle.response.specs.Samples.{gain, loss, responseOf}
+use Rattle.pixel_response.specs.Samples.{gain, loss, responseOf}
 use Rattle.response.specs.Region.{Region, widthOf, heightOf, ringFits, ringSample, crossSample, writtenAt, written, zeroFloat}
-use Rattle.response.specs.Demand.{Near, Under, Bytes, columnAt, rowAt, fitsAt, gainAt, lossAt, DemandThree}
+use Rattle.pixel_response.specs.Near.{Near, Under}
+use Rattle.response.specs.Demand.{Bytes, columnAt, rowAt, fitsAt, gainAt, lossAt, DemandThree}
 use Rattle.response.specs.Call.{Way, refused, wrote, wayOf, outAfter, Done}
 use Rattle.response.proofs.CallLaws.{getD-tabulated}
-use Rattle.response.proofs.DemandLaws.{stands-256, orders-256}
+use Rattle.pixel_response.proofs.DemandLaws.{stands-256, orders-256}
 
 ring-bytes : (img : Image) (ring : List ℤ) (x y : ℕ) → Bytes img → Under 256 16 (ringSample img ring x y)
 unfolding ringSample

@@ -7,7 +7,7 @@ use native.Mathlib.Nat.{eq-or-lt-of-le, zero-add}
 use native.Mathlib.Omega.{arith}
 use lib.ListN.{length, getD, set, take, drop, length-set, length-append, length-drop, List·getD-append}
 use lib.Seq.{getD-set-same, getD-set-other, getD-take, getD-drop, getD-append-add, length-take-le}
-use Rattle.response.specs.Steps.{Bounded, Added, AddedQuarter, Wrote, squareOf, edgesOf, sumOf}
+use Rattle.pixel_response.specs.Steps.{Bounded, Added, AddedQuarter, Wrote, squareOf, edgesOf, sumOf}
 
 pub lt-or-le : (a b : ℕ) → (a < b) ⊎ (b ≤ a)
 lt-or-le a zero = inr zero-le

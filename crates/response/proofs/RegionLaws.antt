@@ -14,10 +14,10 @@ use lib.Ieee.{Float}
 use borrow.Author.Tests.{lt-ltb, le-ltb, le-leb, lt-leb}
 use Rattle.imageview.specs.Image.{Image}
 use Rattle.response.specs.Region.{zeroFloat, ringFits}
-use Rattle.response.specs.Steps.{Wrote}
+use Rattle.pixel_response.specs.Steps.{Wrote}
 use Rattle.response.specs.Starts.{sampleOf, valueAt, Reach, startOf, Startable, startedAt, Started}
 use Rattle.response.specs.Frame.{insideAt, shiftedAt, From, To, Framed}
-use Rattle.response.proofs.PixelLaws.{response-cong}
+use Rattle.pixel_response.proofs.PixelLaws.{response-cong}
 use Rattle.response.proofs.PassLaws.{lt-or-le, wrote-none, wrote-cong, wrote-next, part-count}
 
 -- ---- the starts of a pixel serve those right of it

@@ -16,7 +16,7 @@ use mir.Val.{SFits, toZ, ofZ}
 use mir.ValLaws.{toZ-ofZ}
 use borrow.Author.Tests.{ltb-true, ltb-false, le-leb, lt-leb, le-ltb, leb-true, leb-false}
 use Rattle.response.specs.Region.{moved, ringWithin}
-use Rattle.response.specs.Steps.{Decides}
+use Rattle.pixel_response.specs.Steps.{Decides}
 use Rattle.response.specs.Starts.{offsetOf, Offsets, Around, crossPairs}
 use Rattle.response.proofs.PassLaws.{lt-or-le}
 

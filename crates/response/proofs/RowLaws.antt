@@ -6,10 +6,10 @@ use native.Mathlib.Nat.{zero-add, add-assoc}
 use native.Mathlib.Omega.{arith}
 use lib.ListN.{length, getD, take, drop, replicate, length-drop, getD-replicate}
 use lib.Seq.{getD-take, getD-drop, length-take-le}
-use Rattle.response.specs.Samples.{valueOf}
-use Rattle.response.specs.Steps.{listed, squareOf, edgesOf, sumOf, crossOf, Added, AddedQuarter, Spare, Wrote}
+use Rattle.pixel_response.specs.Samples.{valueOf}
+use Rattle.pixel_response.specs.Steps.{listed, squareOf, edgesOf, sumOf, crossOf, Added, AddedQuarter, Spare, Wrote}
 use Rattle.response.specs.Starts.{Part, SampledQuarter, SampledCross, sampleOf, valueAt}
-use Rattle.response.proofs.PixelLaws.{four, Quarters, none, more, all}
+use Rattle.pixel_response.proofs.PixelLaws.{four, Quarters, none, more, all}
 use Rattle.response.proofs.PassLaws.{added-cong, wrote-cong}
 
 run-count : (l : List ℕ) (a n m : ℕ) → m ≡ n → a + n ≤ length l → length (take m (drop a l)) ≡ n

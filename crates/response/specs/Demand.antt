@@ -1,48 +1,17 @@
--- Demand 3, for samples below a limit P, a power of two up to 4096 (256 for bytes): the written value v stands for N / 5, N = gain - loss.
--- It is a whole number q of 2 ^ -22, with a sign; five times that number differs from N · 2 ^ 22 by at most 40 · P (10240 for bytes, so
--- |v - N / 5| <= 1/2048); and it is positive, +0.0 or negative exactly as N is.
+-- Demand 3 of an image's bytes and the elements of a buffer: what is said of one pixel's samples (`Near`) holds of every element whose ring fits.
 use mathlib.Core.Path.{_≡_}
-use mathlib.Core.Bool.{Bool, true, false}
+use mathlib.Core.Bool.{true}
 use mathlib.Core.List.{List}
-use Prim.Native.Nat.{ℕ, _+_, _*_, _/_, _%_, _^_, _≤_, _<_}
+use Prim.Native.Nat.{ℕ, _+_, _*_, _/_, _%_, _<_}
 use lib.Dec.{T}
-use lib.IntN.{ℤ, pos}
+use lib.IntN.{ℤ}
 use lib.ListN.{getD}
-use lib.Ieee.{Float, fin, lt}
-use lib.Ieee.Exact.{HasValue}
+use lib.Ieee.{Float, lt}
 use Rattle.imageview.specs.Image.{Image}
-use Rattle.response.specs.Samples.{gain, loss, responseOf}
+use Rattle.pixel_response.specs.Samples.{gain, loss}
+use Rattle.pixel_response.specs.Near.{Near}
 use Rattle.response.specs.Region.{Region, widthOf, heightOf, ringFits, ringSample, crossSample, zeroFloat}
 
--- ±a and ±b differ by at most d, where the sign of a is s (true: negative) and b is given as plus - minus
-abbrev pub Within : ℕ → Bool → ℕ → ℕ → ℕ → Type 0
-Within d false a plus minus = (a + minus ≤ plus + d) × (plus ≤ a + minus + d)
-Within d true a plus minus = (minus ≤ a + plus + d) × (a + plus ≤ minus + d)
-
-pub record Near (P : ℕ) (v : Float) (plus minus : ℕ) : Type 0 where
-  pub negative : Bool
-  pub units : ℕ
-  pub size : HasValue v negative units (2 ^ 22)
-  pub close : Within (40 * P) negative (5 * units) (plus * 2 ^ 22) (minus * 2 ^ 22)
-  pub above : minus < plus → lt (fin false 0 (pos 0)) v ≡ true
-  pub none : plus ≡ minus → v ≡ fin false 0 (pos 0)
-  pub below : plus < minus → lt v (fin false 0 (pos 0)) ≡ true
-
--- samples below P
-abbrev pub Under : ℕ → ℕ → (ℕ → ℕ) → Type 0
-Under P n s = (k : ℕ) → k < n → s k < P
-
--- the sentence of demand 3, of one pixel's samples, and of two pixels' by their order
-abbrev pub Stands : ℕ → Type 0
-Stands P = (s c : ℕ → ℕ) → Under P 16 s → Under P 5 c → Near P (responseOf s c) (gain s) (loss s c)
-
--- N of the second is larger: gain - loss < gain' - loss'
-abbrev pub Orders : ℕ → Type 0
-Orders P =
-    (s c s' c' : ℕ → ℕ) → Under P 16 s → Under P 5 c → Under P 16 s' → Under P 5 c'
-    → gain s + loss s' c' < gain s' + loss s c → lt (responseOf s c) (responseOf s' c') ≡ true
-
--- ---- the same of an image's bytes and the elements of the buffer
 abbrev pub Bytes : Image → Type 0
 Bytes img = (k : ℕ) → getD (img .samples) k 0 < 256
 

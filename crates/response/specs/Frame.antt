@@ -10,7 +10,7 @@ use Rattle.imageview.specs.Image.{Image}
 use Rattle.response.specs.declared.Response.{Response}
 use Rattle.response.specs.declared.Response.the-variants.{Written, BadOut}
 use Rattle.response.specs.Region.{Region, ringFits, clamped, widthOf, heightOf, zeroFloat}
-use Rattle.response.specs.Steps.{Wrote}
+use Rattle.pixel_response.specs.Steps.{Wrote}
 use Rattle.response.specs.Starts.{Around, startedAt}
 
 -- a row in which the ring fits from column `from` on, up to `to`

@@ -1,8 +1,6 @@
--- The ChESS response: of 21 samples, at a pixel, over a region; what the public call answers and writes; demand 3; and the steps of the work.
-pub mod Samples
+-- The ChESS response at a pixel and over a region; what the public call answers and writes; demand 3 of its buffer; and the steps of the work.
 pub mod Demand
 pub mod Region
 pub mod Call
-pub mod Steps
 pub mod Starts
 pub mod Frame

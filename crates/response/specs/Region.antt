@@ -7,7 +7,7 @@ use lib.IntN.{ℤ, pos, negsuc, natAbs}
 use lib.ListN.{getD}
 use lib.Ieee.{Float, fin}
 use Rattle.imageview.specs.Image.{Image, pixel}
-use Rattle.response.specs.Samples.{responseOf}
+use Rattle.pixel_response.specs.Samples.{responseOf}
 
 -- a coordinate moved by a component
 abbrev pub moved : ℕ → ℤ → ℕ

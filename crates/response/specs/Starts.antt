@@ -7,9 +7,9 @@ use lib.Dec.{leb}
 use lib.IntN.{ℤ, pos, natAbs}
 use lib.ListN.{length, getD}
 use lib.Ieee.{Float}
-use Rattle.response.specs.Samples.{responseOf}
+use Rattle.pixel_response.specs.Samples.{responseOf}
 use Rattle.response.specs.Region.{moved}
-use Rattle.response.specs.Steps.{crossOf, AddedQuarter, Wrote}
+use Rattle.pixel_response.specs.Steps.{crossOf, AddedQuarter, Wrote}
 
 -- a component plus 10, or 255 where it is outside -10..=10
 unfoldable pub offsetOf : ℤ → ℕ

@@ -4,7 +4,7 @@ ghost use Prim.Native.Nat.{_+_, _-_, _*_, _/_, _%_, min, _≤_, _<_};
 ghost use lib.ListN.{length};
 ghost use Rattle.response.specs.Region.{zeroFloat, widthOf, heightOf};
 ghost use Rattle.response.specs.Call.{regionOf};
-ghost use Rattle.response.specs.Steps.{Wrote};
+ghost use Rattle.pixel_response.specs.Steps.{Wrote};
 ghost use Rattle.response.specs.Starts.{Started, Startable};
 ghost use Rattle.response.specs.Frame.{From, To, Framed, insideAt, shiftedAt, Clamped};
 use crate::Response;

@@ -2,7 +2,7 @@
 ghost use mathlib.Core.Path.{_≡_};
 ghost use Prim.Native.Nat.{_+_, _-_, _*_, _≤_, _<_};
 ghost use lib.ListN.{length, replicate};
-ghost use Rattle.response.specs.Steps.{Decides, Wrote};
+ghost use Rattle.pixel_response.specs.Steps.{Decides, Wrote};
 ghost use Rattle.response.specs.Starts.{offsetOf, Offsets, Around, startOf, Startable};
 
 // A component plus 10, or 255 where it is outside -10..=10.

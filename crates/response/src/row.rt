@@ -2,11 +2,11 @@
 ghost use mathlib.Core.Path.{_≡_};
 ghost use Prim.Native.Nat.{_+_, _≤_, _<_};
 ghost use lib.ListN.{length};
-ghost use Rattle.response.specs.Samples.{valueOf};
+ghost use Rattle.pixel_response.specs.Samples.{valueOf};
 ghost use Rattle.response.specs.Region.{zeroFloat};
-ghost use Rattle.response.specs.Steps.{listed, crossOf, AddedQuarter, Spare, Abreast, Wrote};
+ghost use Rattle.pixel_response.specs.Steps.{listed, crossOf, AddedQuarter, Spare, Abreast, Wrote};
 ghost use Rattle.response.specs.Starts.{Reach, Part, SampledQuarter, SampledCross, valueAt};
-use crate::pixel;
+use pixel_response::pixel;
 
 // Adds one quarter of the ring, its square, its edges and its sum.
 fn add_quarter(

@@ -4,7 +4,7 @@ use Prim.Native.Nat.{ℕ, _-_, _≤_}
 use lib.Ieee.{ofBits}
 use lib.ListN.{length}
 use Rattle.response.specs.Region.{zeroFloat}
-use Rattle.response.specs.Steps.{Wrote}
+use Rattle.pixel_response.specs.Steps.{Wrote}
 use Rattle.response.proofs.PassLaws.{wrote-none, wrote-more}
 use native.Mathlib.Omega.{arith}
 use Rattle.response.proofs.region.fill.Statement.{statement}

@@ -3,7 +3,7 @@ use mathlib.Core.Path.{_≡_, sym, subst, _∙_}
 use Prim.Native.Nat.{ℕ, _+_, _-_, _*_, _/_, _%_, _≤_}
 use lib.ListN.{length, take, drop}
 use Rattle.response.specs.Region.{zeroFloat}
-use Rattle.response.specs.Steps.{Wrote}
+use Rattle.pixel_response.specs.Steps.{Wrote}
 use Rattle.response.specs.Frame.{Framed, From, To, shiftedAt}
 use Rattle.response.proofs.PassLaws.{part-count}
 use Rattle.response.proofs.RowLaws.{cut}

@@ -9,7 +9,7 @@ use lib.Seq.{getD-drop}
 use mathlib.Core.List.{_++_}
 use mir.Syntax.{w32}
 use mir.ValLaws.{toZ-ofZ}
-use Rattle.response.specs.Steps.{Wrote}
+use Rattle.pixel_response.specs.Steps.{Wrote}
 use Rattle.response.specs.Starts.{offsetOf, crossPairs}
 use Rattle.response.proofs.PassLaws.{wrote-none, wrote-more}
 use native.Mathlib.Omega.{arith}

@@ -2,7 +2,7 @@
 use mathlib.Core.Path.{_≡_, refl, subst}
 use Prim.Native.Nat.{ℕ, _-_, _≤_}
 use lib.ListN.{length}
-use Rattle.response.specs.Steps.{listed, squareOf, edgesOf, sumOf, AddedQuarter}
+use Rattle.pixel_response.specs.Steps.{listed, squareOf, edgesOf, sumOf, AddedQuarter}
 use Rattle.response.proofs.PassLaws.{added-more, quarter-none}
 use native.Mathlib.Omega.{arith}
 use Rattle.response.proofs.row.add_quarter.Statement.{statement}

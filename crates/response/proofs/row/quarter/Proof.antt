@@ -1,7 +1,7 @@
 -- `response::row::quarter` meets its contract: the parts hold the samples.
 use mathlib.Core.Path.{sym, subst, _∙_}
 use Prim.Native.Nat.{ℕ}
-use Rattle.response.specs.Steps.{Spare}
+use Rattle.pixel_response.specs.Steps.{Spare}
 use Rattle.response.proofs.RowLaws.{sampled-quarter}
 use borrow.Author.Needs.{needs}
 use native.Mathlib.Omega.{arith}

@@ -2,7 +2,7 @@
 use mathlib.Core.Path.{_≡_, refl, subst}
 use Prim.Native.Nat.{ℕ, _-_, _≤_}
 use lib.ListN.{length}
-use Rattle.response.specs.Steps.{listed, crossOf, Wrote}
+use Rattle.pixel_response.specs.Steps.{listed, crossOf, Wrote}
 use Rattle.response.proofs.PassLaws.{wrote-none, wrote-more}
 use native.Mathlib.Omega.{arith}
 use Rattle.response.proofs.row.write_cross.Statement.{statement}

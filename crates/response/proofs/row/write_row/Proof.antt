@@ -3,7 +3,7 @@ use mathlib.Core.Path.{_≡_, refl, subst}
 use Prim.Native.Nat.{ℕ, _-_, _≤_}
 use lib.ListN.{length}
 use Rattle.response.specs.Region.{zeroFloat}
-use Rattle.response.specs.Steps.{Wrote}
+use Rattle.pixel_response.specs.Steps.{Wrote}
 use Rattle.response.specs.Starts.{valueAt}
 use Rattle.response.proofs.PassLaws.{wrote-none, wrote-next, part-count}
 use native.Mathlib.Omega.{arith}

@@ -2,9 +2,9 @@
 use mathlib.Core.Path.{_≡_, refl, subst}
 use Prim.Native.Nat.{ℕ, _-_, _≤_}
 use lib.ListN.{length}
-use Rattle.response.specs.Samples.{valueOf}
+use Rattle.pixel_response.specs.Samples.{valueOf}
 use Rattle.response.specs.Region.{zeroFloat}
-use Rattle.response.specs.Steps.{listed, Wrote}
+use Rattle.pixel_response.specs.Steps.{listed, Wrote}
 use Rattle.response.proofs.PassLaws.{wrote-none, wrote-more}
 use native.Mathlib.Omega.{arith}
 use Rattle.response.proofs.row.write_values.Statement.{statement}

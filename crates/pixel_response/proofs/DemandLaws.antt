@@ -13,10 +13,10 @@ use lib.Ieee.{Float, fin, below}
 use lib.Ieee.Bits.{is-true}
 use lib.Ieee.Exact.{HasValue}
 use Rattle.floats.proofs.Fractions.{lt-value}
-use Rattle.response.specs.Samples.{apart, squareSum, edgeSum, ringSum, crossSum, gain, loss, valueOf, responseOf}
-use Rattle.response.specs.Demand.{Within, Near, Stands, Orders}
-use Rattle.response.proofs.SumLaws.{Bounded, bounded}
-use Rattle.response.proofs.ValueLaws.{Way, way, limit, Apart, apart-by, value-zero}
+use Rattle.pixel_response.specs.Samples.{apart, squareSum, edgeSum, ringSum, crossSum, gain, loss, valueOf, responseOf}
+use Rattle.pixel_response.specs.Near.{Within, Near, Stands, Orders}
+use Rattle.pixel_response.proofs.SumLaws.{Bounded, bounded}
+use Rattle.pixel_response.proofs.ValueLaws.{Way, way, limit, Apart, apart-by, value-zero}
 
 -- ---- how close: sixteen times the middle to |5 · ring - 16 · cross|, then the value to N
 record Middle (P g m : ℕ) : Type 0 where

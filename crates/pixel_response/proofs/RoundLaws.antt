@@ -18,7 +18,7 @@ use Rattle.floats.proofs.Value.{unit, fitting}
 use Rattle.floats.proofs.Half.{Near, grid-near, round-val}
 use Rattle.floats.proofs.Pattern.{closest-upto}
 use Rattle.floats.proofs.Fractions.{sub-value}
-use Rattle.response.specs.Demand.{Within}
+use Rattle.pixel_response.specs.Near.{Within}
 
 -- ---- a value by another fraction of the same size
 pub value-same : (x : Float) (s : Bool) (a c b d : ℕ) → 0 < c → a * d ≡ b * c → HasValue x s a c → HasValue x s b d

@@ -4,8 +4,8 @@ use Prim.Native.Nat.{ℕ, zero, suc, _+_, _-_, _*_, _≤_, _<_}
 use native.Mathlib.Nat.{zero-add}
 use native.Mathlib.Numerals.{add-one}
 use native.Mathlib.Omega.{arith}
-use Rattle.response.specs.Samples.{total, apart, squareSum, edgeSum, ringSum, crossSum, valueOf, responseOf}
-use Rattle.response.specs.Steps.{Bounded, squareOf, edgesOf, sumOf, crossOf, quarterOf}
+use Rattle.pixel_response.specs.Samples.{total, apart, squareSum, edgeSum, ringSum, crossSum, valueOf, responseOf}
+use Rattle.pixel_response.specs.Steps.{Bounded, squareOf, edgesOf, sumOf, crossOf, quarterOf}
 
 pub apart-below : (a b : ℕ) → a < b → b - a ≡ apart a b
 unfolding apart

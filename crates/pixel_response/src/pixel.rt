@@ -1,8 +1,8 @@
 // The arithmetic of one pixel. A quarter of the ring is its samples k, k + 4, k + 8 and k + 12.
 ghost use mathlib.Core.Path.{_≡_};
 ghost use Prim.Native.Nat.{_+_};
-ghost use Rattle.response.specs.Samples.{apart, valueOf};
-ghost use Rattle.response.specs.Steps.{Bounded, squareOf, edgesOf, sumOf, crossOf};
+ghost use Rattle.pixel_response.specs.Samples.{apart, valueOf};
+ghost use Rattle.pixel_response.specs.Steps.{Bounded, squareOf, edgesOf, sumOf, crossOf};
 
 fn apart_u8(a: u8, b: u8) -> u8
     ensures { λ r. ⌜ r ≡ apart a b ⌝ }

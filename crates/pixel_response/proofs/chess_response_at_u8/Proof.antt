@@ -1,12 +1,12 @@
--- `response::chess_response_at_u8` meets its contract. After k turns each sum has the first k quarters.
+-- `pixel_response::chess_response_at_u8` meets its contract. After k turns each sum has the first k quarters.
 use mathlib.Core.Path.{_∙_}
 use Prim.Native.Nat.{_-_, _≤_}
 use lib.Dec.{lit<, lit≤}
-use Rattle.response.specs.Steps.{listed}
-use Rattle.response.proofs.PixelLaws.{Quarters, none, more, all}
+use Rattle.pixel_response.specs.Steps.{listed}
+use Rattle.pixel_response.proofs.PixelLaws.{Quarters, none, more, all}
 use native.Mathlib.Omega.{arith}
-use Rattle.response.proofs.chess_response_at_u8.Statement.{statement}
-use Rattle.response.proofs.chess_response_at_u8.Tie as tie
+use Rattle.pixel_response.proofs.chess_response_at_u8.Statement.{statement}
+use Rattle.pixel_response.proofs.chess_response_at_u8.Tie as tie
 
 abbrev Inv-loop : tie.InvT-loop
 Inv-loop ring cross square₀ edge₀ sum₀ k₀ square edge sum k = (k ≤ 4) × Quarters (listed ring) k square edge sum

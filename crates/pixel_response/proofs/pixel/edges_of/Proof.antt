@@ -1,11 +1,11 @@
--- `response::pixel::edges_of` meets its contract.
+-- `pixel_response::pixel::edges_of` meets its contract.
 use mathlib.Core.Path.{ap, _∙_}
 use Prim.Native.Nat.{ℕ, _+_}
-use Rattle.response.specs.Samples.{apart}
-use Rattle.response.specs.Steps.{edgesOf}
+use Rattle.pixel_response.specs.Samples.{apart}
+use Rattle.pixel_response.specs.Steps.{edgesOf}
 use borrow.Author.Needs.{needs}
-use Rattle.response.proofs.pixel.edges_of.Statement.{statement}
-use Rattle.response.proofs.pixel.edges_of.Tie as tie
+use Rattle.pixel_response.proofs.pixel.edges_of.Statement.{statement}
+use Rattle.pixel_response.proofs.pixel.edges_of.Tie as tie
 
 apart-u8-requires : tie.Need-apart-u8-requires
 apart-u8-requires c κs = search needs

@@ -2,8 +2,8 @@
 use Prim.Native.Nat.{ℕ, zero, suc, _+_, _*_, _≤_, _<_, zero-le}
 use native.Mathlib.Nat.{le-of-lt, lt-suc-self, lt-trans, suc-mul}
 use native.Mathlib.Omega.{arith}
-use Rattle.response.specs.Samples.{total, apart, squareSum, edgeSum, ringSum, crossSum}
-use Rattle.response.specs.Demand.{Under}
+use Rattle.pixel_response.specs.Samples.{total, apart, squareSum, edgeSum, ringSum, crossSum}
+use Rattle.pixel_response.specs.Near.{Under}
 
 pub record Bounded (P sr dr ring cross : ℕ) : Type 0 where
   pub by-square : sr ≤ 8 * P

@@ -16,10 +16,10 @@ use lib.Ieee.Exact.{HasValue}
 use Rattle.floats.specs.Magnitude.{magnitude}
 use Rattle.floats.proofs.Half.{Near}
 use Rattle.floats.proofs.Fractions.{mul-value, div-value}
-use Rattle.response.specs.Samples.{apart, sixteen, five, valueOf}
-use Rattle.response.specs.Demand.{Within}
-use Rattle.response.proofs.SumLaws.{Bounded}
-use Rattle.response.proofs.RoundLaws.{Rounded, Difference, value-same, exact, many, whole, difference, difference-of, sub-above, shifted}
+use Rattle.pixel_response.specs.Samples.{apart, sixteen, five, valueOf}
+use Rattle.pixel_response.specs.Near.{Within}
+use Rattle.pixel_response.proofs.SumLaws.{Bounded}
+use Rattle.pixel_response.proofs.RoundLaws.{Rounded, Difference, value-same, exact, many, whole, difference, difference-of, sub-above, shifted}
 
 pub record Way (P sr dr ring cross : ℕ) (v : Float) : Type 0 where
   -- cross / 5 and the middle difference, in steps of 2 ^ -26

@@ -1,11 +1,11 @@
--- `response::pixel::value_of` meets its contract: the code's operations are the definition's, in its order.
+-- `pixel_response::pixel::value_of` meets its contract: the code's operations are the definition's, in its order.
 use mathlib.Core.Path.{ap}
 use lib.IntN.{pos}
 use lib.Ieee.{Float, binary32, ofBits, ofInt, sub, mul}
-use Rattle.response.specs.Samples.{valueOf, sixteen}
+use Rattle.pixel_response.specs.Samples.{valueOf, sixteen}
 use borrow.Author.Needs.{needs}
-use Rattle.response.proofs.pixel.value_of.Statement.{statement}
-use Rattle.response.proofs.pixel.value_of.Tie as tie
+use Rattle.pixel_response.proofs.pixel.value_of.Statement.{statement}
+use Rattle.pixel_response.proofs.pixel.value_of.Tie as tie
 
 int-to-float-magnitude-f32 : tie.Need-int-to-float-magnitude-f32
 int-to-float-magnitude-f32 c = search needs

@@ -1,12 +1,12 @@
--- `response::pixel::square_of` meets its contract.
+-- `pixel_response::pixel::square_of` meets its contract.
 use mathlib.Core.Path.{ap, _∙_, sym, subst}
 use Prim.Native.Nat.{ℕ, _+_, _≤_}
-use Rattle.response.specs.Samples.{apart}
-use Rattle.response.specs.Steps.{squareOf}
-use Rattle.response.proofs.PixelLaws.{apart-most}
+use Rattle.pixel_response.specs.Samples.{apart}
+use Rattle.pixel_response.specs.Steps.{squareOf}
+use Rattle.pixel_response.proofs.PixelLaws.{apart-most}
 use borrow.Author.Needs.{needs}
-use Rattle.response.proofs.pixel.square_of.Statement.{statement}
-use Rattle.response.proofs.pixel.square_of.Tie as tie
+use Rattle.pixel_response.proofs.pixel.square_of.Statement.{statement}
+use Rattle.pixel_response.proofs.pixel.square_of.Tie as tie
 
 both-requires : tie.Need-both-requires
 both-requires c κs = search needs

@@ -4,7 +4,7 @@ use mathlib.Core.Bool.{Bool, true, false}
 use mathlib.Core.List.{List}
 use Prim.Native.Nat.{ℕ, _+_, _≤_, _<_}
 use lib.ListN.{length, getD}
-use Rattle.response.specs.Samples.{apart}
+use Rattle.pixel_response.specs.Samples.{apart}
 
 -- a result with an upper bound
 pub record Bounded (v b r : ℕ) : Type 0 where

@@ -1,8 +1,8 @@
--- `response::pixel::apart_u8` meets its contract.
+-- `pixel_response::pixel::apart_u8` meets its contract.
 use borrow.Author.Needs.{needs}
-use Rattle.response.proofs.PixelLaws.{apart-below, apart-above}
-use Rattle.response.proofs.pixel.apart_u8.Statement.{statement}
-use Rattle.response.proofs.pixel.apart_u8.Tie as tie
+use Rattle.pixel_response.proofs.PixelLaws.{apart-below, apart-above}
+use Rattle.pixel_response.proofs.pixel.apart_u8.Statement.{statement}
+use Rattle.pixel_response.proofs.pixel.apart_u8.Tie as tie
 
 sub-result : tie.Need-sub-result
 sub-result c = search needs
