@@ -4,6 +4,7 @@ pub mod BlockLaws
 pub mod WindowLaws
 pub mod FrameLaws
 pub mod PeakLaws
+pub mod SeekLaws
 pub mod NextLaws
 pub mod ChosenLaws
 pub mod CallLaws

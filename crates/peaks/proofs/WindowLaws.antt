@@ -10,9 +10,10 @@ use lib.Dec.{eqb}
 use lib.ListN.{getD}
 use lib.Ieee.{Float, nan, lt}
 use borrow.Author.Tests.{eq-eqb, ne-eqb}
+use Rattle.floats.proofs.OrderLaws.{lt-asym}
 use Rattle.peaks.specs.Peak.{Scan, zeroFloat, valueAt, side, cells, middle, neighbour, every, count, beats, highest, positives}
 use Rattle.peaks.specs.Steps.{runAt, blockAt}
-use Rattle.peaks.proofs.CountLaws.{every-cut, every-same, count-cut, count-same, count-most}
+use Rattle.peaks.proofs.CountLaws.{every-cut, every-same, every-miss, count-cut, count-same, count-most}
 
 -- ---- the rule of the window, before and after the pixel
 pub beats-before : (s : Scan) (j : ℕ) (v w : Float) → j < middle s → beats s j v w ≡ lt w v
@@ -190,6 +191,12 @@ module _ (s : Scan) (x y : ℕ) (low : s .window ≤ x) (high : s .window ≤ y)
   pub won-by-below : beatsRight ≡ true → beatsLeft ≡ true → beatsAbove ≡ true → beatsBelow ≡ highest s x y
   won-by-below e f g = by-below beatsAbove beatsLeft beatsRight beatsBelow e f g ∙ sym highest-is
 
+  -- a pixel loses to one on its left, within the window, that beats it
+  pub lost-behind : (k d : ℕ) → k + d ≡ x → 0 < d → d ≤ n → lt value (getD (s .values) (y * s .width + k) nan) ≡ true → false ≡ highest s x y
+  lost-behind k d e h l b =
+      lost-left (every-miss (λ i. lt (runAt (s .values) (at - n) i) value) n (n - d) (omega arith)
+      (ap (λ (i : ℕ). lt (getD (s .values) i nan) value) (let q : at - n + (n - d) ≡ y * s .width + k = omega arith in q) ∙ lt-asym value (getD (s .values) (y * s .width + k) nan) b))
+
   -- ---- the positive values of the window are those of the four pieces
   abbrev counted : ℕ → Bool
   counted j = not (eqb j (middle s)) && lt zeroFloat (neighbour s x y j)
@@ -230,14 +237,20 @@ module _ (s : Scan) (x y : ℕ) (low : s .window ≤ x) (high : s .window ≤ y)
       sums : {a b c d e a' b' d' e' : ℕ} → a ≡ a' → b ≡ b' → c ≡ 0 → d ≡ d' → e ≡ e' → a + (b + (c + (d + e))) ≡ a' + b' + d' + e'
       sums p q r t u = omega arith
 
-  -- four counts that are those of the pieces: their sum, and how large it is
-  pub all-positives : {a l r b : ℕ} → n ≤ 8 → a ≡ countAbove → l ≡ countLeft → r ≡ countRight → b ≡ countBelow → (a + l + r + b ≡ positives s x y) × (a + l + r + b ≤ 1000)
-  all-positives {a} {l} {r} {b} h e f g k = (
-    ap (λ (z : ℕ). z + l + r + b) e ∙ ap (λ (z : ℕ). countAbove + z + r + b) f ∙ ap (λ (z : ℕ). countAbove + countLeft + z + b) g ∙ ap (λ (z : ℕ). countAbove + countLeft + countRight + z) k ∙ sym positives-is,
-    most rows countAbove countBelow (mul-le-mul {n₂ = 8} {m₂ = 17} h (let m : side s ≤ 17 = omega arith in m)) (count-most rows (λ j. lt zeroFloat (blockAt (s .values) corner (s .width) (side s) j)))
-        (count-most n (λ i. lt zeroFloat (runAt (s .values) (at - n) i))) (count-most n (λ i. lt zeroFloat (runAt (s .values) (at + 1) i)))
-        (count-most rows (λ j. lt zeroFloat (blockAt (s .values) (at + s .width - n) (s .width) (side s) j))) e k,
-  )
-    where
-      most : (q c d : ℕ) → q ≤ 136 → c ≤ q → countLeft ≤ n → countRight ≤ n → d ≤ q → a ≡ c → b ≡ d → a + l + r + b ≤ 1000
-      most q c d u v w z y i j = omega (arith, f, g)
+  -- counts that are those of the pieces, one after the other: how far they go, and how large they are
+  module _ {l r : ℕ} (small : n ≤ 8) (f : l ≡ countLeft) (g : r ≡ countRight) where
+    beside-most : l + r ≤ 16
+    beside-most = omega (arith, f, g, count-most n (λ i. lt zeroFloat (runAt (s .values) (at - n) i)), count-most n (λ i. lt zeroFloat (runAt (s .values) (at + 1) i)))
+
+    rows-most : rows ≤ 136
+    rows-most = mul-le-mul {n₂ = 8} {m₂ = 17} small (let m : side s ≤ 17 = omega arith in m)
+
+    pub positives-beside : (l + r ≤ positives s x y) × (l + r ≤ 16)
+    positives-beside = (omega (arith, f, g, positives-is), beside-most)
+
+    pub positives-above : {a : ℕ} → a ≡ countAbove → (l + r + a ≤ positives s x y) × (l + r + a ≤ 152)
+    positives-above {a} e = (omega (arith, f, g, positives-is), omega (arith, beside-most, rows-most, count-most rows (λ j. lt zeroFloat (blockAt (s .values) corner (s .width) (side s) j))))
+
+    pub positives-all : {a b : ℕ} → a ≡ countAbove → b ≡ countBelow → (l + r + a + b ≡ positives s x y) × (l + r + a + b ≤ 288)
+    positives-all {a} {b} e h =
+        (omega (arith, f, g, positives-is), omega (arith, positives-above e .1, rows-most, count-most rows (λ j. lt zeroFloat (blockAt (s .values) (at + s .width - n) (s .width) (side s) j))))

@@ -4,9 +4,9 @@ use mathlib.Core.Bool.{true, false}
 use mathlib.Core.List.{List, _++_}
 use Prim.Native.Nat.{ℕ, _+_, _*_, _/_, _%_, _≤_, _<_}
 use lib.ListN.{length, getD, set, drop}
-use lib.Ieee.{Float, nan}
+use lib.Ieee.{Float, nan, lt}
 use Rattle.peaks.specs.declared.Rule.{Rule}
-use Rattle.peaks.specs.Peak.{Scan, border, least, inside, isPeak}
+use Rattle.peaks.specs.Peak.{Scan, border, every, least, inside, isPeak}
 use Rattle.peaks.specs.Call.{peakAt, peaksOf, recordsOf}
 
 -- a response and the rule by which it is scanned
@@ -42,6 +42,25 @@ blockAt values start width side j = getD values (start + j / side * width + j % 
 
 abbrev pub BlockFits : List Float → ℕ → ℕ → ℕ → ℕ → Type 0
 BlockFits values start width side n = (r : ℕ) → r < n → start + r * width + side ≤ length values
+
+-- v beats r of the n values from `start` on, and the next is one that it does not
+pub record Beaten (values : List Float) (start n : ℕ) (v : Float) (r : ℕ) : Type 0 where
+  pub most : r ≤ n
+  pub all : every r (λ i. lt (runAt values start i) v) ≡ true
+  pub next : r < n → lt (runAt values start r) v ≡ false
+
+-- none of the values from x up to r, counted from a base, exceeds the floor
+pub record Low (values : List Float) (floor : Float) (base x r : ℕ) : Type 0 where
+  pub on : x ≤ r
+  pub none : (k : ℕ) → x ≤ k → k < r → lt floor (runAt values base k) ≡ false
+
+-- the pixel (x, y) beats all on its right
+abbrev pub Right : Scan → ℕ → ℕ → Type 0
+Right s x y = every (s .window) (λ i. lt (runAt (s .values) (y * s .width + x + 1) i) (getD (s .values) (y * s .width + x) nan)) ≡ true
+
+-- it beats the first r values on its right, of as many as the window has
+abbrev pub Ahead : Scan → ℕ → ℕ → ℕ → Type 0
+Ahead s x y r = Beaten (s .values) (y * s .width + x + 1) (s .window) (getD (s .values) (y * s .width + x) nan) r
 
 -- the window of (x, y) lies in the response
 pub record Framed (s : Scan) (x y : ℕ) : Type 0 where

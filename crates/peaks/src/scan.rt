@@ -9,7 +9,7 @@ ghost use lib.ListN.{length};
 ghost use lib.Ieee.{lt, ofInt, binary32};
 ghost use Rattle.peaks.specs.Peak.{zeroFloat, border, isPeak};
 ghost use Rattle.peaks.specs.Call.{peaksOf};
-ghost use Rattle.peaks.specs.Steps.{scanOf, Sound, Bordered, Within, FirstIn, InRow, Next, Tallied, recorded, filled};
+ghost use Rattle.peaks.specs.Steps.{scanOf, Sound, Bordered, Within, Ahead, Low, FirstIn, InRow, Next, Tallied, recorded, filled};
 
 // max(threshold, 0).
 fn floor_of(threshold: f32) -> f32
@@ -18,33 +18,93 @@ fn floor_of(threshold: f32) -> f32
     if 0.0 < threshold { threshold } else { 0.0 }
 }
 
-// Whether the pixel (x, y), inside the border, is a peak. The window is read only where the value exceeds the floor.
-fn is_peak(response: &[f32], rule: Rule, floor: f32, x: usize, y: usize) -> bool
-    requires { ⌜ Within (scanOf (now response) rule) floor x y ⌝ }
+// Whether the pixel (x, y), inside the border, is a peak; it beats the first `run` values on its right. The rest of its window is read only
+// where those are all.
+fn is_peak(response: &[f32], rule: Rule, floor: f32, run: usize, x: usize, y: usize) -> bool
+    requires { ⌜ Within (scanOf (now response) rule) floor x y ⌝ ∗ ⌜ Ahead (scanOf (now response) rule) x y run ⌝ }
     ensures { λ r. ⌜ r ≡ isPeak (scanOf (now (response .entry)) rule) x y ⌝ }
 {
+    if run < rule.window {
+        return false;
+    }
     let width = rule.width;
     let v = response[y * width + x];
     if floor < v {
         if window::is_highest(response, rule, x, y) {
-            return rule.cluster <= window::positives(response, rule, x, y);
+            return window::has_cluster(response, rule, x, y);
         }
         return false;
     }
     false
 }
 
+// i for a value above the floor, else what was found before.
+fn nearer(floor: f32, w: f32, i: usize, found: usize) -> usize
+    ensures { λ r. ⌜ r ≡ cond (lt floor w) i found ⌝ }
+{
+    if floor < w { i } else { found }
+}
+
+// The first of the eight values from `start` on that exceeds the floor, or 8. It is sought from the last one on, so that nothing branches.
+fn first_of_eight(response: &[f32], start: usize, floor: f32) -> usize
+    requires { ⌜ start + 8 ≤ length (now response) ⌝ }
+    ensures { λ r. ⌜ (r ≤ 8) × Low (now (response .entry)) floor start 0 r ⌝ }
+{
+    let mut found = 8;
+    let mut i = 8;
+    while 0 < i {
+        i -= 1;
+        found = nearer(floor, response[start + i], i, found);
+    }
+    found
+}
+
+// The first value from column x on, short of `end`, that exceeds the floor; eight columns at a time.
+fn seek(response: &[f32], floor: f32, base: usize, x: usize, end: usize) -> usize
+    requires { ⌜ (base + end ≤ length (now response)) × (x ≤ 8192) × (end ≤ 4096) ⌝ }
+    ensures { λ r. ⌜ Low (now (response .entry)) floor base x r ⌝ }
+{
+    let mut k = x;
+    while k + 8 <= end {
+        if 0 < window::above_run(response, base + k, 8, floor) {
+            return k + first_of_eight(response, base + k, floor);
+        }
+        k += 8;
+    }
+    seek_slowly(response, floor, base, k, end)
+}
+
+// The same one column at a time.
+fn seek_slowly(response: &[f32], floor: f32, base: usize, x: usize, end: usize) -> usize
+    requires { ⌜ base + end ≤ length (now response) ⌝ }
+    ensures { λ r. ⌜ Low (now (response .entry)) floor base x r ⌝ }
+{
+    let mut k = x;
+    while k < end {
+        if floor < response[base + k] {
+            return k;
+        }
+        k += 1;
+    }
+    k
+}
+
 // The first peak of row y of the columns from `from` up to `end`, which are inside the border; the width where there is none.
+// A value that beats a run on its right lets none of that run be a peak: the run is passed over.
 fn first_in(response: &[f32], rule: Rule, floor: f32, y: usize, from: usize, end: usize) -> usize
     requires { ⌜ Bordered (scanOf (now response) rule) floor y from end ⌝ }
     ensures { λ r. ⌜ FirstIn (scanOf (now (response .entry)) rule) from end y r ⌝ }
 {
-    let mut x = from;
+    let window = rule.window;
+    let base = y * rule.width;
+    let mut x = seek(response, floor, base, from, end);
     while x < end {
-        if is_peak(response, rule, floor, x, y) {
+        let v = response[base + x];
+        let run = window::run_ahead(response, base + x + 1, window, v);
+        if is_peak(response, rule, floor, run, x, y) {
             return x;
         }
-        x += 1;
+        x = seek(response, floor, base, x + run + 1, end);
     }
     rule.width
 }

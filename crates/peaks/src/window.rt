@@ -4,10 +4,11 @@ use crate::Rule;
 ghost use mathlib.Core.Path.{_≡_};
 ghost use mathlib.Core.Bool.{cond};
 ghost use Prim.Native.Nat.{_+_, _*_, _≤_};
+ghost use lib.Dec.{leb};
 ghost use lib.ListN.{length};
 ghost use lib.Ieee.{lt};
-ghost use Rattle.peaks.specs.Peak.{zeroFloat, every, count, highest, positives};
-ghost use Rattle.peaks.specs.Steps.{scanOf, runAt, blockAt, BlockFits, Framed};
+ghost use Rattle.peaks.specs.Peak.{every, count, highest, positives};
+ghost use Rattle.peaks.specs.Steps.{scanOf, runAt, blockAt, BlockFits, Beaten, Framed, Right};
 
 // Whether the pixel's value v beats another value w of its window.
 fn beats(v: f32, w: f32) -> bool
@@ -46,18 +47,30 @@ fn beats_rows(response: &[f32], start: usize, width: usize, side: usize, n: usiz
     true
 }
 
-// Whether the pixel (x, y) beats every other value of its window.
+// How many of the n values from `start` on v beats, one after the other.
+pub fn run_ahead(response: &[f32], start: usize, n: usize, v: f32) -> usize
+    requires { ⌜ start + n ≤ length (now response) ⌝ }
+    ensures { λ r. ⌜ Beaten (now (response .entry)) start n v r ⌝ }
+{
+    let mut i = 0;
+    while i < n {
+        if !beats(v, response[start + i]) {
+            return i;
+        }
+        i += 1;
+    }
+    n
+}
+
+// Whether the pixel (x, y), which beats all on its right, beats every other value of its window too.
 pub fn is_highest(response: &[f32], rule: Rule, x: usize, y: usize) -> bool
-    requires { ⌜ Framed (scanOf (now response) rule) x y ⌝ }
+    requires { ⌜ Framed (scanOf (now response) rule) x y ⌝ ∗ ⌜ Right (scanOf (now response) rule) x y ⌝ }
     ensures { λ r. ⌜ r ≡ highest (scanOf (now (response .entry)) rule) x y ⌝ }
 {
     let width = rule.width;
     let n = rule.window;
     let at = y * width + x;
     let v = response[at];
-    if !beats_run(response, at + 1, n, v) {
-        return false;
-    }
     if !beats_run(response, at - n, n, v) {
         return false;
     }
@@ -67,52 +80,65 @@ pub fn is_highest(response: &[f32], rule: Rule, x: usize, y: usize) -> bool
     beats_rows(response, at + width - n, width, 2 * n + 1, n, v)
 }
 
-// 1 for a positive value.
-fn positive(w: f32) -> u32
-    ensures { λ r. ⌜ r ≡ cond (lt zeroFloat w) 1 0 ⌝ }
+// 1 for a value above the floor.
+fn above(floor: f32, w: f32) -> u32
+    ensures { λ r. ⌜ r ≡ cond (lt floor w) 1 0 ⌝ }
 {
-    if 0.0 < w { 1 } else { 0 }
+    if floor < w { 1 } else { 0 }
 }
 
-// How many of the n values from `start` on are positive.
-fn positives_run(response: &[f32], start: usize, n: usize) -> u32
+// How many of the n values from `start` on are above the floor.
+pub fn above_run(response: &[f32], start: usize, n: usize, floor: f32) -> u32
     requires { ⌜ (start + n ≤ length (now response)) × (n ≤ 17) ⌝ }
-    ensures { λ r. ⌜ r ≡ count n (λ i. lt zeroFloat (runAt (now (response .entry)) start i)) ⌝ }
+    ensures { λ r. ⌜ r ≡ count n (λ i. lt floor (runAt (now (response .entry)) start i)) ⌝ }
 {
     let mut sum = 0;
     let mut i = 0;
     while i < n {
-        sum += positive(response[start + i]);
+        sum += above(floor, response[start + i]);
         i += 1;
     }
     sum
 }
 
-// How many of n rows of `side` values each, `width` apart, are positive.
-fn positives_rows(response: &[f32], start: usize, width: usize, side: usize, n: usize) -> u32
+// How many of n rows of `side` values each, `width` apart, are above the floor.
+fn above_rows(
+    response: &[f32],
+    start: usize,
+    width: usize,
+    side: usize,
+    n: usize,
+    floor: f32,
+) -> u32
     requires { ⌜ BlockFits (now response) start width side n ⌝ ∗ ⌜ (1 ≤ side) × (side ≤ 17) × (n ≤ 17) ⌝ }
-    ensures { λ r. ⌜ r ≡ count (n * side) (λ j. lt zeroFloat (blockAt (now (response .entry)) start width side j)) ⌝ }
+    ensures { λ r. ⌜ r ≡ count (n * side) (λ j. lt floor (blockAt (now (response .entry)) start width side j)) ⌝ }
 {
     let mut sum = 0;
     let mut r = 0;
     while r < n {
-        sum += positives_run(response, start + r * width, side);
+        sum += above_run(response, start + r * width, side, floor);
         r += 1;
     }
     sum
 }
 
-// How many other values of the window of (x, y) are positive.
-pub fn positives(response: &[f32], rule: Rule, x: usize, y: usize) -> u32
+// Whether enough other values of the window of (x, y) are positive. Those beside it are counted first, since they often suffice.
+pub fn has_cluster(response: &[f32], rule: Rule, x: usize, y: usize) -> bool
     requires { ⌜ Framed (scanOf (now response) rule) x y ⌝ }
-    ensures { λ r. ⌜ r ≡ positives (scanOf (now (response .entry)) rule) x y ⌝ }
+    ensures { λ r. ⌜ r ≡ leb (rule .cluster) (positives (scanOf (now (response .entry)) rule) x y) ⌝ }
 {
     let width = rule.width;
     let n = rule.window;
     let at = y * width + x;
-    let above = positives_rows(response, at - n * width - n, width, 2 * n + 1, n);
-    let left = positives_run(response, at - n, n);
-    let right = positives_run(response, at + 1, n);
-    let below = positives_rows(response, at + width - n, width, 2 * n + 1, n);
-    above + left + right + below
+    let left = above_run(response, at - n, n, 0.0);
+    let right = above_run(response, at + 1, n, 0.0);
+    if rule.cluster <= left + right {
+        return true;
+    }
+    let up = above_rows(response, at - n * width - n, width, 2 * n + 1, n, 0.0);
+    if rule.cluster <= left + right + up {
+        return true;
+    }
+    let down = above_rows(response, at + width - n, width, 2 * n + 1, n, 0.0);
+    rule.cluster <= left + right + up + down
 }
