@@ -2,6 +2,8 @@
 //! are the thread's time on the processor: on a busy computer the clock on the
 //! wall would count the work of others, the more the longer a call takes.
 
+mod refine;
+
 use crate::port;
 use oracle::plain::original as rust;
 use oracle::random::Random;
@@ -223,20 +225,23 @@ fn merge(name: &str, count: usize, field: [f32; 2], radius: f32) -> bool {
     kept == want.len() && calls::same_floats(&ours[..3 * kept], &want.concat())
 }
 
-/// Prints the tables. `false` where the two sides do not answer alike.
-pub fn run() -> bool {
-    let mut same = true;
-    println!("Milliseconds on the processor: median (least, quartiles). Ratios: of the medians (of the least).\n");
+fn responses() -> bool {
     println!("| call | ours | the Rust's call | ours / Rust | the Rust's rows, lent buffer | ours / rows |");
     println!("|---|---|---|---|---|---|");
+    let mut same = true;
     for radius in [5, 10] {
         same &= response([640, 480], radius, 201);
     }
     for radius in [5, 10] {
         same &= response([4096, 4096], radius, 11);
     }
-    println!("\n| call: corners in to corners kept | ours | the Rust's | ours / Rust | ours, ns a corner | the Rust's |");
+    same
+}
+
+fn merges() -> bool {
+    println!("| call: corners in to corners kept | ours | the Rust's | ours / Rust | ours, ns a corner | the Rust's |");
     println!("|---|---|---|---|---|---|");
+    let mut same = true;
     let field = [640.0, 480.0];
     for radius in [2.0, 5.0] {
         same &= merge("scattered", 4096, field, radius);
@@ -245,6 +250,29 @@ pub fn run() -> bool {
     for count in [512, 1024, 2048, 4096] {
         let shrink = (count as f32 / 4096.0).sqrt();
         same &= merge("at one density", count, field.map(|f| f * shrink), 5.0);
+    }
+    same
+}
+
+/// A table by its name.
+type Table = (&'static str, fn() -> bool);
+
+const TABLES: [Table; 3] = [
+    ("response", responses),
+    ("merge", merges),
+    ("refine", refine::tables),
+];
+
+/// Prints the tables, or one of them by its name. `false` where the two sides
+/// do not answer alike.
+pub fn run(one: Option<&str>) -> bool {
+    println!("Milliseconds on the processor: median (least, quartiles). Ratios: of the medians (of the least).");
+    let mut same = true;
+    for (name, table) in TABLES {
+        if one.is_none_or(|one| one == name) {
+            println!();
+            same &= table();
+        }
     }
     if !same {
         println!("\nTHE TWO SIDES DO NOT ANSWER ALIKE");

@@ -1,6 +1,6 @@
 //! The proved code beside the Rust, in one program.
 //!   compare run SECONDS [SEED]   compares on fresh inputs; status 1 where they part
-//!   compare bench                times both and prints a table
+//!   compare bench [CALL]         times both and prints the tables, or a call's
 
 mod bench;
 mod merge;
@@ -65,14 +65,14 @@ fn main() -> ExitCode {
             }
         }
         (Some("bench"), _) => {
-            if bench::run() {
+            if bench::run(words.get(1).map(String::as_str)) {
                 ExitCode::SUCCESS
             } else {
                 ExitCode::FAILURE
             }
         }
         _ => {
-            eprintln!("usage: compare run SECONDS [SEED] | compare bench");
+            eprintln!("usage: compare run SECONDS [SEED] | compare bench [CALL]");
             ExitCode::from(2)
         }
     }

@@ -122,6 +122,16 @@ impl Refiner {
         }
     }
 
+    /// The estimate alone of a seed whose patch lies inside the image: the
+    /// place, and the covariance; `None` where it is refused.
+    pub fn estimate<'a>(
+        &mut self,
+        image: impl Into<View<'a>>,
+        seed: [f32; 2],
+    ) -> Option<([f32; 2], Option<[f32; 3]>)> {
+        probe::saddle_point::estimate(&mut self.0, &view(image.into()), seed)
+    }
+
     /// `refine_corners_on_image`.
     pub fn refine_list<'a>(&mut self, image: impl Into<View<'a>>, list: &[Triple]) -> Vec<Triple> {
         triples(&rust::refine_corners_on_image(

@@ -85,6 +85,20 @@ pub fn refiner(cfg: SaddlePointConfig, reports: bool) -> SaddlePointRefiner {
     made
 }
 
+/// The refiner's estimate alone, without the edge width that `refine` works
+/// out beside a covariance; the centre's patch must lie inside the image.
+pub fn estimate(
+    refiner: &mut SaddlePointRefiner,
+    image: &ImageView<'_>,
+    seed: [f32; 2],
+) -> Option<([f32; 2], Option<[f32; 3]>)> {
+    let centre = seed.map(|v| v.round() as i32);
+    let found = refiner.estimate(image, centre, seed, MAX_STEPS, STEP_TOL);
+    let found = found.ok()?;
+    let covariance = found.covariance.map(|c| [c.xx, c.xy, c.yy]);
+    Some((found.xy, covariance))
+}
+
 /// What the mirror of the loop found.
 pub struct Mirrored {
     pub xy: [f32; 2],

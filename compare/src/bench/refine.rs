@@ -1,0 +1,305 @@
+//! The refiner's rows: lists, operators, single seeds.
+
+use super::{in_turn, ratio, timed, Times};
+use crate::port;
+use oracle::plain::original as rust;
+use oracle::random::Random;
+use oracle::types::{Settings, Triple, View};
+use oracle::{calls, pictures, plain};
+use rust::CornerRefiner;
+
+const SIZE: [usize; 2] = [640, 480];
+const SEEDS: usize = 4096;
+
+/// Lists of each row, called one after the other.
+const LISTS: usize = 8;
+
+/// A board, turned so that its corners lie anywhere between pixels, blurred
+/// over two pixels and with a little noise.
+struct Board {
+    image: oracle::types::Image,
+    corners: Vec<[f32; 2]>,
+}
+
+/// The turned axes of the board, each 24 pixels and a little long.
+const ACROSS: [f32; 2] = [24.0, 3.0];
+const DOWN: [f32; 2] = [-3.0, 24.0];
+
+impl Board {
+    fn new() -> Self {
+        let [w, h] = SIZE;
+        let det = ACROSS[0] * DOWN[1] - ACROSS[1] * DOWN[0];
+        let lit = |x: f32, y: f32| {
+            let i = ((x * DOWN[1] - y * DOWN[0]) / det).floor() as i32;
+            let j = ((y * ACROSS[0] - x * ACROSS[1]) / det).floor() as i32;
+            (i + j) & 1 == 0
+        };
+        let mut bytes = Vec::new();
+        for k in 0..w * h {
+            let (x, y) = ((k % w) as f32, (k / w) as f32);
+            let points = (0..64).filter(|p| {
+                let at = |p: usize| (p % 8) as f32 / 4.0 - 0.875;
+                lit(x + at(*p), y + at(*p / 8))
+            });
+            bytes.push(40 + (points.count() * 160 / 64) as u8);
+        }
+        let mut image = oracle::types::Image::new(w, h, bytes);
+        pictures::shake(&mut Random::of(1, "bench"), &mut image, 3);
+        let mut corners = Vec::new();
+        for j in -30i32..60 {
+            for i in -30i32..60 {
+                let at = |k: usize| i as f32 * ACROSS[k] + j as f32 * DOWN[k];
+                let inside = |v: f32, size: usize| v > 10.0 && v < size as f32 - 11.0;
+                if inside(at(0), w) && inside(at(1), h) {
+                    corners.push([at(0), at(1)]);
+                }
+            }
+        }
+        Board { image, corners }
+    }
+
+    /// Seeds within 0.8 pixels of a corner on each axis, or anywhere.
+    fn seeds(&self, random: &mut Random, near: bool) -> Vec<Triple> {
+        (0..SEEDS)
+            .map(|_| {
+                let corner = random.pick(&self.corners);
+                let [x, y] = [0, 1].map(|k| match near {
+                    true => corner[k] + 1.6 * (random.unit() - 0.5),
+                    false => SIZE[k] as f32 * random.unit(),
+                });
+                [x, y, random.unit()]
+            })
+            .collect()
+    }
+
+    fn lent(&self) -> port::Image<'_> {
+        port::Image {
+            bytes: &self.image.bytes,
+            width: SIZE[0],
+            height: SIZE[1],
+        }
+    }
+
+    fn rust(&self) -> rust::ImageView<'_> {
+        rust::ImageView::from_u8_slice(SIZE[0], SIZE[1], &self.image.bytes).expect("a whole image")
+    }
+
+    fn view(&self) -> View<'_> {
+        View::from(&self.image)
+    }
+}
+
+/// The Rust's default settings at a radius, for both sides.
+fn settings(radius: i32) -> (Settings, port::Settings, rust::SaddlePointConfig) {
+    let mut config = rust::SaddlePointConfig::default();
+    config.radius = radius;
+    let s = Settings {
+        radius,
+        ..Settings::default()
+    };
+    let lent = port::Settings {
+        radius: radius as usize,
+        det_margin: config.det_margin,
+        max_offset: config.max_offset,
+        min_abs_det: config.min_abs_det,
+    };
+    (s, lent, config)
+}
+
+/// Nanoseconds of one of `count`, by the median.
+fn each(times: &Times, count: usize) -> f64 {
+    times.part(50) * 1e6 / count as f64
+}
+
+fn list(board: &Board, near: bool, radius: i32) -> bool {
+    let name = if near { "near corners" } else { "anywhere" };
+    let mut random = Random::of(3, name);
+    let (s, lent, config) = settings(radius);
+    let lists: Vec<Vec<Triple>> = (0..LISTS)
+        .map(|_| board.seeds(&mut random, near))
+        .collect();
+    let floats: Vec<Vec<f32>> = lists.iter().map(|list| list.concat()).collect();
+    let rust_lists: Vec<Vec<rust::Corner>> = lists
+        .iter()
+        .map(|list| {
+            list.iter()
+                .map(|c| rust::Corner::new(c[0], c[1], c[2]))
+                .collect()
+        })
+        .collect();
+    let mut out = vec![1.0f32; 3 * SEEDS];
+    let mut count = 0;
+    let mut call =
+        |k: usize| timed(|| port::refine_list(board.lent(), lent, &floats[k], &mut out, &mut count)).0;
+    let mut kept = rust::SaddlePointRefiner::new(config);
+    let (mut turn, mut built_turn, mut kept_turn) = (0, 0, 0);
+    let mut by_port = || {
+        turn += 1;
+        call(turn % LISTS)
+    };
+    let mut by_built = || {
+        built_turn += 1;
+        let list = rust_lists[built_turn % LISTS].clone();
+        timed(|| {
+            let mut refiner = rust::SaddlePointRefiner::new(config);
+            rust::refine_corners_on_image(list, Some(board.rust()), None, &mut refiner)
+        })
+        .0
+    };
+    let mut by_kept = || {
+        kept_turn += 1;
+        let list = rust_lists[kept_turn % LISTS].clone();
+        timed(|| rust::refine_corners_on_image(list, Some(board.rust()), None, &mut kept)).0
+    };
+    let t = in_turn(
+        &mut [&mut by_port, &mut by_built, &mut by_kept],
+        20 * LISTS,
+    );
+    call(0);
+    println!(
+        "| list {name}, radius {radius}: {SEEDS} to {count} | {} | {} | {} | {} | {} | {:.0} | {:.0} |",
+        t[0].told(),
+        t[1].told(),
+        ratio(&t[0], &t[1]),
+        t[2].told(),
+        ratio(&t[0], &t[2]),
+        each(&t[0], SEEDS),
+        each(&t[1], SEEDS),
+    );
+    let (_, want) = calls::refine_list(board.view(), &s, &floats[0], 3 * SEEDS);
+    count == want.len() && calls::same_floats(&out[..3 * count], &want.concat())
+}
+
+/// Operators of a radius built in one timing.
+const BUILT: usize = 16;
+
+fn operator(radius: i32) -> bool {
+    let (_, _, config) = settings(radius);
+    let mut columns = [0.0; port::COLUMNS];
+    let mut overlap = [0.0; port::OVERLAP];
+    let mut by_port = || {
+        timed(|| {
+            for _ in 0..BUILT {
+                port::fit_operator(radius as usize, &mut columns, &mut overlap);
+            }
+        })
+        .0
+    };
+    let mut by_rust = || {
+        timed(|| {
+            for _ in 0..BUILT {
+                std::hint::black_box(rust::SaddlePointRefiner::new(config));
+            }
+        })
+        .0
+    };
+    let t = in_turn(&mut [&mut by_port, &mut by_rust], 400);
+    println!(
+        "| operator, radius {radius} | {:.0} | {:.0} | {} |",
+        each(&t[0], BUILT),
+        each(&t[1], BUILT),
+        ratio(&t[0], &t[1]),
+    );
+    let want = calls::operator(radius).expect("an operator");
+    let entries: Vec<f32> = want.columns.concat();
+    calls::same_floats(&columns[..entries.len()], &entries)
+        && calls::same_floats(&overlap, &want.overlap.concat().concat())
+}
+
+/// Single calls over the seeds of a list, with an operator built before.
+fn single(board: &Board, radius: i32, covariance: bool) -> bool {
+    let mut random = Random::of(4, "single");
+    let (s, lent, _) = settings(radius);
+    let seeds = board.seeds(&mut random, true);
+    let mut columns = [0.0; port::COLUMNS];
+    let mut overlap = [0.0; port::OVERLAP];
+    port::fit_operator(radius as usize, &mut columns, &mut overlap);
+    let wanted = u32::from(covariance);
+    let mut call = |seed: &Triple, place: &mut [f32; 3]| {
+        let mut state = [0; 3];
+        let mut entries = [0.0; 3];
+        let answer = port::Answer {
+            place,
+            state: &mut state,
+            covariance: &mut entries,
+        };
+        let at = [seed[0], seed[1]];
+        let number =
+            port::refine_with(board.lent(), lent, at, wanted, &columns, &overlap, answer);
+        (number, state, entries)
+    };
+    let mut by_port = || {
+        let mut place = [0.0; 3];
+        timed(|| {
+            for seed in &seeds {
+                std::hint::black_box(call(seed, &mut place));
+            }
+        })
+        .0
+    };
+    let mut refiner = plain::Refiner::new(&s, covariance);
+    let mut by_rust = || {
+        timed(|| {
+            for seed in &seeds {
+                std::hint::black_box(refiner.refine(board.view(), [seed[0], seed[1]]));
+            }
+        })
+        .0
+    };
+    let mut alone = plain::Refiner::new(&s, covariance);
+    let mut by_estimate = || {
+        timed(|| {
+            for seed in &seeds {
+                std::hint::black_box(alone.estimate(board.view(), [seed[0], seed[1]]));
+            }
+        })
+        .0
+    };
+    let t = in_turn(&mut [&mut by_port, &mut by_rust, &mut by_estimate], 100);
+    let asked = if covariance { "with" } else { "without" };
+    println!(
+        "| one seed, radius {radius}, {asked} covariance | {:.0} | {:.0} | {} | {:.0} | {} |",
+        each(&t[0], SEEDS),
+        each(&t[1], SEEDS),
+        ratio(&t[0], &t[1]),
+        each(&t[2], SEEDS),
+        ratio(&t[0], &t[2]),
+    );
+    seeds.iter().all(|seed| {
+        let mut place = [0.0; 3];
+        let (number, state, entries) = call(seed, &mut place);
+        let want = plain::Refiner::new(&s, covariance).refine(board.view(), [seed[0], seed[1]]);
+        let given = want.covariance.is_some();
+        number == want.status
+            && calls::same_floats(&place, &[want.x, want.y, want.score])
+            && (number != 0 || (state[0] == 1) == want.converged)
+            && (number != 0 || (state[2] == 1) == given)
+            && (!given || calls::same_floats(&entries, &want.covariance.unwrap_or_default()))
+    })
+}
+
+pub fn tables() -> bool {
+    let board = Board::new();
+    let mut same = true;
+    println!("| call: seeds in to records | ours | the Rust's, refiner built in the call | ours / Rust | the Rust's, refiner built before | ours / Rust | ours, ns a seed | the Rust's, built in the call |");
+    println!("|---|---|---|---|---|---|---|---|");
+    for radius in [2, 7] {
+        for near in [true, false] {
+            same &= list(&board, near, radius);
+        }
+    }
+    println!("\nNanoseconds, by the medians.\n");
+    println!("| call | ours | the Rust's | ours / Rust |");
+    println!("|---|---|---|---|");
+    for radius in [2, 7] {
+        same &= operator(radius);
+    }
+    println!("\n| call | ours | the Rust's `refine` | ours / Rust | the Rust's estimate alone | ours / estimate |");
+    println!("|---|---|---|---|---|---|");
+    for radius in [2, 7] {
+        for covariance in [false, true] {
+            same &= single(&board, radius, covariance);
+        }
+    }
+    same
+}
