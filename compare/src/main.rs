@@ -3,9 +3,13 @@
 //!   compare bench [CALL]         times both and prints the tables, or a call's
 
 mod bench;
+mod list;
 mod merge;
+mod operator;
 mod port;
+mod refine;
 mod response;
+mod scene;
 mod trial;
 
 use oracle::random::Random;
@@ -20,35 +24,94 @@ const LEAST: u64 = 5_000;
 /// every choice of the samples that are read.
 const LONG: u64 = 60;
 
+/// Seeds for each merge and response, and how many of these go to a list.
+const SEEDS: usize = 32;
+const PER_LIST: u64 = 2;
+
+/// Every call's own test of this driver.
+fn faults_noticed() -> Result<(), String> {
+    merge::faults_noticed()?;
+    response::faults_noticed()?;
+    operator::faults_noticed()?;
+    refine::faults_noticed()?;
+    list::faults_noticed()
+}
+
+/// What was seen of each call.
+#[derive(Default)]
+struct Tallies {
+    merges: Tally,
+    responses: Tally,
+    operators: Tally,
+    seeds: Tally,
+    lists: Tally,
+}
+
+impl Tallies {
+    /// The short and the rare inputs; `false` where one differs.
+    fn short(&mut self, random: &mut Random, long: bool) -> bool {
+        let low = random.byte() / 2;
+        let high = low + 1 + random.byte() / 2;
+        operator::short(&mut self.operators)
+            && refine::rare(&mut self.seeds)
+            && list::longest(&mut self.lists, random)
+            && merge::short(&mut self.merges)
+            && response::short(&mut self.responses, long, [0, 255])
+            && response::short(&mut self.responses, false, [low, high])
+    }
+
+    /// Random inputs; `false` where one differs.
+    fn fresh(&mut self, random: &mut Random, kept: &mut Kept) -> bool {
+        self.merges.tried(&merge::any(random))
+            && self
+                .responses
+                .tried(&response::any(random, &mut kept.rings))
+            && (self.merges.cases % PER_LIST > 0 || self.lists.tried(&list::any(random)))
+            && (0..SEEDS).all(|_| self.seeds.tried(&kept.scenes.any(random)))
+    }
+
+    fn told(&self, to_the_end: bool) -> bool {
+        let merges = self.merges.told::<merge::Merge>(to_the_end);
+        let responses = self.responses.told::<response::Response>(to_the_end);
+        let operators = self.operators.told::<operator::Operator>(to_the_end);
+        let seeds = self.seeds.told::<refine::Refine>(to_the_end);
+        let lists = self.lists.told::<list::List>(to_the_end);
+        merges && responses && operators && seeds && lists
+    }
+}
+
+/// What serves several random inputs.
+struct Kept {
+    rings: response::Rings,
+    scenes: refine::Scenes,
+}
+
 fn run(seconds: u64, seed: u64) -> bool {
     println!("compare: seed {seed}, {seconds} s");
-    if let Err(what) = merge::faults_noticed().and_then(|()| response::faults_noticed()) {
+    if let Err(what) = faults_noticed() {
         println!("compare: the driver itself fails: {what}");
         return false;
     }
     let began = Instant::now();
     let whole = Duration::from_secs(seconds);
-    let (mut merges, mut responses) = (Tally::default(), Tally::default());
+    let mut tallies = Tallies::default();
     let mut random = Random::of(seed, "compare");
-    let low = random.byte() / 2;
-    let high = low + 1 + random.byte() / 2;
-    let short = merge::short(&mut merges)
-        && response::short(&mut responses, seconds >= LONG, [0, 255])
-        && response::short(&mut responses, false, [low, high]);
-    let mut rings = response::Rings::new();
+    let mut alike = tallies.short(&mut random, seconds >= LONG);
+    let mut kept = Kept {
+        rings: response::Rings::new(),
+        scenes: refine::Scenes::new(&mut random),
+    };
     let mut fresh = 0;
-    while short && (fresh < LEAST || began.elapsed() < whole) {
+    while alike && (fresh < LEAST || began.elapsed() < whole) {
         fresh += 1;
-        let merge = merge::any(&mut random);
-        let response = response::any(&mut random, &mut rings);
-        if !merges.tried(&merge) || !responses.tried(&response) {
-            break;
-        }
+        alike = tallies.fresh(&mut random, &mut kept);
     }
-    let to_the_end = !merges.differ && !responses.differ;
-    let merges = merges.told::<merge::Merge>(to_the_end);
-    let responses = responses.told::<response::Response>(to_the_end);
-    merges && responses
+    let all = tallies.told(alike);
+    let operators = refine::operators_kept();
+    if !operators {
+        println!("refine: DIFFERS: a lent operator is written");
+    }
+    all && operators
 }
 
 fn main() -> ExitCode {

@@ -1,7 +1,7 @@
 //! `chess_corners_merge` against `merge_corners_simple` and document 01.
 
 use crate::port;
-use crate::trial::{alike, parts, Lent, Tally, Trial, PAINT};
+use crate::trial::{self, alike, bits, parts, Lent, Met, Tally, Trial, PAINT};
 use oracle::calls;
 use oracle::random::Random;
 use oracle::rules::{self, Way};
@@ -21,7 +21,7 @@ pub struct Merge {
 
 /// All that the call leaves.
 #[derive(Clone)]
-struct Left {
+pub struct Left {
     number: u32,
     count: usize,
     corners: Lent<f32>,
@@ -29,7 +29,61 @@ struct Left {
     links: Lent<u16>,
 }
 
-impl Merge {
+fn class_of(way: Way) -> &'static str {
+    match way {
+        Way::Refused(rules::TOO_MANY) => "16",
+        Way::Refused(rules::GRID_TOO_BIG) => "17",
+        Way::Refused(rules::BAD_SCRATCH) => "18",
+        Way::Refused(_) => "19",
+        Way::Empty => "empty list",
+        Way::Unchanged => "unchanged",
+        Way::Plain => "plain scan",
+        Way::Grid => "grid",
+    }
+}
+
+impl Display for Merge {
+    fn fmt(&self, f: &mut Formatter<'_>) -> fmt::Result {
+        writeln!(
+            f,
+            "  {} floats, radius {}, {} heads, {} links",
+            self.floats.len(),
+            bits(self.radius),
+            self.heads,
+            self.links
+        )?;
+        for c in self.floats.chunks(3) {
+            let corner: Vec<String> = c.iter().map(|v| bits(*v)).collect();
+            writeln!(f, "  {}", corner.join("  "))?;
+        }
+        Ok(())
+    }
+}
+
+/// How odd a float looks: whole small numbers least.
+fn oddness(f: f32) -> u64 {
+    let plain = [0.0f32, 1.0, 2.0, 4.0, 0.5];
+    plain
+        .iter()
+        .position(|p| p.to_bits() == f.to_bits())
+        .map_or(9, |k| k as u64)
+}
+
+impl Trial for Merge {
+    const NAME: &'static str = "merge";
+    const CLASSES: &'static [&'static str] = &[
+        "empty list",
+        "unchanged",
+        "plain scan",
+        "grid",
+        "16",
+        "17",
+        "18",
+        "19",
+    ];
+
+    type Left = Left;
+
     fn by_port(&self) -> Left {
         let mut left = Left {
             number: 0,
@@ -48,8 +102,7 @@ impl Merge {
         left
     }
 
-    /// How what is left parts from what is expected; else the class.
-    fn judged(&self, left: &Left) -> Result<&'static str, String> {
+    fn judged(&self, left: &Left) -> Result<Met, String> {
         let list = calls::triples(&self.floats);
         let way = rules::merge_way(
             self.floats.len(),
@@ -103,69 +156,7 @@ impl Merge {
         {
             return Err("something is written outside the list".into());
         }
-        Ok(class_of(way))
-    }
-}
-
-fn class_of(way: Way) -> &'static str {
-    match way {
-        Way::Refused(rules::TOO_MANY) => "16",
-        Way::Refused(rules::GRID_TOO_BIG) => "17",
-        Way::Refused(rules::BAD_SCRATCH) => "18",
-        Way::Refused(_) => "19",
-        Way::Empty => "empty list",
-        Way::Unchanged => "unchanged",
-        Way::Plain => "plain scan",
-        Way::Grid => "grid",
-    }
-}
-
-fn bits(f: f32) -> String {
-    format!("{:08X} ({f:e})", f.to_bits())
-}
-
-impl Display for Merge {
-    fn fmt(&self, f: &mut Formatter<'_>) -> fmt::Result {
-        writeln!(
-            f,
-            "  {} floats, radius {}, {} heads, {} links",
-            self.floats.len(),
-            bits(self.radius),
-            self.heads,
-            self.links
-        )?;
-        for c in self.floats.chunks(3) {
-            let corner: Vec<String> = c.iter().map(|v| bits(*v)).collect();
-            writeln!(f, "  {}", corner.join("  "))?;
-        }
-        Ok(())
-    }
-}
-
-/// How odd a float looks: whole small numbers least.
-fn oddness(f: f32) -> u64 {
-    let plain = [0.0f32, 1.0, 2.0, 4.0, 0.5];
-    plain
-        .iter()
-        .position(|p| p.to_bits() == f.to_bits())
-        .map_or(9, |k| k as u64)
-}
-
-impl Trial for Merge {
-    const NAME: &'static str = "merge";
-    const CLASSES: &'static [&'static str] = &[
-        "empty list",
-        "unchanged",
-        "plain scan",
-        "grid",
-        "16",
-        "17",
-        "18",
-        "19",
-    ];
-
-    fn class(&self) -> Result<&'static str, String> {
-        self.judged(&self.by_port())
+        Ok(Met::of(class_of(way)))
     }
 
     fn size(&self) -> u64 {
@@ -373,27 +364,17 @@ pub fn faults_noticed() -> Result<(), String> {
         links: 1,
         ..grid.clone()
     };
-    type Fault = fn(&mut Left);
-    let faults: [(&str, Fault); 8] = [
-        ("number", |l| l.number ^= 1),
-        ("count", |l| l.count ^= 1),
-        ("a value", |l| l.corners.part()[0] = 7.0),
-        ("the sign of a zero", |l| l.corners.part()[8] = -0.0),
-        ("a head", |l| l.heads.part()[19] = 1),
-        ("a link", |l| l.links.part()[0] = 1),
-        ("outside the list", |l| l.corners.spoil()[0] = 0.0),
-        ("outside the heads", |l| l.heads.spoil()[0] = 0),
-    ];
-    for case in [grid, refused] {
-        let left = case.by_port();
-        case.judged(&left)?;
-        for (name, fault) in faults {
-            let mut spoilt = left.clone();
-            fault(&mut spoilt);
-            if case.judged(&spoilt).is_ok() {
-                return Err(format!("merge: a fault is not noticed: {name}"));
-            }
-        }
-    }
-    Ok(())
+    trial::faults_noticed(
+        &[grid, refused],
+        &[
+            ("number", |l| l.number ^= 1),
+            ("count", |l| l.count ^= 1),
+            ("a value", |l| l.corners.part()[0] = 7.0),
+            ("the sign of a zero", |l| l.corners.part()[8] = -0.0),
+            ("a head", |l| l.heads.part()[19] = 1),
+            ("a link", |l| l.links.part()[0] = 1),
+            ("outside the list", |l| l.corners.spoil()[0] = 0.0),
+            ("outside the heads", |l| l.heads.spoil()[0] = 0),
+        ],
+    )
 }

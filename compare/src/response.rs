@@ -1,7 +1,7 @@
 //! `chess_corners_response` against `chess_response_u8_patch` and document 01.
 
 use crate::port;
-use crate::trial::{parts, Lent, Tally, Trial, PAINT};
+use crate::trial::{self, bits, parts, Lent, Met, Tally, Trial, PAINT};
 use oracle::random::Random;
 use oracle::types::{paper_ring, Region, Ring, View};
 use oracle::{calls, pictures, rules};
@@ -22,7 +22,7 @@ pub struct Response {
 
 /// All that the call leaves.
 #[derive(Clone)]
-struct Left {
+pub struct Left {
     number: u32,
     size: [usize; 2],
     out: Lent<f32>,
@@ -46,77 +46,6 @@ impl Response {
     fn fitting(&self) -> usize {
         let (_, _, w, h) = rules::clamped(self.view(), self.region);
         w.saturating_mul(h) as usize
-    }
-
-    fn by_port(&self) -> Left {
-        let mut left = Left {
-            number: 0,
-            size: [PAINT; 2],
-            out: Lent::painted(self.out, PAINT_F),
-        };
-        left.number = port::response(
-            &self.bytes,
-            [self.width as usize, self.height as usize],
-            &port::flat(&self.ring),
-            self.radius as usize,
-            self.region,
-            left.out.part(),
-            &mut left.size,
-        );
-        left
-    }
-
-    /// How what is left parts from what is expected; else the class.
-    fn judged(&self, left: &Left) -> Result<&'static str, String> {
-        let refused = rules::response_refusal(
-            self.view(),
-            self.radius(),
-            &self.ring,
-            self.region,
-            self.out,
-        );
-        // Nothing more is expected of a refusal, and the Rust is not run.
-        let (number, size, want) = match refused {
-            Some(number) => (number, [PAINT; 2], vec![PAINT_F; self.out]),
-            None => {
-                let (_, w, h, values) = calls::response(
-                    self.view(),
-                    self.radius(),
-                    &self.ring,
-                    self.region,
-                    self.out,
-                );
-                (0, [w as usize, h as usize], values)
-            }
-        };
-        if left.number != number {
-            return Err(format!("number {}, expected {number}", left.number));
-        }
-        if left.size != size {
-            return Err(format!("size {:?}, expected {size:?}", left.size));
-        }
-        let got = left.out.inside();
-        if let Some(k) = parts(got, &want, |a, b| a.to_bits() == b.to_bits()) {
-            let (a, b) = (got[k], want[k]);
-            return Err(format!(
-                "element {k} is {:08X} ({a:e}), expected {:08X} ({b:e})",
-                a.to_bits(),
-                b.to_bits()
-            ));
-        }
-        if left.out.outside().any(|f| f.to_bits() != PAINT_F.to_bits()) {
-            return Err("something is written outside the buffer".into());
-        }
-        Ok(match number {
-            0 if want.is_empty() => "done, empty region",
-            0 if want.iter().any(|v| v.to_bits() != 0) => "done",
-            0 => "done, zeros",
-            rules::BAD_IMAGE => "10",
-            rules::BAD_RADIUS => "11",
-            rules::BAD_RING => "13",
-            rules::EMPTY_ROI => "14",
-            _ => "15",
-        })
     }
 
     /// The same with a buffer as much too long or short as before.
@@ -165,8 +94,75 @@ impl Trial for Response {
         "15",
     ];
 
-    fn class(&self) -> Result<&'static str, String> {
-        self.judged(&self.by_port())
+    type Left = Left;
+
+    fn by_port(&self) -> Left {
+        let mut left = Left {
+            number: 0,
+            size: [PAINT; 2],
+            out: Lent::painted(self.out, PAINT_F),
+        };
+        left.number = port::response(
+            &self.bytes,
+            [self.width as usize, self.height as usize],
+            &port::flat(&self.ring),
+            self.radius as usize,
+            self.region,
+            left.out.part(),
+            &mut left.size,
+        );
+        left
+    }
+
+    fn judged(&self, left: &Left) -> Result<Met, String> {
+        let refused = rules::response_refusal(
+            self.view(),
+            self.radius(),
+            &self.ring,
+            self.region,
+            self.out,
+        );
+        // Nothing more is expected of a refusal, and the Rust is not run.
+        let (number, size, want) = match refused {
+            Some(number) => (number, [PAINT; 2], vec![PAINT_F; self.out]),
+            None => {
+                let (_, w, h, values) = calls::response(
+                    self.view(),
+                    self.radius(),
+                    &self.ring,
+                    self.region,
+                    self.out,
+                );
+                (0, [w as usize, h as usize], values)
+            }
+        };
+        if left.number != number {
+            return Err(format!("number {}, expected {number}", left.number));
+        }
+        if left.size != size {
+            return Err(format!("size {:?}, expected {size:?}", left.size));
+        }
+        let got = left.out.inside();
+        if let Some(k) = parts(got, &want, |a, b| a.to_bits() == b.to_bits()) {
+            return Err(format!(
+                "element {k} is {}, expected {}",
+                bits(got[k]),
+                bits(want[k])
+            ));
+        }
+        if left.out.outside().any(|f| f.to_bits() != PAINT_F.to_bits()) {
+            return Err("something is written outside the buffer".into());
+        }
+        Ok(Met::of(match number {
+            0 if want.is_empty() => "done, empty region",
+            0 if want.iter().any(|v| v.to_bits() != 0) => "done",
+            0 => "done, zeros",
+            rules::BAD_IMAGE => "10",
+            rules::BAD_RADIUS => "11",
+            rules::BAD_RING => "13",
+            rules::EMPTY_ROI => "14",
+            _ => "15",
+        }))
     }
 
     fn size(&self) -> u64 {
@@ -187,43 +183,22 @@ impl Trial for Response {
     fn simpler(&self) -> Vec<Self> {
         let mut out = Vec::new();
         let (w, h) = (self.width as usize, self.height as usize);
-        if w > 0 && h > 0 && w.checked_mul(h) == Some(self.bytes.len()) {
-            let mut keep = |rows: std::ops::Range<usize>, cols: std::ops::Range<usize>| {
-                if rows.is_empty() || cols.is_empty() || (rows.len() == h && cols.len() == w) {
-                    return;
-                }
-                let bytes = rows
-                    .clone()
-                    .flat_map(|y| self.bytes[y * w..][cols.clone()].to_vec())
-                    .collect();
-                let moved = |edge: u64, by: usize| edge.saturating_sub(by as u64);
-                let r = self.region;
-                let less = Response {
-                    width: cols.len() as u64,
-                    height: rows.len() as u64,
-                    bytes,
-                    region: Region {
-                        x0: moved(r.x0, cols.start),
-                        y0: moved(r.y0, rows.start),
-                        x1: moved(r.x1, cols.start),
-                        y1: moved(r.y1, rows.start),
-                    },
-                    ..self.clone()
-                };
-                out.push(less.refit(self));
+        for part in trial::crops(&self.bytes, w, h) {
+            let moved = |edge: u64, by: usize| edge.saturating_sub(by as u64);
+            let r = self.region;
+            let less = Response {
+                width: part.width as u64,
+                height: part.height as u64,
+                bytes: part.bytes,
+                region: Region {
+                    x0: moved(r.x0, part.x),
+                    y0: moved(r.y0, part.y),
+                    x1: moved(r.x1, part.x),
+                    y1: moved(r.y1, part.y),
+                },
+                ..self.clone()
             };
-            for (rows, cols) in [
-                (0..h / 2, 0..w),
-                (h / 2..h, 0..w),
-                (0..h, 0..w / 2),
-                (0..h, w / 2..w),
-                (0..h - 1, 0..w),
-                (1..h, 0..w),
-                (0..h, 0..w - 1),
-                (0..h, 1..w),
-            ] {
-                keep(rows, cols);
-            }
+            out.push(less.refit(self));
         }
         let r = self.region;
         for region in [
@@ -321,6 +296,7 @@ pub fn short(tally: &mut Tally, all: bool, levels: [u8; 2]) -> bool {
             && [PAINT_F, want[0], PAINT_F].map(f32::to_bits) == out.map(f32::to_bits);
         if same {
             tally.cases += 1;
+            tally.parts += 1;
             continue;
         }
         return tally.tried(&Response {
@@ -509,25 +485,15 @@ pub fn faults_noticed() -> Result<(), String> {
         radius: 11,
         ..written.clone()
     };
-    type Fault = fn(&mut Left);
-    let faults: [(&str, Fault); 6] = [
-        ("number", |l| l.number ^= 1),
-        ("width", |l| l.size[0] ^= 1),
-        ("height", |l| l.size[1] ^= 1),
-        ("the sign of a zero", |l| l.out.part()[0] = -0.0),
-        ("a value", |l| l.out.part()[5] += 1.0),
-        ("outside the buffer", |l| l.out.spoil()[0] = 0.0),
-    ];
-    for case in [written, refused] {
-        let left = case.by_port();
-        case.judged(&left)?;
-        for (name, fault) in faults {
-            let mut spoilt = left.clone();
-            fault(&mut spoilt);
-            if case.judged(&spoilt).is_ok() {
-                return Err(format!("response: a fault is not noticed: {name}"));
-            }
-        }
-    }
-    Ok(())
+    trial::faults_noticed(
+        &[written, refused],
+        &[
+            ("number", |l| l.number ^= 1),
+            ("width", |l| l.size[0] ^= 1),
+            ("height", |l| l.size[1] ^= 1),
+            ("the sign of a zero", |l| l.out.part()[0] = -0.0),
+            ("a value", |l| l.out.part()[5] += 1.0),
+            ("outside the buffer", |l| l.out.spoil()[0] = 0.0),
+        ],
+    )
 }

@@ -36,6 +36,11 @@ impl<T: Copy> Lent<T> {
         &mut self.all[AROUND..end]
     }
 
+    /// The same as an array of its length.
+    pub fn array<const N: usize>(&mut self) -> &mut [T; N] {
+        self.part().try_into().expect("as many as were painted")
+    }
+
     pub fn inside(&self) -> &[T] {
         &self.all[AROUND..self.all.len() - AROUND]
     }
@@ -52,6 +57,11 @@ impl<T: Copy> Lent<T> {
     }
 }
 
+/// The last bit of a float is another.
+pub fn flip(f: &mut f32) {
+    *f = f32::from_bits(f.to_bits() ^ 1);
+}
+
 /// The first place where two lists part.
 pub fn parts<T>(got: &[T], want: &[T], same: impl Fn(&T, &T) -> bool) -> Option<usize> {
     if got.len() != want.len() {
@@ -65,26 +75,132 @@ pub fn alike(a: f32, b: f32) -> bool {
     a.to_bits() == b.to_bits() || (a.is_nan() && b.is_nan())
 }
 
+/// The bits of a float, and the number.
+pub fn bits(f: f32) -> String {
+    format!("{:08X} ({f:e})", f.to_bits())
+}
+
+/// The classes that a case belongs to, and how many seeds of a list it
+/// compared.
+#[derive(Clone, Copy)]
+pub struct Met {
+    classes: [Option<&'static str>; MOST],
+    parts: u64,
+}
+
+/// The most classes of a case.
+const MOST: usize = 8;
+
+impl Met {
+    pub fn of(class: &'static str) -> Self {
+        let none = Met {
+            classes: [None; MOST],
+            parts: 1,
+        };
+        none.and(class)
+    }
+
+    pub fn and(mut self, class: &'static str) -> Self {
+        let free = self.classes.iter_mut().find(|place| place.is_none());
+        *free.expect("so many classes a case") = Some(class);
+        self
+    }
+
+    pub fn with_parts(self, parts: u64) -> Self {
+        Met { parts, ..self }
+    }
+}
+
 /// A call with its input.
 pub trait Trial: Sized + Clone + Display {
     const NAME: &'static str;
     /// Every class that a run must reach.
     const CLASSES: &'static [&'static str];
+    /// All that the call leaves.
+    type Left: Clone;
 
-    /// The class of the case, or how the port and what is expected part.
-    fn class(&self) -> Result<&'static str, String>;
+    /// What the proved code leaves.
+    fn by_port(&self) -> Self::Left;
+
+    /// How what is left parts from what is expected; else the classes.
+    fn judged(&self, left: &Self::Left) -> Result<Met, String>;
 
     /// How large the input is; shrinking makes it less.
     fn size(&self) -> u64;
 
     /// Inputs a step simpler, the boldest first.
     fn simpler(&self) -> Vec<Self>;
+
+    fn tried(&self) -> Result<Met, String> {
+        self.judged(&self.by_port())
+    }
+}
+
+/// A part of an image, and where it begins.
+pub struct Crop {
+    pub x: usize,
+    pub y: usize,
+    pub width: usize,
+    pub height: usize,
+    pub bytes: Vec<u8>,
+}
+
+/// An image without half of it, or without a row or column at an edge; none
+/// of an image that is no whole one.
+pub fn crops(bytes: &[u8], w: usize, h: usize) -> Vec<Crop> {
+    if w == 0 || h == 0 || w.checked_mul(h) != Some(bytes.len()) {
+        return Vec::new();
+    }
+    [
+        (0..h / 2, 0..w),
+        (h / 2..h, 0..w),
+        (0..h, 0..w / 2),
+        (0..h, w / 2..w),
+        (0..h - 1, 0..w),
+        (1..h, 0..w),
+        (0..h, 0..w - 1),
+        (0..h, 1..w),
+    ]
+    .into_iter()
+    .filter(|(rows, cols)| {
+        !rows.is_empty() && !cols.is_empty() && (rows.len() < h || cols.len() < w)
+    })
+    .map(|(rows, cols)| Crop {
+        x: cols.start,
+        y: rows.start,
+        width: cols.len(),
+        height: rows.len(),
+        bytes: rows
+            .flat_map(|y| bytes[y * w..][cols.clone()].to_vec())
+            .collect(),
+    })
+    .collect()
+}
+
+/// A way to spoil what a call leaves, by its name.
+pub type Fault<L> = (&'static str, fn(&mut L));
+
+/// The driver notices each fault in what each case leaves.
+pub fn faults_noticed<T: Trial>(cases: &[T], faults: &[Fault<T::Left>]) -> Result<(), String> {
+    for case in cases {
+        let left = case.by_port();
+        case.judged(&left)?;
+        for (name, fault) in faults {
+            let mut spoilt = left.clone();
+            fault(&mut spoilt);
+            if case.judged(&spoilt).is_ok() {
+                return Err(format!("{}: a fault is not noticed: {name}", T::NAME));
+            }
+        }
+    }
+    Ok(())
 }
 
 /// What was seen of one call.
 #[derive(Default)]
 pub struct Tally {
     pub cases: u64,
+    pub parts: u64,
     pub exhaustive: u64,
     pub classes: BTreeMap<&'static str, u64>,
     pub differ: bool,
@@ -95,9 +211,12 @@ impl Tally {
     /// still does has been printed.
     pub fn tried<T: Trial>(&mut self, trial: &T) -> bool {
         self.cases += 1;
-        match trial.class() {
-            Ok(class) => {
-                *self.classes.entry(class).or_default() += 1;
+        match trial.tried() {
+            Ok(met) => {
+                self.parts += met.parts;
+                for class in met.classes.into_iter().flatten() {
+                    *self.classes.entry(class).or_default() += 1;
+                }
                 true
             }
             Err(how) => {
@@ -118,9 +237,14 @@ impl Tally {
             .map(|(class, count)| format!("{class} {count}"))
             .collect();
         println!(
-            "{}: {} cases, {} of them every short input; {} differ; {}",
+            "{}: {} cases{}, {} of them every short input; {} differ; {}",
             T::NAME,
             self.cases,
+            if self.parts > self.cases {
+                format!(" of {} seeds", self.parts)
+            } else {
+                String::new()
+            },
             self.exhaustive,
             u32::from(self.differ),
             classes.join(", "),
@@ -147,7 +271,7 @@ fn shrunk<T: Trial>(mut trial: T, mut how: String) -> (T, String) {
             if t.size() >= size || began.elapsed().as_secs() > 20 {
                 return None;
             }
-            t.class().err().map(|how| (t, how))
+            t.tried().err().map(|how| (t, how))
         });
         match next {
             Some((smaller, why)) => (trial, how) = (smaller, why),

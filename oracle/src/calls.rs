@@ -8,6 +8,7 @@ use crate::rust_or_rule::{accepted, broken, refusal, run, Decided};
 use crate::types::*;
 use crate::words::bits32;
 use crate::{any_ring, checked, plain};
+use std::cell::RefCell;
 
 /// The number of an answer, and who decided it.
 #[derive(Clone, Copy, Debug, PartialEq, Eq)]
@@ -103,10 +104,42 @@ pub fn refine_one(
         };
         return (refused, Run::default(), decided);
     }
-    let by_rust = run(|| plain::refine_counted(image, s, seed, covariance));
     let by_checked = run(|| checked::refine_counted(image, s, seed, covariance));
+    let mut fresh = plain::Counted::new(s, covariance);
+    let (answer, run, panics) = seed_by(&mut fresh, image, s, seed);
+    let decided = match by_checked {
+        _ if panics => Decided::RustPanics,
+        Some(_) => Decided::ByRust,
+        None => Decided::RustWraps,
+    };
+    (answer, run, decided)
+}
+
+thread_local! {
+    /// The refiner of each radius, with its operator.
+    static KEPT: RefCell<[Option<plain::Counted>; 8]> = const { RefCell::new([const { None }; 8]) };
+}
+
+/// Runs with the kept refiner of these settings, which no number refuses.
+fn with_kept<T>(s: &Settings, covariance: bool, f: impl FnOnce(&mut plain::Counted) -> T) -> T {
+    KEPT.with_borrow_mut(|all| {
+        let kept = &mut all[s.radius as usize];
+        let kept = kept.get_or_insert_with(|| plain::Counted::new(s, covariance));
+        kept.settle(s, covariance);
+        f(kept)
+    })
+}
+
+/// A seed's answer and counts by the plain build, or by document 01 where it
+/// panics; and whether it does.
+fn seed_by(
+    refiner: &mut plain::Counted,
+    image: View<'_>,
+    s: &Settings,
+    seed: [f32; 2],
+) -> (Refined, Run, bool) {
     let outside = rules::patch_leaves(image, s, seed);
-    match by_rust {
+    match run(|| refiner.refine(image, seed)) {
         None => {
             hold(outside, "the Rust panics where document 01 has a fit");
             let unmoved = Refined {
@@ -115,18 +148,61 @@ pub fn refine_one(
                 y: seed[1],
                 ..Refined::default()
             };
-            (unmoved, Run::default(), Decided::RustPanics)
+            (unmoved, Run::default(), true)
         }
         Some((a, run)) => {
             hold((a.status == 2) == outside, "rule and Rust part on status 2");
-            let decided = if by_checked.is_some() {
-                Decided::ByRust
-            } else {
-                Decided::RustWraps
-            };
-            (a, run.unwrap_or_default(), decided)
+            (a, run.unwrap_or_default(), false)
         }
     }
+}
+
+/// `refine_one` for a driver that asks for many seeds: the refiner of a radius
+/// is kept, and only the plain build is run, so nobody says who decided.
+pub fn refine_kept(
+    image: View<'_>,
+    s: &Settings,
+    seed: [f32; 2],
+    covariance: bool,
+) -> (Refined, Run) {
+    if let Some(status) = rules::refine_refusal(image, s) {
+        let refused = Refined {
+            status,
+            ..Refined::default()
+        };
+        return (refused, Run::default());
+    }
+    with_kept(s, covariance, |kept| {
+        let (answer, run, _) = seed_by(kept, image, s, seed);
+        (answer, run)
+    })
+}
+
+/// `refine_list` in the same way: the number and the corners.
+pub fn refine_list_kept(
+    image: View<'_>,
+    s: &Settings,
+    floats: &[f32],
+    out: usize,
+) -> (u32, Vec<Triple>) {
+    if let Some(number) = rules::refine_list_refusal(image, s, floats.len(), out) {
+        return (number, Vec::new());
+    }
+    let corners = triples(floats);
+    with_kept(s, false, |kept| {
+        let one_by_one: Vec<Triple> = corners
+            .iter()
+            .filter_map(|c| {
+                let (a, _, _) = seed_by(kept, image, s, [c[0], c[1]]);
+                (a.status == 0).then_some([a.x, a.y, c[2]])
+            })
+            .collect();
+        // The Rust panics on some seeds that leave the image.
+        if let Some(all) = run(|| kept.refine_list(image, &corners)) {
+            hold(same_triples(&all, &one_by_one), "a list is not its seeds");
+        }
+        (0, one_by_one)
+    })
 }
 
 /// Who decided a list: both builds are run, and the plain one must give what

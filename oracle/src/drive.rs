@@ -169,49 +169,87 @@ pub fn refine_counted<'a>(
     seed: [f32; 2],
     covariance: bool,
 ) -> (Refined, Option<Run>) {
-    let image: View<'a> = image.into();
-    let answer = Refiner::new(s, covariance).refine(image, seed);
-    if answer.status == 2 {
-        return (answer, None);
+    Counted::new(s, covariance).refine(image.into(), seed)
+}
+
+/// The two kept for many seeds with one radius.
+pub struct Counted {
+    refiner: Refiner,
+    mirror: probe::saddle_point::Mirror,
+    covariance: bool,
+}
+
+impl Counted {
+    pub fn new(s: &Settings, covariance: bool) -> Self {
+        Counted {
+            refiner: Refiner::new(s, covariance),
+            mirror: probe::saddle_point::Mirror::new(settings(s)),
+            covariance,
+        }
     }
-    let same = |a: f32, b: f32| crate::words::bits32(a) == crate::words::bits32(b);
-    let hold = |holds: bool, what: &str| {
-        if !holds {
-            crate::rust_or_rule::broken(what);
+
+    /// Other settings with the same radius.
+    pub fn settle(&mut self, s: &Settings, covariance: bool) {
+        probe::saddle_point::settle(&mut self.refiner.0, settings(s), covariance);
+        self.mirror.settle(settings(s));
+        self.covariance = covariance;
+    }
+
+    /// The original on a list.
+    pub fn refine_list(&mut self, image: View<'_>, list: &[Triple]) -> Vec<Triple> {
+        self.refiner.refine_list(image, list)
+    }
+
+    /// As `refine_counted`.
+    pub fn refine(&mut self, image: View<'_>, seed: [f32; 2]) -> (Refined, Option<Run>) {
+        let answer = self.refiner.refine(image, seed);
+        if answer.status == 2 {
+            return (answer, None);
         }
-    };
-    match probe::saddle_point::mirror(&settings(s), &view(image), seed) {
-        Err((score, refused)) => {
-            hold(
-                status(refused) == answer.status && same(score, answer.score),
-                "the mirror refuses otherwise",
-            );
-            (answer, None)
-        }
-        Ok(m) => {
-            hold(answer.status == 0, "the mirror accepts what was refused");
-            hold(
-                same(m.xy[0], answer.x) && same(m.xy[1], answer.y) && same(m.score, answer.score),
-                "the mirror finds another place",
-            );
-            hold(m.converged == answer.converged, "the mirror parts on convergence");
-            let asked = m.covariance.filter(|_| covariance);
-            hold(
-                asked.map(|c| c.map(crate::words::bits32))
-                    == answer.covariance.map(|c| c.map(crate::words::bits32)),
-                "the mirror finds another covariance",
-            );
-            let run = Run {
-                tries: m.tries,
-                steps: m.steps,
-                newtons: m.newtons,
-                far: m.far,
-                fits: m.fits,
-                stuck: m.stuck,
-                fresh_slope: m.fresh_slope,
-                reach: m.reach,
-            };
-            (answer, Some(run))
+        let same = |a: f32, b: f32| crate::words::bits32(a) == crate::words::bits32(b);
+        let hold = |holds: bool, what: &str| {
+            if !holds {
+                crate::rust_or_rule::broken(what);
+            }
+        };
+        match self.mirror.run(&view(image), seed) {
+            Err((score, refused)) => {
+                hold(
+                    status(refused) == answer.status && same(score, answer.score),
+                    "the mirror refuses otherwise",
+                );
+                (answer, None)
+            }
+            Ok(m) => {
+                hold(answer.status == 0, "the mirror accepts what was refused");
+                hold(
+                    same(m.xy[0], answer.x)
+                        && same(m.xy[1], answer.y)
+                        && same(m.score, answer.score),
+                    "the mirror finds another place",
+                );
+                hold(
+                    m.converged == answer.converged,
+                    "the mirror parts on convergence",
+                );
+                let asked = m.covariance.filter(|_| self.covariance);
+                hold(
+                    asked.map(|c| c.map(crate::words::bits32))
+                        == answer.covariance.map(|c| c.map(crate::words::bits32)),
+                    "the mirror finds another covariance",
+                );
+                let run = Run {
+                    tries: m.tries,
+                    steps: m.steps,
+                    newtons: m.newtons,
+                    far: m.far,
+                    fits: m.fits,
+                    stuck: m.stuck,
+                    fresh_slope: m.fresh_slope,
+                    reach: m.reach,
+                };
+                (answer, Some(run))
+            }
         }
     }
 }
@@ -220,8 +258,8 @@ pub fn refine_counted<'a>(
 pub struct Reach(probe::saddle_point::Mirror);
 
 impl Reach {
-    pub fn new(s: &Settings) -> Option<Self> {
-        probe::saddle_point::Mirror::new(settings(s)).map(Reach)
+    pub fn new(s: &Settings) -> Self {
+        Reach(probe::saddle_point::Mirror::new(settings(s)))
     }
 
     pub fn of<'a>(&self, image: impl Into<View<'a>>, seed: [f32; 2]) -> f32 {

@@ -131,7 +131,7 @@ fn alternating(random: &mut Random, radius: usize) -> Option<(Image, [f32; 2])> 
 pub fn far(turns: usize, seed: u64) {
     let mut random = Random::of(seed, "far");
     let mirrors: Vec<plain::Reach> = (1..=3)
-        .filter_map(|radius| {
+        .map(|radius| {
             plain::Reach::new(&Settings {
                 radius,
                 det_margin: 0.0,

@@ -6,7 +6,6 @@ use oracle::plain::original as rust;
 use oracle::random::Random;
 use oracle::types::{Settings, Triple, View};
 use oracle::{calls, pictures, plain};
-use rust::CornerRefiner;
 
 const SIZE: [usize; 2] = [640, 480];
 const SEEDS: usize = 4096;
@@ -115,9 +114,7 @@ fn list(board: &Board, near: bool, radius: i32) -> bool {
     let name = if near { "near corners" } else { "anywhere" };
     let mut random = Random::of(3, name);
     let (s, lent, config) = settings(radius);
-    let lists: Vec<Vec<Triple>> = (0..LISTS)
-        .map(|_| board.seeds(&mut random, near))
-        .collect();
+    let lists: Vec<Vec<Triple>> = (0..LISTS).map(|_| board.seeds(&mut random, near)).collect();
     let floats: Vec<Vec<f32>> = lists.iter().map(|list| list.concat()).collect();
     let rust_lists: Vec<Vec<rust::Corner>> = lists
         .iter()
@@ -129,8 +126,9 @@ fn list(board: &Board, near: bool, radius: i32) -> bool {
         .collect();
     let mut out = vec![1.0f32; 3 * SEEDS];
     let mut count = 0;
-    let mut call =
-        |k: usize| timed(|| port::refine_list(board.lent(), lent, &floats[k], &mut out, &mut count)).0;
+    let mut call = |k: usize| {
+        timed(|| port::refine_list(board.lent(), lent, &floats[k], &mut out, &mut count)).0
+    };
     let mut kept = rust::SaddlePointRefiner::new(config);
     let (mut turn, mut built_turn, mut kept_turn) = (0, 0, 0);
     let mut by_port = || {
@@ -151,10 +149,7 @@ fn list(board: &Board, near: bool, radius: i32) -> bool {
         let list = rust_lists[kept_turn % LISTS].clone();
         timed(|| rust::refine_corners_on_image(list, Some(board.rust()), None, &mut kept)).0
     };
-    let t = in_turn(
-        &mut [&mut by_port, &mut by_built, &mut by_kept],
-        20 * LISTS,
-    );
+    let t = in_turn(&mut [&mut by_port, &mut by_built, &mut by_kept], 20 * LISTS);
     call(0);
     println!(
         "| list {name}, radius {radius}: {SEEDS} to {count} | {} | {} | {} | {} | {} | {:.0} | {:.0} |",
@@ -215,7 +210,7 @@ fn single(board: &Board, radius: i32, covariance: bool) -> bool {
     let mut overlap = [0.0; port::OVERLAP];
     port::fit_operator(radius as usize, &mut columns, &mut overlap);
     let wanted = u32::from(covariance);
-    let mut call = |seed: &Triple, place: &mut [f32; 3]| {
+    let call = |seed: &Triple, place: &mut [f32; 3]| {
         let mut state = [0; 3];
         let mut entries = [0.0; 3];
         let answer = port::Answer {
@@ -224,8 +219,7 @@ fn single(board: &Board, radius: i32, covariance: bool) -> bool {
             covariance: &mut entries,
         };
         let at = [seed[0], seed[1]];
-        let number =
-            port::refine_with(board.lent(), lent, at, wanted, &columns, &overlap, answer);
+        let number = port::refine_with(board.lent(), lent, at, wanted, &columns, &overlap, answer);
         (number, state, entries)
     };
     let mut by_port = || {

@@ -178,7 +178,7 @@ fn number_name(number: u32) -> &'static str {
 }
 
 /// Seeds and corners about places where the rules change.
-fn odd_float(random: &mut Random) -> f32 {
+pub fn odd_float(random: &mut Random) -> f32 {
     random.pick(&[
         f32::NAN,
         f32::INFINITY,
@@ -204,7 +204,7 @@ fn odd_float(random: &mut Random) -> f32 {
 }
 
 /// A place about the middle of something of that size, now and then odd.
-fn place(random: &mut Random, size: u64) -> f32 {
+pub fn place(random: &mut Random, size: u64) -> f32 {
     let middle = (size - 1) as f32 / 2.0;
     match random.below(64) {
         0 => odd_float(random),
@@ -217,7 +217,7 @@ fn place(random: &mut Random, size: u64) -> f32 {
 }
 
 /// Settings that no number refuses, the Rust's own half of the time.
-fn good_settings(random: &mut Random) -> Settings {
+pub fn good_settings(random: &mut Random) -> Settings {
     let plain = Settings::default();
     if random.once_in(2) {
         return Settings {

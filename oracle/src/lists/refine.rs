@@ -125,7 +125,7 @@ fn digits(rows: &[&str], step: u8) -> Image {
 }
 
 /// Runs met by `oracle hunt` and `oracle far`: picture, radius, seed.
-fn met() -> Vec<(Image, i32, [f32; 2])> {
+pub fn met() -> Vec<(Image, i32, [f32; 2])> {
     vec![
         // Candidates 368,377,800, 55,924,068, 13,421,770 and 5,592,405
         // pixels away.

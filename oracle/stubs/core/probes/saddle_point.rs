@@ -85,6 +85,13 @@ pub fn refiner(cfg: SaddlePointConfig, reports: bool) -> SaddlePointRefiner {
     made
 }
 
+/// Other settings with the same radius for a refiner that is kept.
+pub fn settle(refiner: &mut SaddlePointRefiner, cfg: SaddlePointConfig, reports: bool) {
+    assert!(refiner.cfg.radius == cfg.radius);
+    refiner.cfg = cfg;
+    refiner.reports_covariance = reports;
+}
+
 /// The refiner's estimate alone, without the edge width that `refine` works
 /// out beside a covariance; the centre's patch must lie inside the image.
 pub fn estimate(
@@ -143,26 +150,41 @@ pub fn mirror(
     image: &ImageView<'_>,
     seed: [f32; 2],
 ) -> Result<Mirrored, (f32, RefineStatus)> {
-    let Some(op) = fit_operator(cfg.radius) else {
-        return Err((0.0, RefineStatus::IllConditioned));
-    };
-    mirror_with(&op, cfg, image, seed)
+    Mirror::new(*cfg).run(image, seed)
 }
 
 /// The mirror of many seeds with one radius.
 pub struct Mirror {
-    op: FitOperator,
+    op: Option<FitOperator>,
     cfg: SaddlePointConfig,
 }
 
 impl Mirror {
-    pub fn new(cfg: SaddlePointConfig) -> Option<Self> {
-        fit_operator(cfg.radius).map(|op| Mirror { op, cfg })
+    pub fn new(cfg: SaddlePointConfig) -> Self {
+        let op = fit_operator(cfg.radius);
+        Mirror { op, cfg }
+    }
+
+    /// Other settings with the same radius.
+    pub fn settle(&mut self, cfg: SaddlePointConfig) {
+        assert!(self.cfg.radius == cfg.radius);
+        self.cfg = cfg;
+    }
+
+    pub fn run(
+        &self,
+        image: &ImageView<'_>,
+        seed: [f32; 2],
+    ) -> Result<Mirrored, (f32, RefineStatus)> {
+        match &self.op {
+            Some(op) => mirror_with(op, &self.cfg, image, seed),
+            None => Err((0.0, RefineStatus::IllConditioned)),
+        }
     }
 
     /// The greatest offset of a candidate, 0 where no seed is accepted.
     pub fn reach(&self, image: &ImageView<'_>, seed: [f32; 2]) -> f32 {
-        mirror_with(&self.op, &self.cfg, image, seed).map_or(0.0, |m| m.reach)
+        self.run(image, seed).map_or(0.0, |m| m.reach)
     }
 }
 

@@ -1,0 +1,288 @@
+//! `chess_corners_refine_list` against `refine_corners_on_image` and
+//! document 01.
+
+use crate::port;
+use crate::scene::{self, Scene};
+use crate::trial::{self, alike, bits, flip, Lent, Met, Tally, Trial, PAINT};
+use oracle::lists::refine_list as known;
+use oracle::random::Random;
+use oracle::types::{Image, Settings, Triple};
+use oracle::{calls, rules};
+use std::fmt::{self, Display, Formatter};
+use std::rc::Rc;
+
+const PAINT_F: f32 = -12345.678;
+
+#[derive(Clone)]
+pub struct List {
+    scene: Scene,
+    floats: Vec<f32>,
+    out: usize,
+}
+
+/// All that the call leaves.
+#[derive(Clone)]
+pub struct Left {
+    number: u32,
+    count: usize,
+    corners: Lent<f32>,
+    out: Lent<f32>,
+}
+
+fn class_of(number: u32, seeds: usize, kept: usize) -> &'static str {
+    match number {
+        0 if seeds == 0 => "empty list",
+        0 if kept == 0 => "none kept",
+        0 if kept == seeds => "all kept",
+        0 => "some kept",
+        rules::BAD_IMAGE => "10",
+        rules::BAD_RADIUS => "11",
+        rules::BAD_LIMIT => "12",
+        rules::BAD_OUT => "15",
+        rules::TOO_MANY => "16",
+        _ => "19",
+    }
+}
+
+impl Display for List {
+    fn fmt(&self, f: &mut Formatter<'_>) -> fmt::Result {
+        writeln!(f, "  {} floats, {} lent", self.floats.len(), self.out)?;
+        for c in self.floats.chunks(3) {
+            let corner: Vec<String> = c.iter().map(|v| bits(*v)).collect();
+            writeln!(f, "  {}", corner.join("  "))?;
+        }
+        self.scene.fmt(f)
+    }
+}
+
+impl Trial for List {
+    const NAME: &'static str = "list";
+    const CLASSES: &'static [&'static str] = &[
+        "empty list",
+        "none kept",
+        "some kept",
+        "all kept",
+        "10",
+        "11",
+        "12",
+        "15",
+        "16",
+        "19",
+        "4,096 seeds",
+        "longer output",
+    ];
+    type Left = Left;
+
+    fn by_port(&self) -> Left {
+        let mut left = Left {
+            number: 0,
+            count: PAINT,
+            corners: Lent::holding(&self.floats, PAINT_F),
+            out: Lent::painted(self.out, PAINT_F),
+        };
+        left.number = port::refine_list(
+            self.scene.lent(),
+            self.scene.settings,
+            left.corners.inside(),
+            left.out.part(),
+            &mut left.count,
+        );
+        left
+    }
+
+    fn judged(&self, left: &Left) -> Result<Met, String> {
+        let s = self.scene.for_oracle();
+        let (number, kept) = calls::refine_list_kept(self.scene.view(), &s, &self.floats, self.out);
+        let count = if number == 0 { kept.len() } else { PAINT };
+        if left.number != number {
+            return Err(format!("number {}, expected {number}", left.number));
+        }
+        if left.count != count {
+            return Err(format!("count {}, expected {count}", left.count));
+        }
+        let written = kept.concat();
+        for (k, got) in left.out.inside().iter().enumerate() {
+            let want = written.get(k).copied().unwrap_or(PAINT_F);
+            // A strength is copied, and what lies past the records is kept.
+            let worked_out = k < written.len() && k % 3 < 2;
+            if !(got.to_bits() == want.to_bits() || (worked_out && alike(*got, want))) {
+                let (got, want) = (bits(*got), bits(want));
+                return Err(format!("element {k} is {got}, expected {want}"));
+            }
+        }
+        let painted = |f: &f32| f.to_bits() == PAINT_F.to_bits();
+        if !(left.out.outside().all(painted) && left.corners.outside().all(painted)) {
+            return Err("something is written outside a buffer".into());
+        }
+        let kept_bits = self.floats.iter().zip(left.corners.inside());
+        if !kept_bits
+            .into_iter()
+            .all(|(a, b)| a.to_bits() == b.to_bits())
+        {
+            return Err("the lent corners are written".into());
+        }
+        let seeds = self.floats.len() / 3;
+        let mut met = Met::of(class_of(number, seeds, kept.len())).with_parts(match number {
+            0 => seeds as u64,
+            _ => 0,
+        });
+        if number == 0 && seeds == rules::MOST {
+            met = met.and("4,096 seeds");
+        }
+        if number == 0 && self.out > self.floats.len() {
+            met = met.and("longer output");
+        }
+        Ok(met)
+    }
+
+    fn size(&self) -> u64 {
+        let odd = self.floats.iter().filter(|f| f.fract() != 0.0).count() as u64;
+        1_000_000 * self.floats.len() as u64 + self.scene.size() + odd + self.out as u64
+    }
+
+    fn simpler(&self) -> Vec<Self> {
+        let mut out = Vec::new();
+        let seeds = self.floats.len() / 3;
+        let mut many = seeds;
+        // Fewer seeds, many at a time and then one by one.
+        while many > 0 {
+            for from in (0..=seeds - many).step_by(many) {
+                let mut fewer = self.clone();
+                fewer.floats.drain(3 * from..3 * (from + many));
+                fewer.out = fewer.out.saturating_sub(3 * many);
+                out.push(fewer);
+            }
+            many /= 2;
+        }
+        out.push(List {
+            out: self.floats.len(),
+            ..self.clone()
+        });
+        for (scene, moved) in self.scene.simpler() {
+            let mut less = List {
+                scene,
+                ..self.clone()
+            };
+            for corner in less.floats.chunks_exact_mut(3) {
+                corner[0] -= moved[0];
+                corner[1] -= moved[1];
+            }
+            out.push(less);
+        }
+        for k in 0..self.floats.len().min(300) {
+            let mut plainer = self.clone();
+            plainer.floats[k] = plainer.floats[k].round();
+            out.push(plainer);
+        }
+        out
+    }
+}
+
+fn any_count(random: &mut Random) -> usize {
+    match random.below(2000) {
+        0 => 4096,
+        1..=3 => random.pick(&[4095, 4096]),
+        4..=23 => random.pick(&[4097, 4098, 5000]),
+        24..=199 => random.below(600),
+        200..=400 => random.below(3),
+        _ => random.below(40),
+    }
+}
+
+/// Seeds on a scene, or on a board about its corners.
+fn any_seeds(random: &mut Random, count: usize) -> (Scene, Vec<Triple>) {
+    let mut scene = scene::any(random);
+    if random.once_in(2) {
+        let seeds = (0..count).map(|_| {
+            let [x, y] = scene::any_seed(random, &scene);
+            [x, y, scene::any_strength(random)]
+        });
+        let seeds = seeds.collect();
+        return (scene, seeds);
+    }
+    let (board, corners) = known::board(random);
+    scene.image = Rc::new(board);
+    let near = |random: &mut Random, at: f32| at + random.unit() - 0.5;
+    let seeds = (0..count).map(|k| match corners.get(k % corners.len().max(1)) {
+        Some(c) => [near(random, c[0]), near(random, c[1]), c[2]],
+        None => [0.0; 3],
+    });
+    let seeds = seeds.collect();
+    (scene, seeds)
+}
+
+/// No seed on an image, with the Rust's own settings.
+fn usual(image: Image) -> List {
+    let s = Settings::default();
+    List {
+        scene: Scene {
+            image: Rc::new(image),
+            settings: port::Settings {
+                radius: s.radius as usize,
+                det_margin: s.det_margin,
+                max_offset: s.max_offset,
+                min_abs_det: s.min_abs_det,
+            },
+        },
+        floats: Vec::new(),
+        out: 0,
+    }
+}
+
+/// As many seeds as a list may hold, and one more, on boards.
+pub fn longest(tally: &mut Tally, random: &mut Random) -> bool {
+    [0, rules::MOST, rules::MOST + 1].into_iter().all(|count| {
+        let (board, corners) = known::board(random);
+        let mut list = usual(board);
+        let seeds = corners.iter().cycle().take(count);
+        list.floats = seeds.copied().collect::<Vec<_>>().concat();
+        list.out = list.floats.len();
+        tally.tried(&list)
+    })
+}
+
+/// A list about the borders of the rules.
+pub fn any(random: &mut Random) -> List {
+    let count = any_count(random);
+    let (scene, seeds) = any_seeds(random, count);
+    let mut floats = seeds.concat();
+    if random.once_in(40) {
+        floats.truncate(floats.len().saturating_sub(1 + random.below(2)));
+    }
+    let mut out = floats.len() + random.pick(&[0, 0, 0, 1, 2, 3, 40]);
+    if random.once_in(40) {
+        out = floats.len().saturating_sub(1 + random.below(4));
+    }
+    List { scene, floats, out }
+}
+
+/// The driver notices each fault of an answer.
+pub fn faults_noticed() -> Result<(), String> {
+    let mut random = Random::of(1, "faults");
+    let (board, corners) = known::board(&mut random);
+    let mut written = usual(board);
+    written.floats = corners.concat();
+    written.floats.extend([-5.0, -5.0, 1.0]);
+    written.out = written.floats.len() + 1;
+    let mut refused = written.clone();
+    refused.floats.push(1.0);
+    trial::faults_noticed(
+        &[written, refused],
+        &[
+            ("number", |l| l.number ^= 1),
+            ("count", |l| l.count ^= 1),
+            ("x", |l| flip(&mut l.out.part()[0])),
+            ("a strength", |l| flip(&mut l.out.part()[2])),
+            ("past the records", |l| {
+                let last = l.out.part().len() - 1;
+                l.out.part()[last] = 0.0;
+            }),
+            ("past the last record", |l| {
+                let last = l.out.part().len() - 4;
+                l.out.part()[last] = 0.0;
+            }),
+            ("outside the output", |l| l.out.spoil()[0] = 0.0),
+            ("the lent corners", |l| flip(&mut l.corners.part()[0])),
+        ],
+    )
+}
