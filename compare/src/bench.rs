@@ -7,7 +7,7 @@ mod refine;
 use crate::port;
 use oracle::plain::original as rust;
 use oracle::random::Random;
-use oracle::types::{paper_ring, Region, Ring};
+use oracle::types::{paper_ring, Region, Ring, Triple};
 use oracle::{calls, plain, rules};
 use std::hint::black_box;
 
@@ -152,6 +152,13 @@ fn response(size: [usize; 2], radius: usize, repetitions: usize) -> bool {
 /// would learn by heart, the better the shorter it is.
 const LISTS: usize = 32;
 
+/// The corners as the Rust takes them.
+fn of_rust(list: &[Triple]) -> Vec<rust::Corner> {
+    list.iter()
+        .map(|c| rust::Corner::new(c[0], c[1], c[2]))
+        .collect()
+}
+
 /// Corners over a field: scattered, or 64 to a cluster of about 6 pixels.
 fn corners(random: &mut Random, count: usize, field: [f32; 2], clustered: bool) -> Vec<f32> {
     let mut middle = [0.0; 2];
@@ -183,14 +190,7 @@ fn merge(name: &str, count: usize, field: [f32; 2], radius: f32) -> bool {
         .iter()
         .map(|list| rules::cells(list, radius).iter().product::<u128>() as usize)
         .collect();
-    let rust_lists: Vec<Vec<rust::Corner>> = triples
-        .iter()
-        .map(|list| {
-            list.iter()
-                .map(|c| rust::Corner::new(c[0], c[1], c[2]))
-                .collect()
-        })
-        .collect();
+    let rust_lists: Vec<_> = triples.iter().map(|list| of_rust(list)).collect();
     let mut heads = vec![0u16; cells.iter().copied().max().unwrap_or(0)];
     let mut links = vec![0u16; count];
     let mut ours = vec![0.0; 3 * count];

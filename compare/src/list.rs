@@ -3,15 +3,13 @@
 
 use crate::port;
 use crate::scene::{self, Scene};
-use crate::trial::{self, alike, bits, flip, Lent, Met, Tally, Trial, PAINT};
+use crate::trial::{self, alike, bits, flip, Lent, Met, Tally, Trial, PAINT, PAINT_F};
 use oracle::lists::refine_list as known;
 use oracle::random::Random;
 use oracle::types::{Image, Settings, Triple};
 use oracle::{calls, rules};
 use std::fmt::{self, Display, Formatter};
 use std::rc::Rc;
-
-const PAINT_F: f32 = -12345.678;
 
 #[derive(Clone)]
 pub struct List {
@@ -47,10 +45,7 @@ fn class_of(number: u32, seeds: usize, kept: usize) -> &'static str {
 impl Display for List {
     fn fmt(&self, f: &mut Formatter<'_>) -> fmt::Result {
         writeln!(f, "  {} floats, {} lent", self.floats.len(), self.out)?;
-        for c in self.floats.chunks(3) {
-            let corner: Vec<String> = c.iter().map(|v| bits(*v)).collect();
-            writeln!(f, "  {}", corner.join("  "))?;
-        }
+        f.write_str(&trial::corner_lines(&self.floats))?;
         self.scene.fmt(f)
     }
 }
@@ -94,12 +89,8 @@ impl Trial for List {
         let s = self.scene.for_oracle();
         let (number, kept) = calls::refine_list_kept(self.scene.view(), &s, &self.floats, self.out);
         let count = if number == 0 { kept.len() } else { PAINT };
-        if left.number != number {
-            return Err(format!("number {}, expected {number}", left.number));
-        }
-        if left.count != count {
-            return Err(format!("count {}, expected {count}", left.count));
-        }
+        trial::held("number", left.number, number)?;
+        trial::held("count", left.count, count)?;
         let written = kept.concat();
         for (k, got) in left.out.inside().iter().enumerate() {
             let want = written.get(k).copied().unwrap_or(PAINT_F);
@@ -110,10 +101,8 @@ impl Trial for List {
                 return Err(format!("element {k} is {got}, expected {want}"));
             }
         }
-        let painted = |f: &f32| f.to_bits() == PAINT_F.to_bits();
-        if !(left.out.outside().all(painted) && left.corners.outside().all(painted)) {
-            return Err("something is written outside a buffer".into());
-        }
+        left.out.outside_kept("the output")?;
+        left.corners.outside_kept("the corners")?;
         let kept_bits = self.floats.iter().zip(left.corners.inside());
         if !kept_bits
             .into_iter()
@@ -142,17 +131,11 @@ impl Trial for List {
 
     fn simpler(&self) -> Vec<Self> {
         let mut out = Vec::new();
-        let seeds = self.floats.len() / 3;
-        let mut many = seeds;
-        // Fewer seeds, many at a time and then one by one.
-        while many > 0 {
-            for from in (0..=seeds - many).step_by(many) {
-                let mut fewer = self.clone();
-                fewer.floats.drain(3 * from..3 * (from + many));
-                fewer.out = fewer.out.saturating_sub(3 * many);
-                out.push(fewer);
-            }
-            many /= 2;
+        for left_out in trial::fewer(self.floats.len() / 3) {
+            let mut fewer = self.clone();
+            fewer.floats.drain(3 * left_out.start..3 * left_out.end);
+            fewer.out = fewer.out.saturating_sub(3 * left_out.len());
+            out.push(fewer);
         }
         out.push(List {
             out: self.floats.len(),
@@ -180,12 +163,11 @@ impl Trial for List {
 
 fn any_count(random: &mut Random) -> usize {
     match random.below(2000) {
-        0 => 4096,
-        1..=3 => random.pick(&[4095, 4096]),
+        0..=3 => random.pick(&[4095, 4096]),
         4..=23 => random.pick(&[4097, 4098, 5000]),
-        24..=199 => random.below(600),
-        200..=400 => random.below(3),
-        _ => random.below(40),
+        24..=399 => random.below(600),
+        400..=600 => random.below(3),
+        _ => random.below(60),
     }
 }
 

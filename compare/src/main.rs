@@ -24,9 +24,10 @@ const LEAST: u64 = 5_000;
 /// every choice of the samples that are read.
 const LONG: u64 = 60;
 
-/// Seeds for each merge and response, and how many of these go to a list.
+/// Seeds for each merge and response, and how many of these go to a list: the
+/// call builds its operator each time.
 const SEEDS: usize = 32;
-const PER_LIST: u64 = 2;
+const PER_LIST: usize = 4;
 
 /// Every call's own test of this driver.
 fn faults_noticed() -> Result<(), String> {
@@ -66,7 +67,7 @@ impl Tallies {
             && self
                 .responses
                 .tried(&response::any(random, &mut kept.rings))
-            && (self.merges.cases % PER_LIST > 0 || self.lists.tried(&list::any(random)))
+            && (!random.once_in(PER_LIST) || self.lists.tried(&list::any(random)))
             && (0..SEEDS).all(|_| self.seeds.tried(&kept.scenes.any(random)))
     }
 

@@ -1,14 +1,13 @@
 //! `chess_corners_merge` against `merge_corners_simple` and document 01.
 
 use crate::port;
-use crate::trial::{self, alike, bits, parts, Lent, Met, Tally, Trial, PAINT};
+use crate::trial::{self, alike, bits, parts, Lent, Met, Tally, Trial, PAINT, PAINT_F};
 use oracle::calls;
 use oracle::random::Random;
 use oracle::rules::{self, Way};
 use oracle::types::Triple;
 use std::fmt::{self, Display, Formatter};
 
-const PAINT_F: f32 = -12345.678;
 const PAINT_U: u16 = 0xA5A5;
 
 #[derive(Clone)]
@@ -52,11 +51,7 @@ impl Display for Merge {
             self.heads,
             self.links
         )?;
-        for c in self.floats.chunks(3) {
-            let corner: Vec<String> = c.iter().map(|v| bits(*v)).collect();
-            writeln!(f, "  {}", corner.join("  "))?;
-        }
-        Ok(())
+        f.write_str(&trial::corner_lines(&self.floats))
     }
 }
 
@@ -122,12 +117,8 @@ impl Trial for Merge {
                 (0, kept.len())
             }
         };
-        if left.number != number {
-            return Err(format!("number {}, expected {number}", left.number));
-        }
-        if left.count != count {
-            return Err(format!("count {}, expected {count}", left.count));
-        }
+        trial::held("number", left.number, number)?;
+        trial::held("count", left.count, count)?;
         let written = matches!(way, Way::Plain | Way::Grid);
         let same = |a: &f32, b: &f32| match written {
             true => alike(*a, *b),
@@ -149,13 +140,7 @@ impl Trial for Merge {
                 return Err(format!("something is written outside {name}"));
             }
         }
-        if left
-            .corners
-            .outside()
-            .any(|f| f.to_bits() != PAINT_F.to_bits())
-        {
-            return Err("something is written outside the list".into());
-        }
+        left.corners.outside_kept("the list")?;
         Ok(Met::of(class_of(way)))
     }
 
@@ -170,18 +155,11 @@ impl Trial for Merge {
     fn simpler(&self) -> Vec<Self> {
         let mut out = Vec::new();
         let corners = self.floats.len() / 3;
-        // Fewer corners, many at a time and then one by one.
-        let mut many = corners;
-        while many > 0 {
-            let mut from = 0;
-            while from + many <= corners {
-                let mut fewer = self.clone();
-                fewer.floats.drain(3 * from..3 * (from + many));
-                fewer.links = fewer.links.saturating_sub(many);
-                out.push(fewer);
-                from += many;
-            }
-            many /= 2;
+        for left_out in trial::fewer(corners) {
+            let mut fewer = self.clone();
+            fewer.floats.drain(3 * left_out.start..3 * left_out.end);
+            fewer.links = fewer.links.saturating_sub(left_out.len());
+            out.push(fewer);
         }
         for heads in [0, self.heads / 2, self.heads.saturating_sub(1)] {
             out.push(Merge {

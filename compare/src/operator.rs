@@ -1,11 +1,9 @@
 //! `chess_corners_fit_operator` against `fit_operator`.
 
 use crate::port;
-use crate::trial::{self, alike, bits, parts, Lent, Met, Tally, Trial};
+use crate::trial::{self, alike, bits, parts, Lent, Met, Tally, Trial, PAINT_F};
 use oracle::{calls, rules};
 use std::fmt::{self, Display, Formatter};
-
-const PAINT_F: f32 = -12345.678;
 
 #[derive(Clone)]
 pub struct Operator {
@@ -55,9 +53,7 @@ impl Trial for Operator {
                 (0, "0")
             }
         };
-        if left.number != number {
-            return Err(format!("number {}, expected {number}", left.number));
-        }
+        trial::held("number", left.number, number)?;
         for (name, lent, want) in [
             ("columns", &left.columns, &columns),
             ("overlap", &left.overlap, &overlap),
@@ -66,9 +62,7 @@ impl Trial for Operator {
                 let (got, want) = (bits(lent.inside()[k]), bits(want[k]));
                 return Err(format!("element {k} of {name} is {got}, expected {want}"));
             }
-            if lent.outside().any(|f| f.to_bits() != PAINT_F.to_bits()) {
-                return Err(format!("something is written outside {name}"));
-            }
+            lent.outside_kept(name)?;
         }
         Ok(Met::of(class))
     }

@@ -3,7 +3,7 @@
 
 use crate::port;
 use crate::scene::{self, Scene};
-use crate::trial::{self, alike, bits, flip, Lent, Met, Tally, Trial};
+use crate::trial::{self, alike, bits, flip, Lent, Met, Tally, Trial, PAINT_F};
 use oracle::lists::refine as known;
 use oracle::random::Random;
 use oracle::types::{Image, Refined, Run};
@@ -11,7 +11,6 @@ use oracle::{calls, pictures};
 use std::fmt::{self, Display, Formatter};
 use std::rc::Rc;
 
-const PAINT_F: f32 = -12345.678;
 const PAINT_U: u32 = 0xA5A5_5A5A;
 
 /// Seeds of one scene.
@@ -109,9 +108,7 @@ impl Refine {
 
     /// How an answer parts from what is expected.
     fn held(&self, got: &Answer, want: &Refined, run: &Run) -> Result<(), String> {
-        if got.number != want.status {
-            return Err(format!("number {}, expected {}", got.number, want.status));
-        }
+        trial::held("number", got.number, want.status)?;
         let mut place = [PAINT_F; 3];
         let mut state = [PAINT_U; 3];
         let mut covariance = [PAINT_F; 3];
@@ -131,25 +128,18 @@ impl Refine {
                 let name = ["x", "y", "score"][k];
                 return Err(format!("{name} is {}, expected {}", bits(a), bits(b)));
             }
-            let (a, b) = (got.state.inside()[k], state[k]);
-            if a != b {
-                let name = ["converged", "tries", "covariance given"][k];
-                return Err(format!("{name} is {a}, expected {b}"));
-            }
+            let name = ["converged", "tries", "covariance given"][k];
+            trial::held(name, got.state.inside()[k], state[k])?;
             let (a, b) = (got.covariance.inside()[k], covariance[k]);
             if !alike(a, b) {
                 let name = ["xx", "xy", "yy"][k];
                 return Err(format!("{name} is {}, expected {}", bits(a), bits(b)));
             }
         }
-        let painted = |f: &f32| f.to_bits() == PAINT_F.to_bits();
-        if !(got.place.outside().all(painted)
-            && got.covariance.outside().all(painted)
-            && got.state.outside().all(|u| *u == PAINT_U))
-        {
-            return Err("something is written outside a buffer".into());
-        }
-        Ok(())
+        got.place.outside_kept("the place")?;
+        got.covariance.outside_kept("the covariance")?;
+        let kept = got.state.outside().all(|u| *u == PAINT_U);
+        trial::held("the state's surroundings kept:", kept, true)
     }
 
     fn classes(&self, want: &Refined, run: &Run) -> Met {

@@ -1,13 +1,11 @@
 //! `chess_corners_response` against `chess_response_u8_patch` and document 01.
 
 use crate::port;
-use crate::trial::{self, bits, parts, Lent, Met, Tally, Trial, PAINT};
+use crate::trial::{self, bits, parts, Lent, Met, Tally, Trial, PAINT, PAINT_F};
 use oracle::random::Random;
 use oracle::types::{paper_ring, Region, Ring, View};
 use oracle::{calls, pictures, rules};
 use std::fmt::{self, Display, Formatter};
-
-const PAINT_F: f32 = -12345.678;
 
 #[derive(Clone)]
 pub struct Response {
@@ -136,12 +134,8 @@ impl Trial for Response {
                 (0, [w as usize, h as usize], values)
             }
         };
-        if left.number != number {
-            return Err(format!("number {}, expected {number}", left.number));
-        }
-        if left.size != size {
-            return Err(format!("size {:?}, expected {size:?}", left.size));
-        }
+        trial::held("number", left.number, number)?;
+        trial::held("size", left.size, size)?;
         let got = left.out.inside();
         if let Some(k) = parts(got, &want, |a, b| a.to_bits() == b.to_bits()) {
             return Err(format!(
@@ -150,9 +144,7 @@ impl Trial for Response {
                 bits(want[k])
             ));
         }
-        if left.out.outside().any(|f| f.to_bits() != PAINT_F.to_bits()) {
-            return Err("something is written outside the buffer".into());
-        }
+        left.out.outside_kept("the buffer")?;
         Ok(Met::of(match number {
             0 if want.is_empty() => "done, empty region",
             0 if want.iter().any(|v| v.to_bits() != 0) => "done",

@@ -2,11 +2,13 @@
 //! classes, and the way to a small failing input.
 
 use std::collections::BTreeMap;
-use std::fmt::Display;
+use std::fmt::{Debug, Display};
+use std::ops::Range;
 use std::time::Instant;
 
-/// A count that no call writes by chance.
+/// A count and a float that no call writes by chance.
 pub const PAINT: usize = 0xA5A5_5A5A;
+pub const PAINT_F: f32 = -12345.678;
 
 /// A buffer of painted elements, with more of them before and after, which no
 /// call may touch.
@@ -57,6 +59,24 @@ impl<T: Copy> Lent<T> {
     }
 }
 
+impl Lent<f32> {
+    /// No element around is other than it was painted.
+    pub fn outside_kept(&self, name: &str) -> Result<(), String> {
+        match self.outside().all(|f| f.to_bits() == PAINT_F.to_bits()) {
+            true => Ok(()),
+            false => Err(format!("something is written outside {name}")),
+        }
+    }
+}
+
+/// A number is the expected one.
+pub fn held<T: PartialEq + Debug>(name: &str, got: T, want: T) -> Result<(), String> {
+    match got == want {
+        true => Ok(()),
+        false => Err(format!("{name} {got:?}, expected {want:?}")),
+    }
+}
+
 /// The last bit of a float is another.
 pub fn flip(f: &mut f32) {
     *f = f32::from_bits(f.to_bits() ^ 1);
@@ -78,6 +98,17 @@ pub fn alike(a: f32, b: f32) -> bool {
 /// The bits of a float, and the number.
 pub fn bits(f: f32) -> String {
     format!("{:08X} ({f:e})", f.to_bits())
+}
+
+/// A list of corners, one a line.
+pub fn corner_lines(floats: &[f32]) -> String {
+    let line = |c: &[f32]| {
+        c.iter()
+            .map(|v| format!("  {}", bits(*v)))
+            .collect::<String>()
+            + "\n"
+    };
+    floats.chunks(3).map(line).collect()
 }
 
 /// The classes that a case belongs to, and how many seeds of a list it
@@ -134,6 +165,18 @@ pub trait Trial: Sized + Clone + Display {
     fn tried(&self) -> Result<Met, String> {
         self.judged(&self.by_port())
     }
+}
+
+/// Parts of a list to be left out, many elements at a time and then one.
+pub fn fewer(count: usize) -> Vec<Range<usize>> {
+    let mut out = Vec::new();
+    let mut many = count;
+    while many > 0 {
+        let starts = (0..=count - many).step_by(many);
+        out.extend(starts.map(|from| from..from + many));
+        many /= 2;
+    }
+    out
 }
 
 /// A part of an image, and where it begins.

@@ -1,6 +1,6 @@
 //! The refiner's rows: lists, operators, single seeds.
 
-use super::{in_turn, ratio, timed, Times};
+use super::{in_turn, of_rust, ratio, timed, Times};
 use crate::port;
 use oracle::plain::original as rust;
 use oracle::random::Random;
@@ -116,14 +116,7 @@ fn list(board: &Board, near: bool, radius: i32) -> bool {
     let (s, lent, config) = settings(radius);
     let lists: Vec<Vec<Triple>> = (0..LISTS).map(|_| board.seeds(&mut random, near)).collect();
     let floats: Vec<Vec<f32>> = lists.iter().map(|list| list.concat()).collect();
-    let rust_lists: Vec<Vec<rust::Corner>> = lists
-        .iter()
-        .map(|list| {
-            list.iter()
-                .map(|c| rust::Corner::new(c[0], c[1], c[2]))
-                .collect()
-        })
-        .collect();
+    let rust_lists: Vec<_> = lists.iter().map(|list| of_rust(list)).collect();
     let mut out = vec![1.0f32; 3 * SEEDS];
     let mut count = 0;
     let mut call = |k: usize| {
