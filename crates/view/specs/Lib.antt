@@ -1,0 +1,2 @@
+-- What a view of borrowed bytes stands for.
+pub mod Seen

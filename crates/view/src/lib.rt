@@ -1,0 +1,99 @@
+// An image as bytes that are borrowed, with width and height, after `imageview.rs`. The functions are thin: each takes the view apart and
+// calls the one on a plain slice and numbers, which does the work. The borrow checker covers no function over such a struct, so each is
+// proved by a walk by hand.
+use response::Response;
+use response::Roi;
+use saddle_fit::SaddlePointConfig;
+use saddle_point::Refined;
+ghost use mathlib.Core.Path.{_≡_};
+ghost use Prim.Native.Nat.{_+_, _*_, _≤_};
+ghost use lib.ListN.{length, take, drop};
+ghost use Rattle.imageview.specs.Image.{imageOf, isImage};
+ghost use Rattle.response.specs.Call.{Done, regionOf};
+ghost use Rattle.saddle_point.specs.Refine.{refineOf};
+ghost use Rattle.view.specs.Seen.{imageIn};
+
+pub struct ImageView<'a> {
+    pub data: &'a [u8],
+    pub width: usize,
+    pub height: usize,
+}
+
+// The view as it is given; `is_image` tests it.
+pub fn from_u8_slice<'a>(data: &'a [u8], width: usize, height: usize) -> ImageView<'a>
+    ensures { λ r. ⌜ r ≡ record { «data» = «data» .entry; width = width; height = height } ⌝ }
+{
+    ImageView {
+        data,
+        width,
+        height,
+    }
+}
+
+// Document 01's test of an image: where it fails the calls answer refusal 10.
+pub fn is_image<'a>(view: ImageView<'a>) -> bool
+    ensures { λ r. ⌜ r ≡ isImage (imageIn (view .entry)) ⌝ }
+{
+    imageview::is_image(view.data, view.width, view.height)
+}
+
+pub fn width<'a>(view: ImageView<'a>) -> usize
+    ensures { λ r. ⌜ r ≡ view .entry .width ⌝ }
+{
+    view.width
+}
+
+pub fn height<'a>(view: ImageView<'a>) -> usize
+    ensures { λ r. ⌜ r ≡ view .entry .height ⌝ }
+{
+    view.height
+}
+
+// One row of a patch, as a part of the image: side samples from column x0 of row y.
+pub fn patch_row<'a>(view: ImageView<'a>, x0: usize, y: usize, side: usize) -> &'a [u8]
+    requires { ⌜ y * view .width + x0 + side ≤ length (now (view .data)) ⌝ }
+    ensures { λ r. ⌜ now r ≡ take side (drop (y * view .entry .width + x0) (now (view .entry .data))) ⌝ }
+{
+    imageview::patch_row(view.data, view.width, x0, y, side)
+}
+
+// The ChESS response of the view's image over a region.
+pub fn response<'a>(
+    view: ImageView<'a>,
+    ring: &[i32; 32],
+    radius: usize,
+    roi: Roi,
+    out: &mut [f32],
+) -> Response
+    ensures { λ r. ⌜ Done (imageIn (view .entry)) (now (ring .entry)) radius (regionOf roi) (now (out .entry)) r (now (out .exit)) ⌝ }
+{
+    response::chess_response_u8_patch(view.data, view.width, view.height, ring, radius, roi, out)
+}
+
+// The refiner of one seed on the view's image.
+pub fn refine<'a>(
+    view: ImageView<'a>,
+    cfg: SaddlePointConfig,
+    x: f32,
+    y: f32,
+    wanted: bool,
+) -> Refined
+    ensures { λ r. ⌜ r ≡ refineOf (imageIn (view .entry)) cfg x y wanted ⌝ }
+{
+    saddle_point::refine(view.data, view.width, view.height, cfg, x, y, wanted)
+}
+
+// The same from plain bytes: the view is a local, so whoever calls this needs no walk by hand.
+pub fn refine_bytes(
+    data: &[u8],
+    width: usize,
+    height: usize,
+    cfg: SaddlePointConfig,
+    x: f32,
+    y: f32,
+    wanted: bool,
+) -> Refined
+    ensures { λ r. ⌜ r ≡ refineOf (imageOf (now («data» .entry)) width height) cfg x y wanted ⌝ }
+{
+    refine(from_u8_slice(data, width, height), cfg, x, y, wanted)
+}
