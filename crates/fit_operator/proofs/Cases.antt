@@ -10,7 +10,7 @@ use Rattle.fit_operator.specs.Inverse.{Reduced, singular, reduced, inver
 use Rattle.fit_operator.specs.Rows.{columnsOf, overlapOf}
 use Rattle.fit_operator.specs.Call.{Way, badRadius, none, built, wayOf}
 
-radius-0 : wayOf 0 ≡ none
+pub radius-0 : wayOf 0 ≡ none
 unfolding wayOf inverseNormalMatrix pivotOf ofBits ofInt add sub mul div lt magnitude totalCmp
 radius-0 = refl
 

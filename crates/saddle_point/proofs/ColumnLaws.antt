@@ -159,7 +159,7 @@ isBuilt Answer.Built = Unit
 isBuilt Answer.Singular = ⊥
 isBuilt Answer.BadRadius = ⊥
 
-abbrev isSingular : Operator → Type 0
+abbrev pub isSingular : Operator → Type 0
 isSingular Answer.Built = ⊥
 isSingular Answer.Singular = Unit
 isSingular Answer.BadRadius = ⊥

@@ -33,10 +33,10 @@ use Rattle.saddle_fit.specs.Numbers.{zero32}
 use Rattle.saddle_fit.specs.Fit.{Fit, fitted, fitAt, coefficients}
 use Rattle.saddle_fit.specs.Solve.{solve}
 use Rattle.saddle_fit.specs.Run.{Task, nearAlong, nearSeed, runOf}
-use Rattle.saddle_point.specs.Refine.{goodLimits, centreOf, taskOf, finished, fromSaddle, fromFit, refineWith, refineLent, withOperator, tested, refineOf}
+use Rattle.saddle_point.specs.Refine.{goodLimits, centreOf, taskOf, finished, fromSaddle, fromFit, refineWith, lentWith, refineLent, withOperator, tested, refineOf}
 use Rattle.saddle_fit.specs.Adding.{Sound, Within}
 use Rattle.saddle_fit.specs.Tries.{taskAt}
-use Rattle.saddle_point.specs.Admission.{seedOf, admitOf, freshFit}
+use Rattle.saddle_point.specs.Admission.{seedOf, admitOf, fittedWith, freshFit}
 use Rattle.saddle_fit.proofs.CacheLaws.{there}
 use Rattle.saddle_point.proofs.StepLaws.{no, yes, differs}
 
@@ -155,25 +155,29 @@ module _ (img : Image) (cfg : SaddlePointConfig) (x y : Float) (seed : Seed) (h 
   unfolding supportsPatch
   centre-y = inside-is (cfg .radius) (img .height) (centreOf y) (both-true (inside (cfg .radius) (img .width) (centreOf x)) (inside (cfg .radius) (img .height) (centreOf y)) (tests .patch) .1)
 
-  -- the seed's answer is the whole answer
-  pub good-answer : (wanted : Bool) (columns overlap : List Float) → fromFit (taskAt img columns cfg seed) overlap wanted (fitted (coefficients img columns (cfg .radius) (seed .«centre_x») (seed .«centre_y»))) ≡ refineLent img cfg x y wanted columns overlap
-  unfolding refineLent refineWith
-  good-answer wanted columns overlap =
+  -- the seed's fit is that of the definition
+  good-fitted : (wanted : Bool) (columns overlap : List Float) → fromFit (taskAt img columns cfg seed) overlap wanted (fitted (coefficients img columns (cfg .radius) (seed .«centre_x») (seed .«centre_y»))) ≡ refineWith img cfg x y wanted columns overlap
+  unfolding refineWith
+  good-fitted wanted columns overlap =
       ap (λ (f : Fit). fromFit (taskAt img columns cfg seed) overlap wanted f) (sym (there img columns (cfg .radius) (seed .«centre_x») (seed .«centre_y») good-within))
       ∙ ap (λ (s : Seed). fromFit (taskAt img columns cfg s) overlap wanted (fitAt img columns (cfg .radius) (pos (s .«centre_x»)) (pos (s .«centre_y»)))) (tests .seed)
       ∙ ap (λ (z : ℤ). answer z (pos (natAbs (centreOf y)))) (sym centre-x)
       ∙ ap (λ (z : ℤ). answer (centreOf x) z) (sym centre-y)
-      ∙ sym (tested-as img cfg x y (refineWith img cfg x y wanted columns overlap) (Admitted.Good seed) h)
     where
       answer : ℤ → ℤ → Refined
       answer cx cy = fromFit (record { img = img; columns = columns; cfg = cfg; centreX = cx; centreY = cy; seedX = x; seedY = y }) overlap wanted (fitAt img columns (cfg .radius) cx cy)
 
+  -- the seed's answer is the whole answer
+  pub good-answer : (wanted : Bool) (columns overlap : List Float) → lentWith cfg (fittedWith img cfg seed wanted columns overlap) ≡ refineLent img cfg x y wanted columns overlap
+  unfolding refineLent
+  good-answer wanted columns overlap =
+      ap (lentWith cfg) (good-fitted wanted columns overlap) ∙ sym (tested-as img cfg x y (lentWith cfg (refineWith img cfg x y wanted columns overlap)) (Admitted.Good seed) h)
+
   -- so is that with the operator built for it
   pub fresh-answer : (wanted : Bool) (w : Operator.Way) → freshFit img cfg seed wanted w ≡ tested img cfg x y (withOperator img cfg x y wanted w)
-  unfolding refineLent
   fresh-answer wanted Operator.badRadius = sym (tested-as img cfg x y BadRadius (Admitted.Good seed) h)
   fresh-answer wanted Operator.none = sym (tested-as img cfg x y (IllConditioned zero32) (Admitted.Good seed) h)
-  fresh-answer wanted (Operator.built columns overlap) = good-answer wanted columns overlap
+  fresh-answer wanted (Operator.built columns overlap) = good-fitted wanted columns overlap ∙ sym (tested-as img cfg x y (refineWith img cfg x y wanted columns overlap) (Admitted.Good seed) h)
 
 pub good-refined : (img : Image) (cfg : SaddlePointConfig) (x y : Float) (seed : Seed) → admitOf img cfg x y ≡ Admitted.Good seed → (wanted : Bool) → freshFit img cfg seed wanted (Operator.wayOf (cfg .radius)) ≡ refineOf img cfg x y wanted
 unfolding refineOf
@@ -183,9 +187,9 @@ pub other-refined : (img : Image) (cfg : SaddlePointConfig) (x y : Float) (wante
 unfolding refineOf
 other-refined img cfg x y wanted d h = sym (tested-as img cfg x y (withOperator img cfg x y wanted (Operator.wayOf (cfg .radius))) d h)
 
-pub other-answer : (img : Image) (cfg : SaddlePointConfig) (x y : Float) (wanted : Bool) (columns overlap : List Float) (d : Admitted) → admitOf img cfg x y ≡ d → answered d (refineWith img cfg x y wanted columns overlap) ≡ refineLent img cfg x y wanted columns overlap
+pub other-answer : (img : Image) (cfg : SaddlePointConfig) (x y : Float) (wanted : Bool) (columns overlap : List Float) (d : Admitted) → admitOf img cfg x y ≡ d → answered d (lentWith cfg (refineWith img cfg x y wanted columns overlap)) ≡ refineLent img cfg x y wanted columns overlap
 unfolding refineLent
-other-answer img cfg x y wanted columns overlap d h = sym (tested-as img cfg x y (refineWith img cfg x y wanted columns overlap) d h)
+other-answer img cfg x y wanted columns overlap d h = sym (tested-as img cfg x y (lentWith cfg (refineWith img cfg x y wanted columns overlap)) d h)
 
 -- ---- the first fit
 module _ (img : Image) (columns overlap : List Float) (cfg : SaddlePointConfig) (seed : Seed) (wanted : Bool) (here coef : List Float) (s : Solved) (fit : here ≡ coef) (solved : s ≡ solve cfg here) where

@@ -1,8 +1,11 @@
 -- The call with a lent operator, where building it said that it is there, is the call that builds its own: one operator serves many seeds.
-use mathlib.Core.Path.{_≡_, refl, sym, ap, _∙_}
-use mathlib.Core.Bool.{Bool}
+use mathlib.Core.Path.{_≡_, refl, sym, ap, _∙_, subst}
+use mathlib.Core.Bool.{Bool, true, false, cond}
 use mathlib.Core.List.{List}
+use Prim.Native.Nat.{ℕ}
+use lib.Dec.{eqb}
 use lib.Ieee.{Float}
+use borrow.Author.Tests.{eqb-true}
 use Rattle.imageview.specs.Image.{Image}
 use Rattle.fit_operator.specs.Call as Operator
 use Rattle.fit_operator.specs.declared.Operator.{Operator}
@@ -16,23 +19,30 @@ use Rattle.saddle_point.specs.declared.Admitted.{Admitted}
 use Rattle.saddle_point.specs.declared.Admitted.the-variants as Admitted
 use Rattle.saddle_point.specs.declared.Spot.{Spot}
 use Rattle.saddle_point.specs.declared.Spot.the-variants.{Nowhere}
-use Rattle.saddle_point.specs.Refine.{refineLent, refineOf, refineWith, withOperator}
-use Rattle.saddle_point.specs.Admission.{admitOf, freshFit}
+use Rattle.saddle_point.specs.Refine.{refineLent, refineOf, refineWith, lentWith, withOperator}
+use Rattle.saddle_point.specs.Admission.{admitOf, fittedWith, freshFit}
 use Rattle.saddle_point.specs.Spot.{spotOf}
 use Rattle.saddle_point.proofs.EntryLaws.{answered, good-answer, other-answer, good-refined, other-refined}
-use Rattle.saddle_point.proofs.ColumnLaws.{fresh-built, fresh-singular, fresh-bad}
+use Rattle.fit_operator.proofs.Cases.{radius-0}
+use Rattle.saddle_point.proofs.ColumnLaws.{isSingular, fresh-built, fresh-singular, fresh-bad}
 
 module _ (img : Image) (cfg : SaddlePointConfig) (x y : Float) (wanted : Bool) (old overlap columns' overlap' : List Float) (r : Operator) (done : Operator.Done (cfg .radius) old overlap r columns' overlap') where
   -- a test that fails, fails on both sides
   alike : (d : Admitted) → admitOf img cfg x y ≡ d → ((a b : Refined) → answered d a ≡ answered d b) → refineLent img cfg x y wanted columns' overlap' ≡ refineOf img cfg x y wanted
   alike d h k =
       sym (other-answer img cfg x y wanted columns' overlap' d h)
-      ∙ k (refineWith img cfg x y wanted columns' overlap') (withOperator img cfg x y wanted (Operator.wayOf (cfg .radius)))
+      ∙ k (lentWith cfg (refineWith img cfg x y wanted columns' overlap')) (withOperator img cfg x y wanted (Operator.wayOf (cfg .radius)))
       ∙ other-refined img cfg x y wanted d h
+
+  -- an operator that was built is not that of radius 0
+  not-zero : r ≡ Answer.Built → (a : Refined) (z : Bool) → eqb (cfg .radius) 0 ≡ z → cond z (IllConditioned zero32) a ≡ a
+  not-zero e a false h = refl
+  not-zero e a true h = absurd (subst isSingular (sym (ap Operator.answerOf radius-0) ∙ sym (ap (λ (k : ℕ). Operator.answerOf (Operator.wayOf k)) (eqb-true (cfg .radius) 0 h)) ∙ sym (done .answers) ∙ e) tt)
 
   by-tests : r ≡ Answer.Built → (d : Admitted) → admitOf img cfg x y ≡ d → refineLent img cfg x y wanted columns' overlap' ≡ refineOf img cfg x y wanted
   by-tests e (Admitted.Good seed) h =
       sym (good-answer img cfg x y seed h wanted columns' overlap')
+      ∙ not-zero e (fittedWith img cfg seed wanted columns' overlap') (eqb (cfg .radius) 0) refl
       ∙ fresh-built img cfg seed wanted old overlap columns' overlap' r done e
       ∙ good-refined img cfg x y seed h wanted
   by-tests e Admitted.NoImage h = alike Admitted.NoImage h (λ a b. refl)

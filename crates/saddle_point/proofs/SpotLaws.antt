@@ -3,8 +3,10 @@ use mathlib.Core.Path.{_≡_, refl, sym, ap, _∙_}
 use mathlib.Core.Bool.{Bool, true, false, _&&_, cond}
 use mathlib.Core.List.{List}
 use Prim.Native.Nat.{ℕ}
+use lib.Dec.{eqb}
 use lib.IntN.{pos}
 use lib.Ieee.{Float, binary32, ofInt}
+use borrow.Author.Tests.{eq-eqb, ne-eqb}
 use Rattle.imageview.specs.Image.{Image}
 use Rattle.saddle_fit.specs.declared.SaddlePointConfig.{SaddlePointConfig}
 use Rattle.saddle_fit.specs.declared.PatchSaddle.{PatchSaddle}
@@ -30,7 +32,7 @@ use Rattle.saddle_point.specs.declared.Admitted.{Admitted}
 use Rattle.saddle_point.specs.declared.Admitted.the-variants as Admitted
 use Rattle.saddle_point.specs.declared.Spot.{Spot}
 use Rattle.saddle_point.specs.declared.Spot.the-variants.{At, Nowhere}
-use Rattle.saddle_point.specs.Refine.{single, estimate, closed, closedAt, finished, fromSaddle, fromFit, refineWith, refineLent}
+use Rattle.saddle_point.specs.Refine.{single, estimate, closed, closedAt, finished, fromSaddle, fromFit, refineWith, lentWith, refineLent}
 use Rattle.saddle_point.specs.Ending.{Ends}
 use Rattle.saddle_point.specs.Admission.{admitOf, fittedWith}
 use Rattle.saddle_point.specs.Spot.{spotAt, spotOf, Comes, Lands}
@@ -105,16 +107,27 @@ module _ (img : Image) (columns : List Float) (cfg : SaddlePointConfig) (seed : 
   pub lands-rejected : (f : PatchSaddle) (b : Bool) → s ≡ Saddle f → b ≡ near f → b ≡ false → Lands answer Nowhere
   lands-rejected f b e n h = record { is = λ overlap wanted. ap spotOf (seed-rejected img columns overlap cfg seed wanted here coef s fit solved f b e n h) }
 
+-- ---- at radius 0, and at another
+module _ (img : Image) (columns : List Float) (cfg : SaddlePointConfig) (seed : Seed) where
+  abbrev lent : List Float → Bool → Refined
+  lent overlap wanted = lentWith cfg (fittedWith img cfg seed wanted columns overlap)
+
+  pub lands-none : cfg .radius ≡ 0 → Lands lent Nowhere
+  lands-none h = record { is = λ overlap wanted. sym (ap spotOf (yes (eqb (cfg .radius) 0) (IllConditioned zero32) (fittedWith img cfg seed wanted columns overlap) (eq-eqb (cfg .radius) 0 h))) }
+
+  pub lands-lent : (cfg .radius ≡ 0 → ⊥) → (r : Spot) → Lands (λ overlap wanted. fittedWith img cfg seed wanted columns overlap) r → Lands lent r
+  lands-lent h r l = record { is = λ overlap wanted. l .is overlap wanted ∙ sym (ap spotOf (no (eqb (cfg .radius) 0) (IllConditioned zero32) (fittedWith img cfg seed wanted columns overlap) (ne-eqb (cfg .radius) 0 h))) }
+
 -- ---- the tests
 module _ (img : Image) (columns : List Float) (cfg : SaddlePointConfig) (x y : Float) where
   abbrev whole : List Float → Bool → Refined
   whole overlap wanted = refineLent img cfg x y wanted columns overlap
 
-  pub lands-good : (seed : Seed) → admitOf img cfg x y ≡ Admitted.Good seed → (r : Spot) → Lands (λ overlap wanted. fittedWith img cfg seed wanted columns overlap) r → Lands whole r
+  pub lands-good : (seed : Seed) → admitOf img cfg x y ≡ Admitted.Good seed → (r : Spot) → Lands (λ overlap wanted. lentWith cfg (fittedWith img cfg seed wanted columns overlap)) r → Lands whole r
   lands-good seed h r l = record { is = λ overlap wanted. l .is overlap wanted ∙ ap spotOf (good-answer img cfg x y seed h wanted columns overlap) }
 
   abbrev nowhere : Admitted → Type 0
   nowhere d = (a : Refined) → Nowhere ≡ spotOf (answered d a)
 
   pub lands-other : (d : Admitted) → admitOf img cfg x y ≡ d → nowhere d → Lands whole Nowhere
-  lands-other d h n = record { is = λ overlap wanted. n (refineWith img cfg x y wanted columns overlap) ∙ ap spotOf (other-answer img cfg x y wanted columns overlap d h) }
+  lands-other d h n = record { is = λ overlap wanted. n (lentWith cfg (refineWith img cfg x y wanted columns overlap)) ∙ ap spotOf (other-answer img cfg x y wanted columns overlap d h) }

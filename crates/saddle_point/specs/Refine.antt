@@ -3,7 +3,7 @@ use mathlib.Core.Path.{_≡_}
 use mathlib.Core.Bool.{Bool, true, false, _&&_, _||_, not, cond}
 use mathlib.Core.List.{List}
 use Prim.Native.Nat.{ℕ, _≤_}
-use lib.Dec.{leb}
+use lib.Dec.{leb, eqb}
 use lib.IntN.{ℤ}
 use lib.Ieee.{Float, binary32, ofInt, toSigned, neg, lt, eq}
 use lib.Ieee.Scale.{finite}
@@ -99,10 +99,14 @@ tested img cfg x y answer =
     (cond (not (supportsPatch img (cfg .radius) (centreOf x) (centreOf y))) OutOfBounds
     answer)))
 
+-- at radius 0 there is no operator, whatever is lent
+abbrev pub lentWith : SaddlePointConfig → Refined → Refined
+lentWith cfg answer = cond (eqb (cfg .radius) 0) (IllConditioned zero32) answer
+
 -- for whatever operator is lent
 unfoldable pub refineLent : Image → SaddlePointConfig → Float → Float → Bool → List Float → List Float → Refined
 unfolding refineWith
-refineLent img cfg x y wanted columns overlap = tested img cfg x y (refineWith img cfg x y wanted columns overlap)
+refineLent img cfg x y wanted columns overlap = tested img cfg x y (lentWith cfg (refineWith img cfg x y wanted columns overlap))
 
 unfoldable pub refineOf : Image → SaddlePointConfig → Float → Float → Bool → Refined
 unfolding refineWith

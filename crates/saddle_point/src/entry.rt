@@ -13,7 +13,7 @@ ghost use mathlib.Core.Path.{_≡_};
 ghost use Rattle.imageview.specs.Image.{imageOf};
 ghost use Rattle.saddle_fit.specs.Fit.{fitted, coefficients};
 ghost use Rattle.saddle_fit.specs.Solve.{goodLimit};
-ghost use Rattle.saddle_point.specs.Refine.{goodLimits, fromFit, refineLent, refineOf};
+ghost use Rattle.saddle_point.specs.Refine.{goodLimits, fromFit, lentWith, refineLent, refineOf};
 ghost use Rattle.saddle_fit.specs.Adding.{Within};
 ghost use Rattle.saddle_fit.specs.Tries.{taskAt};
 ghost use Rattle.saddle_point.specs.Admission.{admitOf, fittedWith, freshFit};
@@ -35,7 +35,7 @@ pub fn refine_with(
 {
     let admitted = admit(img, width, height, cfg, x, y);
     match admitted {
-        Admitted::Good(seed) => refine_seed(
+        Admitted::Good(seed) => refine_lent(
             img,
             width,
             height,
@@ -153,6 +153,26 @@ pub fn admit(
         return Admitted::NoLimit;
     }
     Admitted::NoImage
+}
+
+// A seed that passed the tests, with an operator that is lent; at radius 0 there is none, whatever is lent.
+fn refine_lent(
+    img: &[u8],
+    width: usize,
+    height: usize,
+    cfg: SaddlePointConfig,
+    seed: Seed,
+    wanted: bool,
+    columns: &[f32; 1125],
+    overlap: &[f32; 225],
+) -> Refined
+    requires { ⌜ Within (imageOf (now img) width height) (cfg .radius) (seed .«centre_x») (seed .«centre_y») ⌝ }
+    ensures { λ r. ⌜ r ≡ lentWith cfg (fittedWith (imageOf (now (img .entry)) width height) cfg seed wanted (now (columns .entry)) (now (overlap .entry))) ⌝ }
+{
+    if cfg.radius == 0 {
+        return Refined::IllConditioned(0.0);
+    }
+    refine_seed(img, width, height, cfg, seed, wanted, columns, overlap)
 }
 
 // A seed that passed the tests: the first fit decides acceptance.

@@ -19,7 +19,7 @@ ghost use Rattle.saddle_fit.specs.Numbers.{_⊕_};
 ghost use Rattle.saddle_fit.specs.Adding.{Within};
 ghost use Rattle.saddle_fit.specs.Tries.{taskAt};
 ghost use Rattle.saddle_point.specs.declared.Spot.the-variants.{At};
-ghost use Rattle.saddle_point.specs.Refine.{refineLent};
+ghost use Rattle.saddle_point.specs.Refine.{lentWith, refineLent};
 ghost use Rattle.saddle_point.specs.Admission.{fittedWith};
 ghost use Rattle.saddle_point.specs.Spot.{Comes, Lands};
 
@@ -37,12 +37,30 @@ pub fn spot_with(
 {
     let admitted = entry::admit(img, width, height, cfg, x, y);
     match admitted {
-        Admitted::Good(seed) => spot_of_seed(img, width, height, cfg, seed, columns),
+        Admitted::Good(seed) => spot_lent(img, width, height, cfg, seed, columns),
         Admitted::NoImage => Spot::Nowhere,
         Admitted::NoRadius => Spot::Nowhere,
         Admitted::NoLimit => Spot::Nowhere,
         Admitted::NoPatch => Spot::Nowhere,
     }
+}
+
+// A seed that passed the tests; at radius 0 there is no operator, whatever is lent.
+fn spot_lent(
+    img: &[u8],
+    width: usize,
+    height: usize,
+    cfg: SaddlePointConfig,
+    seed: Seed,
+    columns: &[f32; 1125],
+) -> Spot
+    requires { ⌜ Within (imageOf (now img) width height) (cfg .radius) (seed .«centre_x») (seed .«centre_y») ⌝ }
+    ensures { λ r. ⌜ Lands (λ overlap wanted. lentWith cfg (fittedWith (imageOf (now (img .entry)) width height) cfg seed wanted (now (columns .entry)) overlap)) r ⌝ }
+{
+    if cfg.radius == 0 {
+        return Spot::Nowhere;
+    }
+    spot_of_seed(img, width, height, cfg, seed, columns)
 }
 
 // A seed that passed the tests: the first fit decides acceptance.

@@ -12,8 +12,8 @@ admit-requires c κs = search needs
 enum-known-admitted : tie.Need-enum-known-admitted
 enum-known-admitted c = search needs
 
-refine-seed-requires : tie.Need-refine-seed-requires
-refine-seed-requires c κs =
+refine-lent-requires : tie.Need-refine-lent-requires
+refine-lent-requires c κs =
     let a = c .before .before .before .before .before .args in
     good-within (imageOf (a .img .now) (a .width) (a .height)) (a .cfg) (a .x) (a .y) (c .before .admitted .given .0 .0) (sym (c .before .before .before .admit .ensures) ∙ c .before .admitted .given .1)
 
@@ -32,7 +32,7 @@ enum-told-4 c = search needs
 returns : tie.Need-returns
 returns c =
     let a = c .before .before .before .before .before .before .args in
-    c .refine-seed .ensures
+    c .refine-lent .ensures
     ∙ good-answer (imageOf (a .img .now) (a .width) (a .height)) (a .cfg) (a .x) (a .y) (c .before .before .admitted .given .0 .0) (sym (c .before .before .before .before .admit .ensures) ∙ c .before .before .admitted .given .1) (a .wanted) (a .columns .now) (a .overlap .now)
 
 returns-2 : tie.Need-returns-2
@@ -61,7 +61,7 @@ refine-with-spec =
     (tie.spec
     admit-requires
     enum-known-admitted
-    refine-seed-requires
+    refine-lent-requires
     enum-told
     enum-told-2
     enum-told-3

@@ -13,8 +13,8 @@ admit-requires c κs = search needs
 enum-known-admitted : tie.Need-enum-known-admitted
 enum-known-admitted c = search needs
 
-spot-of-seed-requires : tie.Need-spot-of-seed-requires
-spot-of-seed-requires c κs =
+spot-lent-requires : tie.Need-spot-lent-requires
+spot-lent-requires c κs =
     let a = c .before .before .before .before .before .args in
     good-within (imageOf (a .img .now) (a .width) (a .height)) (a .cfg) (a .x) (a .y) (c .before .admitted .given .0 .0) (sym (c .before .before .before .admit .ensures) ∙ c .before .admitted .given .1)
 
@@ -33,7 +33,7 @@ enum-told-4 c = search needs
 returns : tie.Need-returns
 returns c =
     let a = c .before .before .before .before .before .before .args in
-    lands-good (imageOf (a .img .now) (a .width) (a .height)) (a .columns .now) (a .cfg) (a .x) (a .y) (c .before .before .admitted .given .0 .0) (sym (c .before .before .before .before .admit .ensures) ∙ c .before .before .admitted .given .1) _ (c .spot-of-seed .ensures)
+    lands-good (imageOf (a .img .now) (a .width) (a .height)) (a .columns .now) (a .cfg) (a .x) (a .y) (c .before .before .admitted .given .0 .0) (sym (c .before .before .before .before .admit .ensures) ∙ c .before .before .admitted .given .1) _ (c .spot-lent .ensures)
 
 returns-2 : tie.Need-returns-2
 returns-2 c =
@@ -61,7 +61,7 @@ spot-with-spec =
     (tie.spec
     admit-requires
     enum-known-admitted
-    spot-of-seed-requires
+    spot-lent-requires
     enum-told
     enum-told-2
     enum-told-3
