@@ -134,5 +134,8 @@ module _ (s : Scan) (room : ℕ) where
 pub done-refused : {s : Scan} {out : List Float} {r : Peaks} → wayOf s (length out) ≡ refused r → Done s out r out
 done-refused {s} {out} e = record { answers = sym (ap answerOf e); leaves = sym (ap (outAfter s out) e) }
 
+pub done-kept : {s : Scan} {out out' : List Float} {r : Peaks} → wayOf s (length out) ≡ refused r → out' ≡ out → Done s out r out'
+done-kept {s} {out} e f = record { answers = sym (ap answerOf e); leaves = f ∙ sym (ap (outAfter s out) e) }
+
 pub done-found : {s : Scan} {out out' : List Float} {n : ℕ} → wayOf s (length out) ≡ found (peaksOf s) → n ≡ length (peaksOf s) → out' ≡ filled s out → Done s out (Found n) out'
 done-found {s} {out} e f g = record { answers = ap Found f ∙ sym (ap answerOf e); leaves = g ∙ sym (ap (outAfter s out) e) }

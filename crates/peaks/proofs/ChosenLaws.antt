@@ -1,18 +1,20 @@
 -- The peaks up to a place, and their records.
 use mathlib.Core.Path.{_≡_, refl, sym, ap, _∙_, subst}
+use mathlib.Core.Logic.{⊎-elim}
 use mathlib.Core.Bool.{Bool, true, false, cond}
 use mathlib.Core.List.{List, [], _∷_, _++_, append-nil, append-assoc}
 use Prim.Native.Nat.{ℕ, zero, suc, _+_, _-_, _*_, _/_, _%_, _≤_, _<_}
-use native.Mathlib.Nat.{add-zero, add-suc, div-add-mod', le-refl}
+use native.Mathlib.Nat.{add-zero, add-suc, div-add-mod', not-suc-le-zero}
 use native.Mathlib.Numerals.{add-one}
 use native.Mathlib.Omega.{arith}
 use lib.IntN.{pos}
-use lib.ListN.{length, getD, set, drop, take, length-append, length-drop}
-use lib.Seq.{sets-eq, take-at, drop-drop, drop-append-add}
+use lib.ListN.{length, getD, set, drop, take, length-append, length-drop, length-set, List·getD-append}
+use lib.Seq.{sets-eq, take-suc, take-suc-set, length-take-le, getD-take, getD-append-add, take-at, drop-drop, drop-append-add}
 use lib.Ieee.{Float, nan, binary32, ofInt}
 use Rattle.peaks.specs.Peak.{Scan, valueAt}
+use Rattle.peaks.proofs.PeakLaws.{lt-or-le}
 use Rattle.peaks.specs.Call.{chosen, peakAt, peaksOf, recordsOf}
-use Rattle.peaks.specs.Steps.{Sound, Next, Tallied, recorded, filled}
+use Rattle.peaks.specs.Steps.{Sound, Next, Stands, Listed, Noteworthy, recorded, Written, filled}
 
 module _ (p : ℕ → Bool) where
   chosen-none : chosen 0 p ≡ []
@@ -47,6 +49,18 @@ one-most : (b : Bool) (k : ℕ) → length (cond b (k ∷ []) []) ≤ 1
 one-most true k = omega arith
 one-most false k = omega arith
 
+chosen-below : (p : ℕ → Bool) (k i : ℕ) → i < length (chosen k p) → getD (chosen k p) i 0 < k
+unfolding chosen
+chosen-below p zero i h = absurd (not-suc-le-zero h)
+chosen-below p (suc k) i h =
+    ⊎-elim (λ l. subst (λ (z : ℕ). z < suc k) (sym (List·getD-append (chosen k p) (cond (p k) (k ∷ []) []) 0 i l)) (let q = chosen-below p k i l in omega arith))
+    (λ l. last (p k) (i - length (chosen k p)) (omega arith) h) (lt-or-le i (length (chosen k p)))
+  where
+    last : (b : Bool) (j : ℕ) → i ≡ length (chosen k p) + j → i < length (chosen k p ++ cond b (k ∷ []) []) → getD (chosen k p ++ cond b (k ∷ []) []) i 0 < suc k
+    last true zero e m = subst (λ (z : ℕ). z < suc k) (sym (ap (λ (z : ℕ). getD (chosen k p ++ (k ∷ [])) z 0) e ∙ getD-append-add (chosen k p) (k ∷ []) 0 0)) (let q : k < suc k = omega arith in q)
+    last true (suc j) e m = absurd (let z : ⊥ = omega (arith, length-append (chosen k p) (k ∷ [])) in z)
+    last false j e m = absurd (let z : ⊥ = omega (arith, length-append (chosen k p) []) in z)
+
 chosen-most : (p : ℕ → Bool) (k : ℕ) → length (chosen k p) ≤ k
 unfolding chosen
 chosen-most p zero = omega arith
@@ -54,16 +68,15 @@ chosen-most p (suc k) = let h = chosen-most p k in omega (arith, length-append (
 
 module _ (s : Scan) where
   -- the peaks before a place
-  abbrev pub upTo : ℕ → List ℕ
+  abbrev upTo : ℕ → List ℕ
   upTo k = chosen k (peakAt s)
 
   pub all-peaks : Sound s → upTo (length (s .values)) ≡ peaksOf s
   unfolding peaksOf
   all-peaks t = ap upTo (t .size)
 
-  -- the scan stands at the peak k, or at the end, with n peaks before
-  abbrev pub At : ℕ → ℕ → Type 0
-  At n k = (n ≡ length (upTo k)) × (k ≤ length (s .values)) × (k < length (s .values) → peakAt s k ≡ true)
+  abbrev At : ℕ → ℕ → Type 0
+  At = Stands s
 
   pub before-most : (n k : ℕ) → At n k → n ≤ k
   before-most n k (a, b, c) = let h = chosen-most (peakAt s) k in omega arith
@@ -91,6 +104,13 @@ module _ (s : Scan) where
       let q : k + 1 + (length (s .values) - (k + 1)) ≡ length (s .values) = omega arith in
       let m : length (upTo (k + 1)) ≤ length (peaksOf s) = subst (λ (z : List ℕ). length (upTo (k + 1)) ≤ length z) (ap upTo q ∙ all-peaks t) l in
       let n : length (upTo (k + 1)) ≡ length (upTo k) + 1 = ap length (chosen-one (peakAt s) k e) ∙ length-append (upTo k) (k ∷ []) in
+      omega arith
+
+  pub before-all : (n k : ℕ) → Sound s → Stands s n k → n ≤ length (peaksOf s)
+  before-all n k t (a, b, c) =
+      let l = chosen-more (peakAt s) k (length (s .values) - k) in
+      let q : k + (length (s .values) - k) ≡ length (s .values) = omega arith in
+      let m : length (upTo k) ≤ length (peaksOf s) = subst (λ (z : List ℕ). length (upTo k) ≤ length z) (ap upTo q ∙ all-peaks t) l in
       omega arith
 
   pub one-left : (n k : ℕ) → Sound s → At n k → k < length (s .values) → n + 1 ≤ length (peaksOf s)
@@ -142,11 +162,8 @@ module _ (s : Scan) where
           ∙ ap (λ (i : ℕ). drop i out) (let q : 3 * n + 3 ≡ 3 * (n + 1) = omega arith in q)
 
   -- ---- the output after the peaks up to k
-  abbrev pub Out : List Float → ℕ → ℕ → List Float → Type 0
-  Out out n k out' = out' ≡ recordsOf s (upTo k) ++ drop (3 * n) out
-
-  pub out-first : (out : List Float) {r : ℕ} → Next s 0 r → Out out 0 r out
-  out-first out m = sym (ap (λ (l : List ℕ). recordsOf s l ++ out) (none-before m) ∙ ap (λ (l : List Float). l ++ out) records-none)
+  abbrev Out : List Float → ℕ → ℕ → List Float → Type 0
+  Out = Written s
 
   pub out-next : (out out' out'' : List Float) (n k : ℕ) {r : ℕ} → At n k → k < length (s .values) → Next s (k + 1) r → 3 * n + 2 < length out → Out out n k out'
       → out'' ≡ recorded out' n (ofInt binary32 (pos (k % s .width))) (ofInt binary32 (pos (k / s .width))) (getD (s .values) k nan) → Out out (n + 1) r out''
@@ -157,3 +174,47 @@ module _ (s : Scan) where
   pub out-last : (out out' : List Float) (n k : ℕ) → Sound s → At n k → length (s .values) ≤ k → Out out n k out' → out' ≡ filled s out
   out-last out out' n k t (a, b, c) h e =
       e ∙ ap (λ (z : List ℕ). recordsOf s z ++ drop (3 * n) out) (at-end k t b h) ∙ ap (λ (i : ℕ). recordsOf s (peaksOf s) ++ drop (3 * i) out) (none-left n k t (a, b, c) h)
+
+  -- ---- notes
+  pub listed-none : (notes : List ℕ) {r : ℕ} → Next s 0 r → Listed s notes 0 r
+  listed-none notes m = record { stands = at-first m; most = omega arith; few = omega arith; listed = sym (none-before m) }
+
+  pub listed-more : (notes : List ℕ) (n k : ℕ) {r : ℕ} → Listed s notes n k → n < 4096 → n < length notes → k < length (s .values) → Next s (k + 1) r → Listed s (set notes n k) (n + 1) r
+  listed-more notes n k {r} l e f h m =
+      record {
+        stands = at-next n k (l .stands) h m;
+        most = omega arith;
+        few = omega (arith, length-set notes n k);
+        listed =
+            ap (λ (i : ℕ). take i (set notes n k)) (add-one n) ∙ take-suc-set notes n k f ∙ ap (λ (z : List ℕ). z ++ (k ∷ [])) (l .listed)
+            ∙ sym (one-before k (l .stands .2 h) m);
+      }
+
+  pub noteworthy : (notes : List ℕ) (n k : ℕ) → Listed s notes n k → Noteworthy s notes n
+  noteworthy notes n k l =
+      record {
+        most = l .most;
+        few = l .few;
+        places =
+            λ i h.
+            let q : getD notes i 0 < k = subst (λ (z : ℕ). z < k) (ap (λ (z : List ℕ). getD z i 0) (sym (l .listed)) ∙ getD-take n notes i 0 h) (chosen-below (peakAt s) k i (subst (λ (z : ℕ). i < z) (l .stands .0) h)) in
+            let m = l .stands .1 in
+            omega arith;
+      }
+
+  -- one more note written
+  pub noted-more : (out out' out'' : List Float) (notes : List ℕ) (i : ℕ) → i < length notes → 3 * i + 2 < length out → out' ≡ recordsOf s (take i notes) ++ drop (3 * i) out
+      → out'' ≡ recorded out' i (ofInt binary32 (pos (getD notes i 0 % s .width))) (ofInt binary32 (pos (getD notes i 0 / s .width))) (getD (s .values) (getD notes i 0) nan)
+      → out'' ≡ recordsOf s (take (i + 1) notes) ++ drop (3 * (i + 1)) out
+  noted-more out out' out'' notes i l h e f =
+      let k = getD notes i 0 in
+      f ∙ ap (λ (z : List Float). recorded z i (ofInt binary32 (pos (k % s .width))) (ofInt binary32 (pos (k / s .width))) (getD (s .values) k nan)) e
+      ∙ put-record out (take i notes) k i (sym (length-take-le i notes (let q : i ≤ length notes = omega arith in q))) h
+      ∙ ap (λ (z : List ℕ). recordsOf s z ++ drop (3 * (i + 1)) out) (sym (ap (λ (n : ℕ). take n notes) (add-one i) ∙ take-suc notes i 0 l))
+
+  pub noted-none : (out : List Float) (notes : List ℕ) → out ≡ recordsOf s (take 0 notes) ++ drop (3 * 0) out
+  noted-none out notes = sym (ap (λ (z : List Float). z ++ out) records-none)
+
+  -- what the notes leave is what the peaks before k leave
+  pub noted-out : (out out' : List Float) (notes : List ℕ) (n k : ℕ) → Listed s notes n k → out' ≡ recordsOf s (take n notes) ++ drop (3 * n) out → Written s out n k out'
+  noted-out out out' notes n k l e = e ∙ ap (λ (z : List ℕ). recordsOf s z ++ drop (3 * n) out) (l .listed)

@@ -3,11 +3,11 @@ use mathlib.Core.Path.{_≡_}
 use mathlib.Core.Bool.{true, false}
 use mathlib.Core.List.{List, _++_}
 use Prim.Native.Nat.{ℕ, _+_, _*_, _/_, _%_, _≤_, _<_}
-use lib.ListN.{length, getD, set, drop}
+use lib.ListN.{length, getD, set, take, drop}
 use lib.Ieee.{Float, nan, lt}
 use Rattle.peaks.specs.declared.Rule.{Rule}
 use Rattle.peaks.specs.Peak.{Scan, border, every, least, inside, isPeak}
-use Rattle.peaks.specs.Call.{peakAt, peaksOf, recordsOf}
+use Rattle.peaks.specs.Call.{chosen, peakAt, peaksOf, recordsOf}
 
 -- a response and the rule by which it is scanned
 abbrev pub scanOf : List Float → Rule → Scan
@@ -107,6 +107,23 @@ pub record Next (s : Scan) (k r : ℕ) : Type 0 where
   pub most : r ≤ length (s .values)
   pub hit : r < length (s .values) → peakAt s r ≡ true
 
+-- the scan stands at the peak k, or at the end, with n peaks before
+abbrev pub Stands : Scan → ℕ → ℕ → Type 0
+Stands s n k = (n ≡ length (chosen k (peakAt s))) × (k ≤ length (s .values)) × (k < length (s .values) → peakAt s k ≡ true)
+
+-- and the places of those n are noted
+pub record Listed (s : Scan) (notes : List ℕ) (n k : ℕ) : Type 0 where
+  pub stands : Stands s n k
+  pub most : n ≤ 4096
+  pub few : n ≤ length notes
+  pub listed : take n notes ≡ chosen k (peakAt s)
+
+-- n notes that are places
+pub record Noteworthy (s : Scan) (notes : List ℕ) (n : ℕ) : Type 0 where
+  pub most : n ≤ 4096
+  pub few : n ≤ length notes
+  pub places : (i : ℕ) → i < n → getD notes i 0 < length (s .values)
+
 -- r is the number of peaks, or above the room for them where that is
 pub record Tallied (s : Scan) (room r : ℕ) : Type 0 where
   pub few : r ≤ room → r ≡ length (peaksOf s)
@@ -116,6 +133,16 @@ pub record Tallied (s : Scan) (room r : ℕ) : Type 0 where
 abbrev pub recorded : List Float → ℕ → Float → Float → Float → List Float
 recorded out n x y v = set (set (set out (3 * n) x) (3 * n + 1) y) (3 * n + 2) v
 
+-- the output after the n peaks before k
+abbrev pub Written : Scan → List Float → ℕ → ℕ → List Float → Type 0
+Written s out n k out' = out' ≡ recordsOf s (chosen k (peakAt s)) ++ drop (3 * n) out
+
 -- records of all peaks, and what stood past them
 abbrev pub filled : Scan → List Float → List Float
 filled s out = recordsOf s (peaksOf s) ++ drop (3 * length (peaksOf s)) out
+
+-- all of it, or nothing where there is no room
+pub record Recorded (s : Scan) (out : List Float) (r : ℕ) (out' : List Float) : Type 0 where
+  pub tallied : Tallied s (length out / 3) r
+  pub wrote : r ≤ length out / 3 → out' ≡ filled s out
+  pub kept : length out / 3 < r → out' ≡ out

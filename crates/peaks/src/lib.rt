@@ -28,6 +28,12 @@ struct Rule {
     cluster: u32,
 }
 
+// How many peaks were noted, and the place of the next one, or the end.
+struct Noted {
+    count: usize,
+    at: usize,
+}
+
 // Writes x, y and value of every peak of the response, by row; the rest of the output stays.
 pub fn detect_peaks_from_response_with_refine_radius(
     response: &[f32],
@@ -64,11 +70,10 @@ pub fn detect_peaks_from_response_with_refine_radius(
         cluster: min_cluster_size,
     };
     let room = out.len() / 3;
-    let count = scan::tally(response, rule, room);
+    let count = scan::record_all(response, rule, out);
     if room < count {
         return Peaks::TooMany;
     }
-    scan::write(response, rule, out);
     Peaks::Found(count)
 }
 

@@ -1,15 +1,17 @@
 // The scan: the next peak from a place on, and the loops that count and write with it. A place is a pixel's number in row order.
+use crate::Noted;
 use crate::Rule;
 use crate::window;
 ghost use mathlib.Core.Path.{_≡_};
 ghost use mathlib.Core.Bool.{cond};
+ghost use mathlib.Core.List.{List, _++_};
 ghost use Prim.Native.Nat.{_+_, _-_, _*_, _≤_, _<_};
 ghost use lib.IntN.{pos};
-ghost use lib.ListN.{length};
-ghost use lib.Ieee.{lt, ofInt, binary32};
+ghost use lib.ListN.{length, take, drop};
+ghost use lib.Ieee.{Float, lt, ofInt, binary32};
 ghost use Rattle.peaks.specs.Peak.{zeroFloat, border, isPeak};
-ghost use Rattle.peaks.specs.Call.{peaksOf};
-ghost use Rattle.peaks.specs.Steps.{scanOf, Sound, Bordered, Within, Ahead, Low, FirstIn, InRow, Next, Tallied, recorded, filled};
+ghost use Rattle.peaks.specs.Call.{peaksOf, recordsOf};
+ghost use Rattle.peaks.specs.Steps.{scanOf, Sound, Bordered, Within, Ahead, Low, FirstIn, InRow, Next, Stands, Listed, Noteworthy, Tallied, recorded, Written, filled, Recorded};
 
 // max(threshold, 0).
 fn floor_of(threshold: f32) -> f32
@@ -151,14 +153,53 @@ fn next_peak(response: &[f32], rule: Rule, from: usize) -> usize
     response.len()
 }
 
-// How many peaks there are, counted until they are more than the room for them.
-pub fn tally(response: &[f32], rule: Rule, room: usize) -> usize
+// Writes the records of all peaks and answers how many there are. Where there is no room for them it writes nothing, and answers more than there is
+// room for. The first peaks are noted, so that they are sought once; those past the notes are sought again.
+pub fn record_all(response: &[f32], rule: Rule, out: &mut [f32]) -> usize
     requires { ⌜ Sound (scanOf (now response) rule) ⌝ }
-    ensures { λ r. ⌜ Tallied (scanOf (now (response .entry)) rule) room r ⌝ }
+    ensures { λ r. ⌜ Recorded (scanOf (now (response .entry)) rule) (now (out .entry)) r (now (out .exit)) ⌝ }
+{
+    let room = out.len() / 3;
+    let mut notes = [0u32; 4096];
+    let noted = note(response, rule, &mut notes);
+    let n = noted.count;
+    let at = noted.at;
+    let count = tally(response, rule, room, n, at);
+    if room < count {
+        return count;
+    }
+    write_noted(response, rule, &notes, n, out);
+    write(response, rule, n, at, out);
+    count
+}
+
+// Notes the places of the first peaks, as many as there are notes.
+fn note(response: &[f32], rule: Rule, notes: &mut [u32; 4096]) -> Noted
+    requires { ⌜ Sound (scanOf (now response) rule) ⌝ ∗ ⌜ length (now notes) ≡ 4096 ⌝ }
+    ensures { λ r. ⌜ Listed (scanOf (now (response .entry)) rule) (now (notes .exit)) (r .count) (r .at) ⌝ }
 {
     let size = response.len();
     let mut count = 0;
     let mut at = next_peak(response, rule, 0);
+    while at < size {
+        if count == 4096 {
+            return Noted { count, at };
+        }
+        notes[count] = at as u32;
+        count += 1;
+        at = next_peak(response, rule, at + 1);
+    }
+    Noted { count, at }
+}
+
+// How many peaks there are: n before the place `from`, and then on until they are more than the room for them.
+fn tally(response: &[f32], rule: Rule, room: usize, n: usize, from: usize) -> usize
+    requires { ⌜ Sound (scanOf (now response) rule) ⌝ ∗ ⌜ Stands (scanOf (now response) rule) n from ⌝ }
+    ensures { λ r. ⌜ Tallied (scanOf (now (response .entry)) rule) room r ⌝ }
+{
+    let size = response.len();
+    let mut count = n;
+    let mut at = from;
     while at < size {
         count += 1;
         if room < count {
@@ -179,15 +220,28 @@ fn put(out: &mut [f32], n: usize, x: usize, y: usize, v: f32)
     out[3 * n + 2] = v;
 }
 
-// Writes the records of all peaks, for which there is room.
-pub fn write(response: &[f32], rule: Rule, out: &mut [f32])
-    requires { ⌜ Sound (scanOf (now response) rule) ⌝ ∗ ⌜ 3 * length (peaksOf (scanOf (now response) rule)) ≤ length (now out) ⌝ }
-    ensures { λ _. ⌜ now (out .exit) ≡ filled (scanOf (now (response .entry)) rule) (now (out .entry)) ⌝ }
+// Writes the records of the first n places noted.
+fn write_noted(response: &[f32], rule: Rule, notes: &[u32; 4096], n: usize, out: &mut [f32])
+    requires { ⌜ Sound (scanOf (now response) rule) ⌝ ∗ ⌜ Noteworthy (scanOf (now response) rule) (now notes) n ⌝ ∗ ⌜ 3 * n ≤ length (now out) ⌝ }
+    ensures { λ _. ⌜ now (out .exit) ≡ recordsOf (scanOf (now (response .entry)) rule) (take n (now (notes .entry))) ++ drop (3 * n) (now (out .entry)) ⌝ }
+{
+    let mut i = 0;
+    while i < n {
+        let k = notes[i] as usize;
+        put(out, i, k % rule.width, k / rule.width, response[k]);
+        i += 1;
+    }
+}
+
+// Writes the records of the peaks from the place `from` on, after those of the first n; there is room for all.
+fn write(response: &[f32], rule: Rule, first: usize, from: usize, out: &mut [f32])
+    requires { ⌜ Sound (scanOf (now response) rule) ⌝ ∗ ⌜ Stands (scanOf (now response) rule) first from ⌝ ∗ ⌜ 3 * length (peaksOf (scanOf (now response) rule)) ≤ length (now out) ⌝ }
+    ensures { λ _. ⌜ ((o : List Float) → length o ≡ length (now (out .entry)) → Written (scanOf (now (response .entry)) rule) o first from (now (out .entry)) → now (out .exit) ≡ filled (scanOf (now (response .entry)) rule) o) ⌝ }
 {
     let size = response.len();
     let width = rule.width;
-    let mut n = 0;
-    let mut at = next_peak(response, rule, 0);
+    let mut n = first;
+    let mut at = from;
     while at < size {
         put(out, n, at % width, at / width, response[at]);
         n += 1;

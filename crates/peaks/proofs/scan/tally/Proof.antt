@@ -1,57 +1,57 @@
 -- `peaks::scan::tally` meets its contract: `count` peaks lie before the place `at`, which is one too, or the end.
-use Prim.Native.Nat.{zero-le, _+_, _-_, _≤_}
+use mathlib.Core.Path.{subst}
+use Prim.Native.Nat.{ℕ, _+_, _-_, _≤_, _<_}
 use native.Mathlib.Omega.{arith}
 use lib.ListN.{length}
-use Rattle.peaks.specs.Steps.{scanOf}
-use Rattle.peaks.proofs.ChosenLaws.{At, at-first, at-next, before-most, one-left, none-left}
+use Rattle.peaks.specs.Steps.{scanOf, Stands}
+use Rattle.peaks.proofs.ChosenLaws.{at-next, before-most, one-left, none-left}
 use Rattle.peaks.proofs.scan.tally.Statement.{statement}
 use Rattle.peaks.proofs.scan.tally.Tie as tie
 
 abbrev Inv-loop : tie.InvT-loop
-Inv-loop response rule room size count₀ at₀ count at = (count ≤ room) × At (scanOf response rule) count at
+Inv-loop response rule room n from size count₀ at₀ count at = Stands (scanOf response rule) count at
 
 abbrev μ-loop : tie.MeasureT-loop
-μ-loop response rule room size count₀ at₀ count at = length response - at
-
-next-peak-requires : tie.Need-next-peak-requires Inv-loop μ-loop
-next-peak-requires c κs = (c .before .pre, zero-le)
+μ-loop response rule room n from size count₀ at₀ count at = length response - at
 
 loop-holds : tie.Need-loop-holds Inv-loop μ-loop
-loop-holds c = let a = c .before .before .args in (zero-le, at-first (scanOf (a .response .now) (a .rule)) (c .next-peak .ensures))
+loop-holds c = c .before .pre .1
 
 add-count : tie.Need-add-count Inv-loop μ-loop
 add-count c =
+    let a = c .before .before .before .args in
     let l = c .before .loop in
-    let a = c .before .before .before .before .args in
-    omega (arith, before-most (scanOf (a .response .now) (a .rule)) (l .count) (l .at) (l .inv .1))
+    omega (arith, before-most (scanOf (a .response .now) (a .rule)) (l .count) (l .at) (l .inv))
 
 returns : tie.Need-returns Inv-loop μ-loop
 returns c =
-    let a = c .before .before .before .before .before .args in
+    let a = c .before .before .before .before .args in
     let l = c .before .before .loop in
-    let m = one-left (scanOf (a .response .now) (a .rule)) (l .count) (l .at) (c .before .before .before .before .before .pre) (l .inv .1) (c .before .loop-test .taken) in
+    let m = one-left (scanOf (a .response .now) (a .rule)) (l .count) (l .at) (c .before .before .before .before .pre .0) (l .inv) (c .before .loop-test .taken) in
+    let t = c .if1 .taken in
     record { few = λ h. absurd (let z : ⊥ = omega arith in z); many = λ h. omega arith }
 
 add-next-peak : tie.Need-add-next-peak Inv-loop μ-loop
 add-next-peak c = omega arith
 
-next-peak-requires-2 : tie.Need-next-peak-requires-2 Inv-loop μ-loop
-next-peak-requires-2 c κs = (c .before .before .before .before .before .pre, omega arith)
+next-peak-requires : tie.Need-next-peak-requires Inv-loop μ-loop
+next-peak-requires c κs = (c .before .before .before .before .pre .0, omega arith)
 
 loop-less : tie.Need-loop-less Inv-loop μ-loop
-loop-less c = let m = c .next-peak2 .ensures .low in omega arith
+loop-less c = let m = c .next-peak .ensures .low in omega arith
 
 loop-again : tie.Need-loop-again Inv-loop μ-loop
 loop-again c =
-    let a = c .before .before .before .before .before .before .args in
+    let a = c .before .before .before .before .before .args in
     let l = c .before .before .before .loop in
-    (c .before .if1 .left, at-next (scanOf (a .response .now) (a .rule)) (l .count) (l .at) (l .inv .1) (c .before .before .loop-test .taken) (c .next-peak2 .ensures))
+    at-next (scanOf (a .response .now) (a .rule)) (l .count) (l .at) (l .inv) (c .before .before .loop-test .taken) (c .next-peak .ensures)
 
 returns-2 : tie.Need-returns-2 Inv-loop μ-loop
 returns-2 c =
-    let a = c .before .before .before .before .args in
+    let a = c .before .before .before .args in
     let l = c .before .loop in
-    record { few = λ h. none-left (scanOf (a .response .now) (a .rule)) (l .count) (l .at) (c .before .before .before .before .pre) (l .inv .1) (c .loop-test .left); many = λ h. absurd (let z : ⊥ = omega arith in z) }
+    let e = none-left (scanOf (a .response .now) (a .rule)) (l .count) (l .at) (c .before .before .before .pre .0) (l .inv) (c .loop-test .left) in
+    record { few = λ h. e; many = λ h. subst (λ (n : ℕ). a .room < n) e h }
 
 pub tally-spec : {M : Type 1} → statement M
 tally-spec =
@@ -59,12 +59,11 @@ tally-spec =
     (tie.spec
     Inv-loop
     μ-loop
-    next-peak-requires
     loop-holds
     add-count
     returns
     add-next-peak
-    next-peak-requires-2
+    next-peak-requires
     loop-less
     loop-again
     returns-2)
