@@ -1,5 +1,4 @@
--- Laws and theorems over the definitions of merging, and its closed cases.
-pub mod Cases
+-- Laws over the definitions of merging.
 pub mod FlatLaws
 pub mod FoldLaws
 pub mod LeastLaws
@@ -9,6 +8,3 @@ pub mod StepLaws
 pub mod GridLaws
 pub mod NoteLaws
 pub mod CallLaws
-pub mod GrowLaws
-pub mod Theorems
-pub mod Clinics

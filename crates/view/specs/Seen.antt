@@ -1,4 +1,4 @@
--- The image that a view shows: the bytes that it borrows as they are now, with its width and height. Every contract of the crate reads a view through this.
+-- The image that a view shows: the bytes that it borrows as they are now, with its width and height. The contracts that speak of an image read a view through this.
 use denote.Ref.{now}
 use Rattle.imageview.specs.Image.{Image, imageOf}
 use Rattle.view.specs.declared.ImageView.{ImageView}

@@ -8,13 +8,13 @@ use Prim.Native.Nat.{ℕ, _*_, _/_, _%_, _<_}
 use lib.Dec.{eqb, ltb}
 use lib.ListN.{length}
 use lib.Ieee.{Float, binary32, mul, lt}
 use Rattle.merge.specs.declared.Merge.the-variants.{Merged}
 use Rattle.merge.specs.Corners.{Corner, cornersOf}
 use Rattle.merge.specs.Meets.{boxOf, finiteBox, gridOf, cellsAcross, cellsDown, plainMeets, gridMeets}
 use Rattle.merge.specs.Fold.{merged}
 use Rattle.merge.specs.Call.{Way, badLength, tooMany, badScratch, gridTooBig, unmerged, scanned, gridded, idle, mergingWay, wayOf, answerOf, filled, listAfter}
 use Rattle.merge.specs.Claims.{at, placeAt, Separated, Local, Ordered}
-use Rattle.merge.proofs.Theorems.{separated-stay, merging-is-local, nothing-invented, order-kept, strong-held}
+use Rattle.clinics.proofs.Theorems.{separated-stay, merging-is-local, nothing-invented, order-kept, strong-held}
 
 -- ---- the words of the promises
 -- the rules by which the corners of a call meet

@@ -11,11 +11,11 @@ use native.Mathlib.Omega.{arith}
 use lib.ListN.{length}
 use lib.Ieee.{Float, lt}
 use Rattle.floats.proofs.OrderLaws.{lt-irrefl}
 use Rattle.merge.specs.Corners.{Corner}
 use Rattle.merge.specs.Meets.{Grid, near, neighbours, plainMeets, gridMeets}
 use Rattle.merge.specs.Fold.{stronger, place, merged}
 use Rattle.merge.specs.Claims.{at, placeAt, Joined, here, next, Stays, Local, Kept, Uninvented, Earlier, Ordered, Held, StrongHeld, Alike}
-use Rattle.merge.proofs.GrowLaws.{snoc, grow, at-old, at-new, length-snoc, Which, old, new, which, How, met, behind, Stands, own, still, place-behind, place-alike, merged-snoc, merged-step, place-old, either, not-below-new, not-below-old}
+use Rattle.clinics.proofs.GrowLaws.{snoc, grow, at-old, at-new, length-snoc, Which, old, new, which, How, met, behind, Stands, own, still, place-behind, place-alike, merged-snoc, merged-step, place-old, either, not-below-new, not-below-old}
 
 -- ---- numbers of a list that grows by one
 within-old : (l : List Corner) (c : Corner) (i : ℕ) → i < length l → i < length (snoc l c)

@@ -1,0 +1,1 @@
+// No code: the theorems of merging stand here, over the definitions of `merge`.
