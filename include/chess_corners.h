@@ -86,7 +86,7 @@ uint32_t chess_corners_refine(const uint8_t *img, size_t img_len, size_t width, 
 
 /* The same with an operator that was built before, so that many seeds share it. With the operator of the same
  * radius, built with 0, the answer is that of chess_corners_refine; with other contents it is the answer for
- * those. */
+ * those. At radius 0 there is no operator, whatever is lent: 3, with the score 0.0. */
 uint32_t chess_corners_refine_with(const uint8_t *img, size_t img_len, size_t width, size_t height,
                                    size_t radius, float det_margin, float max_offset, float min_abs_det,
                                    float x, float y, uint32_t wanted,
