@@ -4,3 +4,4 @@ pub mod SumLaws
 pub mod RoundLaws
 pub mod ValueLaws
 pub mod DemandLaws
+pub mod Inversion
