@@ -3,7 +3,7 @@ use mathlib.Core.Path.{_≡_, refl, sym, ap, _∙_, subst}
 use mathlib.Core.Logic.{_⊎_, ⊎-elim, inl, inr}
 use mathlib.Core.List.{List, [], _∷_}
 use Prim.Native.Nat.{ℕ, zero, suc, _+_, _-_, _*_, _/_, _%_, _≤_, _<_}
-use native.Mathlib.Nat.{eq-or-lt-of-le, le-of-suc-le-suc}
+use native.Mathlib.Nat.{eq-or-lt-of-le, le-of-suc-le-suc, add-zero}
 use native.Mathlib.Omega.{arith}
 use mathlib.Core.Bool.{Bool, true, false, _&&_, cond}
 use lib.Dec.{leb, ltb, eqb}
@@ -25,7 +25,7 @@ use Rattle.saddle_fit.specs.Numbers.{at}
 use Rattle.saddle_fit.specs.Adding.{Sound, Within, Room}
 use Rattle.saddle_fit.proofs.Choice.{and-both, and-first, and-second}
 use Rattle.saddle_fit.specs.Fit.{Fit, noFit, fitted, fitAt, coefficients}
-use Rattle.saddle_fit.specs.Cache.{fitIn, fiveOf, centreX, centreY, Sized, Kept, Slot, Counted, Stored, Found, fitsOf, Surrounds}
+use Rattle.saddle_fit.specs.Cache.{fitIn, centreX, centreY, named, filled, Sized, Kept, Slot, Counted, Found, fitsOf, Surrounds}
 
 -- ---- the count
 pub count-again : (len : ℕ) → len ≡ 17 → Counted len 9
@@ -56,7 +56,7 @@ five {a} {b} {c} {d} {e} {a'} {b'} {c'} {d'} {e'} p q r s t =
 abbrev fiveAt : List Float → ℕ → List Float
 fiveAt l p = at l p ∷ at l (p + 1) ∷ at l (p + 2) ∷ at l (p + 3) ∷ at l (p + 4) ∷ []
 
-abbrev pub put : List Float → ℕ → Float → Float → Float → Float → Float → List Float
+abbrev put : List Float → ℕ → Float → Float → Float → Float → Float → List Float
 put l p a b c d e = set (set (set (set (set l p a) (p + 1) b) (p + 2) c) (p + 3) d) (p + 4) e
 
 put-else : (l : List Float) (s m : ℕ) (a b c d e : Float) → (m / 5 ≡ s → ⊥) → at (put l (5 * s) a b c d e) m ≡ at l m
@@ -98,7 +98,7 @@ fit-else l s slot a b c d e h =
     (put-else l s (5 * slot + 4) a b c d e (λ (q : (5 * slot + 4) / 5 ≡ s). h (omega arith)))
 
 -- ---- two stores of a centre
-abbrev pub pair : List ℕ → ℕ → ℕ → ℕ → List ℕ
+abbrev pair : List ℕ → ℕ → ℕ → ℕ → List ℕ
 pair l p x y = set (set l p x) (p + 1) y
 
 pair-else : (l : List ℕ) (s m x y : ℕ) → (m / 2 ≡ s → ⊥) → getD (pair l (2 * s) x y) m 0 ≡ getD l m 0
@@ -113,8 +113,28 @@ pair-y : (l : List ℕ) (p x y : ℕ) → p + 1 < length l → getD (pair l p x 
 pair-y l p x y h = getD-set-same (set l p x) (p + 1) y 0 (subst (λ (n : ℕ). p + 1 < n) (sym (length-set l p x)) h)
 
 -- ---- storing a fit
-pub stored : (fits : IntegerFits) (x y len : ℕ) (coefs : List Float) → Sized fits → Counted (fits .len) len → Stored fits x y coefs (record { centres = pair (fits .centres) (2 * (fits .len % 9)) x y; coefs = put (fits .coefs) (5 * (fits .len % 9)) (at coefs 0) (at coefs 1) (at coefs 2) (at coefs 3) (at coefs 4); len = len; corners = fits .corners; «base_x» = fits .«base_x»; «base_y» = fits .«base_y» })
-stored fits x y len coefs z n =
+abbrev fiveOf : List Float → List Float
+fiveOf l = at l 0 ∷ at l 1 ∷ at l 2 ∷ at l 3 ∷ at l 4 ∷ []
+
+pub record Stored (fits : IntegerFits) (x y : ℕ) (coefs : List Float) (r : IntegerFits) : Type 0 where
+  pub sized : Sized r
+  pub used : (slot : ℕ) → slot < 9 → slot < r .len → (slot < fits .len) ⊎ (slot ≡ fits .len % 9)
+  pub fit : fitIn (r .coefs) (fits .len % 9) ≡ fiveOf coefs
+  pub at-x : centreX (r .centres) (fits .len % 9) ≡ x
+  pub at-y : centreY (r .centres) (fits .len % 9) ≡ y
+  pub fit-else : (slot : ℕ) → (slot ≡ fits .len % 9 → ⊥) → fitIn (r .coefs) slot ≡ fitIn (fits .coefs) slot
+  pub x-else : (slot : ℕ) → (slot ≡ fits .len % 9 → ⊥) → centreX (r .centres) slot ≡ centreX (fits .centres) slot
+  pub y-else : (slot : ℕ) → (slot ≡ fits .len % 9 → ⊥) → centreY (r .centres) slot ≡ centreY (fits .centres) slot
+  pub corners : r .corners ≡ fits .corners
+  pub base-x : r .«base_x» ≡ fits .«base_x»
+  pub base-y : r .«base_y» ≡ fits .«base_y»
+
+-- the cache with other arrays and another count
+abbrev holding : IntegerFits → List ℕ → List Float → ℕ → IntegerFits
+holding fits centres coefs len = record { centres = centres; coefs = coefs; len = len; corners = fits .corners; «base_x» = fits .«base_x»; «base_y» = fits .«base_y» }
+
+put-in : (fits : IntegerFits) (x y len : ℕ) (coefs : List Float) → Sized fits → Counted (fits .len) len → Stored fits x y coefs (holding fits (named (fits .centres) (fits .len % 9) x y) (filled (fits .coefs) (fits .len % 9) coefs) len)
+put-in fits x y len coefs z n =
     let s = fits .len % 9 in
     let l = fits .coefs in
     let c = fits .centres in
@@ -154,14 +174,19 @@ stored fits x y len coefs z n =
     half-2 : (slot s : ℕ) → (2 * slot + 1) / 2 ≡ s → slot ≡ s
     half-2 slot s q = omega arith
 
+pub stored : (fits : IntegerFits) (x y len : ℕ) (coefs : List Float) (centres' : List ℕ) (coefs' : List Float) → Sized fits → Counted (fits .len) len → centres' ≡ named (fits .centres) (fits .len % 9) x y → coefs' ≡ filled (fits .coefs) (fits .len % 9) coefs → Stored fits x y coefs (holding fits centres' coefs' len)
+stored fits x y len coefs centres' coefs' z n p q =
+    subst (λ (v : List ℕ). Stored fits x y coefs (holding fits v coefs' len)) (sym p)
+    (subst (λ (w : List Float). Stored fits x y coefs (holding fits (named (fits .centres) (fits .len % 9) x y) w len)) (sym q) (put-in fits x y len coefs z n))
+
 -- ---- a look-up
-pub no-slot : (fits : IntegerFits) (x y : ℕ) → Slot fits x y 9
-no-slot fits x y = record { used = λ h. absurd (no h); at-x = λ h. absurd (no h); at-y = λ h. absurd (no h) }
+pub no-slot : (centres : List ℕ) (len x y : ℕ) → Slot centres len x y 9
+no-slot centres len x y = record { used = λ h. absurd (no h); at-x = λ h. absurd (no h); at-y = λ h. absurd (no h) }
   where
     no : 9 < 9 → ⊥
     no h = omega arith
 
-pub hit : (img : Image) (columns : List Float) (radius x y slot : ℕ) (fits : IntegerFits) → Kept img columns radius fits → Slot fits x y slot → slot < 9 → fitIn (fits .coefs) slot ≡ coefficients img columns radius x y
+pub hit : (img : Image) (columns : List Float) (radius x y slot : ℕ) (fits : IntegerFits) → Kept img columns radius fits → Slot (fits .centres) (fits .len) x y slot → slot < 9 → fitIn (fits .coefs) slot ≡ coefficients img columns radius x y
 hit img columns radius x y slot fits k h l =
     k .fresh slot l (h .used l)
     ∙ ap (λ (u : ℕ). coefficients img columns radius u (centreY (fits .centres) slot)) (h .at-x l)
@@ -250,6 +275,9 @@ room01 w = record { sound = w .sound; left = w .left; right = omega (arith, w .r
 pub room11 : {img : Image} {radius x y : ℕ} → Room img radius x y → Within img radius (x + 1) (y + 1)
 room11 w = record { sound = w .sound; left = omega (arith, w .left); right = w .right; above = omega (arith, w .above); below = w .below }
 
+pub room-at : {img : Image} {radius x y : ℕ} (k : ℕ) → Room img radius x y → k < 4 → Within img radius (x + k % 2) (y + k / 2)
+room-at k w h = record { sound = w .sound; left = omega (arith, w .left); right = omega (arith, w .right); above = omega (arith, w .above); below = omega (arith, w .below) }
+
 -- the four, by one of them
 module _ (img : Image) (columns : List Float) (radius x y : ℕ) where
   pub lacks-left : x < radius → cornersAt img columns radius (pos x) (pos y) ≡ lacking
@@ -286,6 +314,45 @@ module _ (img : Image) (columns : List Float) (radius x y : ℕ) where
       ∙ ap (λ (l : List Float). four (record { c00 = c00; c10 = c10; c01 = l; c11 = coefficients img columns radius (x + 1) (y + 1) })) (sym c)
       ∙ ap (λ (l : List Float). four (record { c00 = c00; c10 = c10; c01 = c01; c11 = l })) (sym d) in
       record { is = e; kept = record { sized = record { centres = k .sized .centres; coefs = k .sized .coefs; count = k .sized .count }; fresh = k .fresh; about = λ _. e } }
+
+  -- where the four look-ups stand after k of them: the last is c11, the one before it c01, and so on
+  abbrev about : ℕ → List Float
+  about j = coefficients img columns radius (x + j % 2) (y + j / 2)
+
+  pub record Looking (fits : IntegerFits) (c00 c10 c01 c11 : List Float) (k : ℕ) : Type 0 where
+    pub most : k ≤ 4
+    pub kept : Kept img columns radius fits
+    pub first : (j : ℕ) → k ≡ j + 4 → c00 ≡ about j
+    pub second : (j : ℕ) → k ≡ j + 3 → c10 ≡ about j
+    pub third : (j : ℕ) → k ≡ j + 2 → c01 ≡ about j
+    pub fourth : (j : ℕ) → k ≡ j + 1 → c11 ≡ about j
+
+  pub look-first : (fits : IntegerFits) (c00 c10 c01 c11 : List Float) → Kept img columns radius fits → Looking fits c00 c10 c01 c11 0
+  look-first fits c00 c10 c01 c11 k =
+      record { most = omega arith; kept = k; first = λ j h. absurd (none j 3 h); second = λ j h. absurd (none j 2 h); third = λ j h. absurd (none j 1 h); fourth = λ j h. absurd (none j 0 h) }
+    where
+      none : (j n : ℕ) → 0 ≡ j + (n + 1) → ⊥
+      none j n h = omega arith
+
+  pub look-next : (fits : IntegerFits) (c00 c10 c01 c11 : List Float) (k : ℕ) (c : List Float) (next : IntegerFits) → Looking fits c00 c10 c01 c11 k → k < 4 → c ≡ about k → Kept img columns radius next → Looking next c10 c01 c11 c (k + 1)
+  look-next fits c00 c10 c01 c11 k c next l h e n =
+      record {
+        most = omega arith;
+        kept = n;
+        first = λ j q. l .second j (let r : k ≡ j + 3 = omega arith in r);
+        second = λ j q. l .third j (let r : k ≡ j + 2 = omega arith in r);
+        third = λ j q. l .fourth j (let r : k ≡ j + 1 = omega arith in r);
+        fourth = λ j q. e ∙ ap about (let r : k ≡ j = omega arith in r);
+      }
+
+  pub look-last : (fits : IntegerFits) (c00 c10 c01 c11 : List Float) (k : ℕ) → Room img radius x y → Looking fits c00 c10 c01 c11 k → 4 ≤ k → Surrounds img columns radius x y (record { found = true; fits = record { centres = fits .centres; coefs = fits .coefs; len = fits .len; corners = record { c00 = c00; c10 = c10; c01 = c01; c11 = c11 }; «base_x» = x; «base_y» = y } })
+  look-last fits c00 c10 c01 c11 k w l h =
+      looked c00 c10 c01 c11 fits w
+      (l .first 0 (let r : k ≡ 0 + 4 = omega (arith, l .most) in r) ∙ ap (λ (u : ℕ). coefficients img columns radius u (y + 0)) (add-zero x) ∙ ap (λ (v : ℕ). coefficients img columns radius x v) (add-zero y))
+      (l .second 1 (let r : k ≡ 1 + 3 = omega (arith, l .most) in r) ∙ ap (λ (v : ℕ). coefficients img columns radius (x + 1) v) (add-zero y))
+      (l .third 2 (let r : k ≡ 2 + 2 = omega (arith, l .most) in r) ∙ ap (λ (u : ℕ). coefficients img columns radius u (y + 1)) (add-zero x))
+      (l .fourth 3 (let r : k ≡ 3 + 1 = omega (arith, l .most) in r))
+      (l .kept)
 
   -- the last corners
   pub again : (fits : IntegerFits) → Kept img columns radius fits → fits .«base_x» ≡ x → fits .«base_y» ≡ y → x < 8192 → Surrounds img columns radius x y (record { found = true; fits = fits })

@@ -5,7 +5,7 @@ use mathlib.Core.Bool.{Bool, true, false}
 use mathlib.Core.List.{List, [], _∷_}
 use Prim.Native.Nat.{ℕ, _+_, _*_, _%_, _≤_, _<_}
 use lib.IntN.{pos}
-use lib.ListN.{length, getD}
+use lib.ListN.{length, getD, set}
 use lib.Ieee.{Float}
 use Rattle.imageview.specs.Image.{Image}
 use Rattle.saddle_fit.specs.declared.Corners.{Corners}
@@ -42,32 +42,22 @@ pub record Fresh (fits : IntegerFits) : Type 0 where
   pub kept : (img : Image) (columns : List Float) (radius : ℕ) → Kept img columns radius fits
 
 -- a slot in use whose centre is (x, y), or none
-pub record Slot (fits : IntegerFits) (x y slot : ℕ) : Type 0 where
-  pub used : slot < 9 → slot < fits .len
-  pub at-x : slot < 9 → centreX (fits .centres) slot ≡ x
-  pub at-y : slot < 9 → centreY (fits .centres) slot ≡ y
+pub record Slot (centres : List ℕ) (len x y slot : ℕ) : Type 0 where
+  pub used : slot < 9 → slot < len
+  pub at-x : slot < 9 → centreX centres slot ≡ x
+  pub at-y : slot < 9 → centreY centres slot ≡ y
 
 -- ---- storing
-abbrev pub fiveOf : List Float → List Float
-fiveOf l = at l 0 ∷ at l 1 ∷ at l 2 ∷ at l 3 ∷ at l 4 ∷ []
+abbrev pub named : List ℕ → ℕ → ℕ → ℕ → List ℕ
+named centres slot x y = set (set centres (2 * slot) x) (2 * slot + 1) y
+
+abbrev pub filled : List Float → ℕ → List Float → List Float
+filled coefs slot fit = set (set (set (set (set coefs (5 * slot) (at fit 0)) (5 * slot + 1) (at fit 1)) (5 * slot + 2) (at fit 2)) (5 * slot + 3) (at fit 3)) (5 * slot + 4) (at fit 4)
 
 -- one fit more: each slot in use then was in use before, or is the one that is written
 pub record Counted (len r : ℕ) : Type 0 where
   pub small : r < 18
   pub used : (slot : ℕ) → slot < 9 → slot < r → (slot < len) ⊎ (slot ≡ len % 9)
-
-pub record Stored (fits : IntegerFits) (x y : ℕ) (coefs : List Float) (r : IntegerFits) : Type 0 where
-  pub sized : Sized r
-  pub used : (slot : ℕ) → slot < 9 → slot < r .len → (slot < fits .len) ⊎ (slot ≡ fits .len % 9)
-  pub fit : fitIn (r .coefs) (fits .len % 9) ≡ fiveOf coefs
-  pub at-x : centreX (r .centres) (fits .len % 9) ≡ x
-  pub at-y : centreY (r .centres) (fits .len % 9) ≡ y
-  pub fit-else : (slot : ℕ) → (slot ≡ fits .len % 9 → ⊥) → fitIn (r .coefs) slot ≡ fitIn (fits .coefs) slot
-  pub x-else : (slot : ℕ) → (slot ≡ fits .len % 9 → ⊥) → centreX (r .centres) slot ≡ centreX (fits .centres) slot
-  pub y-else : (slot : ℕ) → (slot ≡ fits .len % 9 → ⊥) → centreY (r .centres) slot ≡ centreY (fits .centres) slot
-  pub corners : r .corners ≡ fits .corners
-  pub base-x : r .«base_x» ≡ fits .«base_x»
-  pub base-y : r .«base_y» ≡ fits .«base_y»
 
 -- ---- a look-up
 pub record Found (img : Image) (columns : List Float) (radius x y : ℕ) (r : Looked) : Type 0 where

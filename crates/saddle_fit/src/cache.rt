@@ -9,12 +9,12 @@ ghost use mathlib.Core.Bool.{true};
 ghost use Prim.Native.Nat.{_+_, _*_, _<_, _≤_};
 ghost use Rattle.imageview.specs.Image.{imageOf};
 ghost use Rattle.saddle_fit.specs.Adding.{Sound, Within, Room};
-ghost use Rattle.saddle_fit.specs.Cache.{Sized, Kept, Slot, fitIn, Counted, Stored, Found, Surrounds};
+ghost use Rattle.saddle_fit.specs.Cache.{Kept, Slot, fitIn, named, filled, Counted, Found, Surrounds};
 
 impl IntegerFits {
     // The coefficients of the fit about (x, y), kept or worked out.
     pub fn at(
-        self,
+        mut self,
         img: &[u8],
         width: usize,
         height: usize,
@@ -26,18 +26,22 @@ impl IntegerFits {
         requires { ⌜ Within (imageOf (now img) width height) radius x y ⌝ ∗ ⌜ Kept (imageOf (now img) width height) (now columns) radius self ⌝ }
         ensures { λ r. ⌜ Found (imageOf (now (img .entry)) width height) (now (columns .entry)) radius x y r ⌝ }
     {
-        let slot = self.slot_of(x, y);
+        let centre_x = x as u16;
+        let centre_y = y as u16;
+        let len = self.len;
+        let slot = slot_of(&self.centres, len, centre_x, centre_y);
         if slot < 9 {
             return Looked {
-                coefs: self.fit_in(slot),
+                coefs: fit_in(&self.coefs, slot),
                 fits: self,
             };
         }
         let coefs = fits::fit_patch(img, width, height, x, y, radius, columns);
-        Looked {
-            coefs,
-            fits: self.store(x, y, coefs),
-        }
+        let oldest = len % 9;
+        name_slot(&mut self.centres, oldest, centre_x, centre_y);
+        fill_slot(&mut self.coefs, oldest, coefs);
+        self.len = one_more(len);
+        Looked { coefs, fits: self }
     }
 
     // The four fits about the base (x, y), where all four patches lie in the image: the last ones, or looked up.
@@ -106,79 +110,84 @@ impl IntegerFits {
         requires { ⌜ Room (imageOf (now img) width height) radius x y ⌝ ∗ ⌜ Kept (imageOf (now img) width height) (now columns) radius self ⌝ }
         ensures { λ r. ⌜ Surrounds (imageOf (now (img .entry)) width height) (now (columns .entry)) radius x y (record { found = true; fits = r }) ⌝ }
     {
-        let a = self.at(img, width, height, x, y, radius, columns);
-        let with_a = a.fits;
-        let b = with_a.at(img, width, height, x + 1, y, radius, columns);
-        let with_b = b.fits;
-        let c = with_b.at(img, width, height, x, y + 1, radius, columns);
-        let with_c = c.fits;
-        let d = with_c.at(img, width, height, x + 1, y + 1, radius, columns);
-        let c00 = a.coefs;
-        let c10 = b.coefs;
-        let c01 = c.coefs;
-        let c11 = d.coefs;
+        let mut fits = self;
+        let mut c00 = [0.0f32; 5];
+        let mut c10 = [0.0f32; 5];
+        let mut c01 = [0.0f32; 5];
+        let mut c11 = [0.0f32; 5];
+        let mut k: usize = 0;
+        while k < 4 {
+            let found = fits.at(img, width, height, x + k % 2, y + k / 2, radius, columns);
+            fits = found.fits;
+            // each fit comes in at the end and moves up, so that the first of four is c00
+            c00 = c10;
+            c10 = c01;
+            c01 = c11;
+            c11 = found.coefs;
+            k += 1;
+        }
         let corners = Corners { c00, c10, c01, c11 };
-        let mut fits = d.fits;
         fits.corners = corners;
         fits.base_x = x;
         fits.base_y = y;
         fits
     }
+}
 
-    // The slot of the fit about (x, y), or 9 where it is not kept.
-    fn slot_of(self, x: usize, y: usize) -> usize
-        ensures { λ r. ⌜ Slot self x y r ⌝ }
-    {
-        let len = self.len;
-        let mut i: usize = 0;
-        while i < 9 {
-            if len <= i {
-                return 9;
-            }
-            if self.centres[2 * i] == x {
-                if self.centres[2 * i + 1] == y {
-                    return i;
-                }
-            }
-            i += 1;
+// The slot of the fit about (x, y), or 9 where it is not kept.
+fn slot_of(centres: &[u16; 18], len: usize, x: u16, y: u16) -> usize
+    ensures { λ r. ⌜ Slot (now (centres .entry)) len x y r ⌝ }
+{
+    let mut i: usize = 0;
+    while i < 9 {
+        if len <= i {
+            return 9;
         }
-        9
+        if centres[2 * i] == x {
+            if centres[2 * i + 1] == y {
+                return i;
+            }
+        }
+        i += 1;
     }
+    9
+}
 
-    // The fit in a slot.
-    fn fit_in(self, slot: usize) -> [f32; 5]
-        requires { ⌜ slot < 9 ⌝ }
-        ensures { λ r. ⌜ r ≡ fitIn (self .coefs) slot ⌝ }
-    {
-        let i = 5 * slot;
-        [
-            self.coefs[i],
-            self.coefs[i + 1],
-            self.coefs[i + 2],
-            self.coefs[i + 3],
-            self.coefs[i + 4],
-        ]
-    }
+// The fit in a slot.
+fn fit_in(coefs: &[f32; 45], slot: usize) -> [f32; 5]
+    requires { ⌜ slot < 9 ⌝ }
+    ensures { λ r. ⌜ r ≡ fitIn (now (coefs .entry)) slot ⌝ }
+{
+    let i = 5 * slot;
+    [
+        coefs[i],
+        coefs[i + 1],
+        coefs[i + 2],
+        coefs[i + 3],
+        coefs[i + 4],
+    ]
+}
 
-    // With a fit in the place of the oldest.
-    fn store(self, x: usize, y: usize, coefs: [f32; 5]) -> IntegerFits
-        requires { ⌜ Sized self ⌝ }
-        ensures { λ r. ⌜ Stored self x y coefs r ⌝ }
-    {
-        let mut next = self;
-        let len = self.len;
-        let slot = len % 9;
-        next.centres[2 * slot] = x;
-        next.centres[2 * slot + 1] = y;
-        let i = 5 * slot;
-        next.coefs[i] = coefs[0];
-        next.coefs[i + 1] = coefs[1];
-        next.coefs[i + 2] = coefs[2];
-        next.coefs[i + 3] = coefs[3];
-        next.coefs[i + 4] = coefs[4];
-        next.len = one_more(len);
-        next
-    }
+// A slot is given its centre.
+fn name_slot(centres: &mut [u16; 18], slot: usize, x: u16, y: u16)
+    requires { ⌜ slot < 9 ⌝ }
+    ensures { λ _. ⌜ now (centres .exit) ≡ named (now (centres .entry)) slot x y ⌝ }
+{
+    centres[2 * slot] = x;
+    centres[2 * slot + 1] = y;
+}
+
+// A slot is given its fit.
+fn fill_slot(coefs: &mut [f32; 45], slot: usize, fit: [f32; 5])
+    requires { ⌜ slot < 9 ⌝ }
+    ensures { λ _. ⌜ now (coefs .exit) ≡ filled (now (coefs .entry)) slot fit ⌝ }
+{
+    let i = 5 * slot;
+    coefs[i] = fit[0];
+    coefs[i + 1] = fit[1];
+    coefs[i + 2] = fit[2];
+    coefs[i + 3] = fit[3];
+    coefs[i + 4] = fit[4];
 }
 
 // The number of fits, counted on from 9 once it would be 18.

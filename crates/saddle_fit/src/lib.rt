@@ -44,7 +44,7 @@ pub struct Corners {
 // Fits that were worked out, by their centre pixel, the oldest overwritten first, and the four about the last base.
 // The slots in use are the first `len`, or all nine; the next to be written is `len % 9`. A base x of 8192 is none.
 pub struct IntegerFits {
-    pub centres: [usize; 18],
+    pub centres: [u16; 18],
     pub coefs: [f32; 45],
     pub len: usize,
     pub corners: Corners,
@@ -52,16 +52,17 @@ pub struct IntegerFits {
     pub base_y: usize,
 }
 
-// What a look-up hands back: the coefficients, and the cache with them in it.
+// What a look-up hands back: the coefficients, and the cache with them in it. The cache is the first field, here and below:
+// at the front of the struct its copies are seen to be copies, and most of them go.
 pub struct Looked {
-    pub coefs: [f32; 5],
     pub fits: IntegerFits,
+    pub coefs: [f32; 5],
 }
 
 // The cache after the four fits about a base were asked for; where they are there, they are its corners.
 pub struct Around {
-    pub found: bool,
     pub fits: IntegerFits,
+    pub found: bool,
 }
 
 // A window between pixels: the pixel below and before it, 8192 where that lies outside every image, and how far on it lies.
@@ -88,10 +89,10 @@ pub struct Weighed {
 
 // A candidate with its window, and the cache after it; where it is taken, the corners are those about the window.
 pub struct Candidate {
+    pub fits: IntegerFits,
     pub taken: bool,
     pub window: Window,
     pub fit: PatchSaddle,
-    pub fits: IntegerFits,
 }
 
 // How the coefficients change with the window along each axis.

@@ -27,7 +27,7 @@ fn no_fits() -> IntegerFits
 {
     let none = [0.0f32; 5];
     IntegerFits {
-        centres: [0usize; 18],
+        centres: [0u16; 18],
         coefs: [0.0f32; 45],
         len: 0,
         corners: Corners {

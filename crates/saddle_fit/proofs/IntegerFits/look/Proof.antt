@@ -1,54 +1,63 @@
 -- `saddle_fit::IntegerFits::look` meets its contract: four look-ups, each in the cache that the one before left.
+use Prim.Native.Nat.{_-_}
 use native.Mathlib.Omega.{arith}
 use Rattle.imageview.specs.Image.{imageOf}
-use Rattle.saddle_fit.proofs.CacheLaws.{room00, room10, room01, room11, looked}
+use Rattle.saddle_fit.proofs.CacheLaws.{room-at, Looking, look-first, look-next, look-last}
 use Rattle.saddle_fit.proofs.IntegerFits.look.Statement.{statement}
 use Rattle.saddle_fit.proofs.IntegerFits.look.Tie as tie
 
-at-requires : tie.Need-at-requires
-at-requires c κs = (room00 (c .before .pre .0), c .before .pre .1)
+abbrev Inv-loop : tie.InvT-loop
+Inv-loop img width height x y radius columns fits₀ c00₀ c10₀ c01₀ c11₀ k₀ fits c00 c10 c01 c11 k =
+    Looking (imageOf img width height) columns radius x y fits c00 c10 c01 c11 k
 
-add-at : tie.Need-add-at
+abbrev μ-loop : tie.MeasureT-loop
+μ-loop img width height x y radius columns fits₀ c00₀ c10₀ c01₀ c11₀ k₀ fits c00 c10 c01 c11 k = 4 - k
+
+loop-holds : tie.Need-loop-holds Inv-loop μ-loop
+loop-holds c =
+    let a = c .before .args in
+    look-first (imageOf (a .img .now) (a .width) (a .height)) (a .columns .now) (a .radius) (a .x) (a .y) (a .self) _ _ _ _ (c .before .pre .1)
+
+add-at : tie.Need-add-at Inv-loop μ-loop
 add-at c = omega (arith, c .before .before .before .pre .0 .right, c .before .before .before .pre .0 .sound .wide)
 
-at-requires-2 : tie.Need-at-requires-2
-at-requires-2 c κs = (room10 (c .before .before .before .pre .0), c .before .at .ensures .kept)
+add-at-2 : tie.Need-add-at-2 Inv-loop μ-loop
+add-at-2 c = omega (arith, c .loop-test .taken, c .before .before .before .pre .0 .below, c .before .before .before .pre .0 .sound .high)
 
-add-at-2 : tie.Need-add-at-2
-add-at-2 c = omega (arith, c .before .before .before .before .before .pre .0 .below, c .before .before .before .before .before .pre .0 .sound .high)
+at-requires : tie.Need-at-requires Inv-loop μ-loop
+at-requires c κs = (room-at (c .before .loop .k) (c .before .before .before .pre .0) (c .loop-test .taken), c .before .loop .inv .kept)
 
-at-requires-3 : tie.Need-at-requires-3
-at-requires-3 c κs = (room01 (c .before .before .before .before .before .pre .0), c .before .at2 .ensures .kept)
+add-k : tie.Need-add-k Inv-loop μ-loop
+add-k c = omega arith
 
-add-at-3 : tie.Need-add-at-3
-add-at-3 c = omega (arith, c .before .before .before .before .before .before .before .pre .0 .right, c .before .before .before .before .before .before .before .pre .0 .sound .wide)
+loop-less : tie.Need-loop-less Inv-loop μ-loop
+loop-less c = omega arith
 
-add-at-4 : tie.Need-add-at-4
-add-at-4 c = omega (arith, c .before .before .before .before .before .before .before .pre .0 .below, c .before .before .before .before .before .before .before .pre .0 .sound .high)
+loop-again : tie.Need-loop-again Inv-loop μ-loop
+loop-again c =
+    let a = c .before .before .before .before .before .before .args in
+    let l = c .before .before .before .before .loop in
+    let found = c .before .before .at in
+    look-next (imageOf (a .img .now) (a .width) (a .height)) (a .columns .now) (a .radius) (a .x) (a .y) (l .fits) (l .c00) (l .c10) (l .c01) (l .c11) (l .k) (found .result .coefs) (found .result .fits) (l .inv) (c .before .before .before .loop-test .taken) (found .ensures .coefs) (found .ensures .kept)
 
-at-requires-4 : tie.Need-at-requires-4
-at-requires-4 c κs = (room11 (c .before .before .before .before .before .before .before .pre .0), c .before .at3 .ensures .kept)
-
-returns : tie.Need-returns
+returns : tie.Need-returns Inv-loop μ-loop
 returns c =
-    let s = c .before .before .before .before .before .before .before .before .before .before .before .before .before in
+    let s = c .before .before .before in
     let a = s .args in
-    let here = c .before .before .before .before .before .before .before .before .before .before .before .at in
-    let right = c .before .before .before .before .before .before .before .before .before .at2 in
-    let under = c .before .before .before .before .before .before .before .at3 in
-    let across = c .before .before .before .before .before .at4 in
-    looked (imageOf (a .img .now) (a .width) (a .height)) (a .columns .now) (a .radius) (a .x) (a .y) (here .result .coefs) (right .result .coefs) (under .result .coefs) (across .result .coefs) (across .result .fits) (s .pre .0) (here .ensures .coefs) (right .ensures .coefs) (under .ensures .coefs) (across .ensures .coefs) (across .ensures .kept)
+    let l = c .before .loop in
+    look-last (imageOf (a .img .now) (a .width) (a .height)) (a .columns .now) (a .radius) (a .x) (a .y) (l .fits) (l .c00) (l .c10) (l .c01) (l .c11) (l .k) (s .pre .0) (l .inv) (c .loop-test .left)
 
 pub look-spec : {M : Type 1} → statement M
 look-spec =
     tie.close
     (tie.spec
-    at-requires
+    Inv-loop
+    μ-loop
+    loop-holds
     add-at
-    at-requires-2
     add-at-2
-    at-requires-3
-    add-at-3
-    add-at-4
-    at-requires-4
+    at-requires
+    add-k
+    loop-less
+    loop-again
     returns)

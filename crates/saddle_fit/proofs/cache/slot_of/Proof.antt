@@ -1,9 +1,9 @@
--- `saddle_fit::IntegerFits::slot_of` meets its contract: the loop only passes slots by.
+-- `saddle_fit::cache::slot_of` meets its contract: the loop only passes slots by.
 use Prim.Native.Nat.{_-_, _≤_}
 use native.Mathlib.Omega.{arith}
 use Rattle.saddle_fit.proofs.CacheLaws.{no-slot}
-use Rattle.saddle_fit.proofs.IntegerFits.slot_of.Statement.{statement}
-use Rattle.saddle_fit.proofs.IntegerFits.slot_of.Tie as tie
+use Rattle.saddle_fit.proofs.cache.slot_of.Statement.{statement}
+use Rattle.saddle_fit.proofs.cache.slot_of.Tie as tie
 
 abbrev Inv-loop : tie.InvT-loop
 Inv-loop x y self len i₀ i = i ≤ 9
@@ -15,7 +15,7 @@ loop-holds : tie.Need-loop-holds Inv-loop μ-loop
 loop-holds c = omega arith
 
 returns : tie.Need-returns Inv-loop μ-loop
-returns c = no-slot (c .before .before .before .args .t1) (c .before .before .before .args .x) (c .before .before .before .args .y)
+returns c = no-slot (c .before .before .before .args .centres .now) (c .before .before .before .args .len) (c .before .before .before .args .x) (c .before .before .before .args .y)
 
 mul-if2 : tie.Need-mul-if2 Inv-loop μ-loop
 mul-if2 c = omega arith
@@ -51,7 +51,7 @@ loop-again : tie.Need-loop-again Inv-loop μ-loop
 loop-again c = omega arith
 
 returns-3 : tie.Need-returns-3 Inv-loop μ-loop
-returns-3 c = no-slot (c .before .before .args .t1) (c .before .before .args .x) (c .before .before .args .y)
+returns-3 c = no-slot (c .before .before .args .centres .now) (c .before .before .args .len) (c .before .before .args .x) (c .before .before .args .y)
 
 pub slot-of-spec : {M : Type 1} → statement M
 slot-of-spec =
