@@ -1,121 +1,15 @@
-//! The exported functions of the crate `chess_corners`, behind slices. A slice
-//! crosses as a pointer and a length, a reference as a pointer.
+//! The exported functions of the crate `chess_corners`, behind slices and with
+//! their bare numbers. A slice crosses as a pointer and a length, a reference as
+//! a pointer.
 
+use chess_corners::raw;
+pub use chess_corners::{Image, PeakSettings, SaddlePointConfig as Settings};
 use oracle::types::{Region, Ring};
-
-mod exported {
-    use super::{COLUMNS, OVERLAP};
-
-    extern "C" {
-        pub fn chess_corners_response(
-            img: *const u8,
-            img_len: usize,
-            width: usize,
-            height: usize,
-            ring: *const [i32; 32],
-            radius: usize,
-            x0: usize,
-            y0: usize,
-            x1: usize,
-            y1: usize,
-            out: *mut f32,
-            out_len: usize,
-            out_width: *mut usize,
-            out_height: *mut usize,
-        ) -> u32;
-
-        pub fn chess_corners_merge(
-            corners: *mut f32,
-            corners_len: usize,
-            radius: f32,
-            heads: *mut u16,
-            heads_len: usize,
-            links: *mut u16,
-            links_len: usize,
-            count: *mut usize,
-        ) -> u32;
-
-        pub fn chess_corners_refine(
-            img: *const u8,
-            img_len: usize,
-            width: usize,
-            height: usize,
-            radius: usize,
-            det_margin: f32,
-            max_offset: f32,
-            min_abs_det: f32,
-            x: f32,
-            y: f32,
-            wanted: u32,
-            place: *mut [f32; 3],
-            state: *mut [u32; 3],
-            covariance: *mut [f32; 3],
-        ) -> u32;
-
-        pub fn chess_corners_refine_with(
-            img: *const u8,
-            img_len: usize,
-            width: usize,
-            height: usize,
-            radius: usize,
-            det_margin: f32,
-            max_offset: f32,
-            min_abs_det: f32,
-            x: f32,
-            y: f32,
-            wanted: u32,
-            columns: *const [f32; COLUMNS],
-            overlap: *const [f32; OVERLAP],
-            place: *mut [f32; 3],
-            state: *mut [u32; 3],
-            covariance: *mut [f32; 3],
-        ) -> u32;
-
-        pub fn chess_corners_fit_operator(
-            radius: usize,
-            columns: *mut [f32; COLUMNS],
-            overlap: *mut [f32; OVERLAP],
-        ) -> u32;
-
-        pub fn chess_corners_refine_list(
-            img: *const u8,
-            img_len: usize,
-            width: usize,
-            height: usize,
-            radius: usize,
-            det_margin: f32,
-            max_offset: f32,
-            min_abs_det: f32,
-            corners: *const f32,
-            corners_len: usize,
-            out: *mut f32,
-            out_len: usize,
-            count: *mut usize,
-        ) -> u32;
-    }
-}
 
 /// Floats of the operator: five a sample of radius 7, and nine overlaps of 5
 /// by 5.
 pub const COLUMNS: usize = 1125;
 pub const OVERLAP: usize = 225;
-
-/// An image as it crosses.
-#[derive(Clone, Copy)]
-pub struct Image<'a> {
-    pub bytes: &'a [u8],
-    pub width: usize,
-    pub height: usize,
-}
-
-/// The refiner's settings as they cross.
-#[derive(Clone, Copy)]
-pub struct Settings {
-    pub radius: usize,
-    pub det_margin: f32,
-    pub max_offset: f32,
-    pub min_abs_det: f32,
-}
 
 /// What a seed's answer is written to: x, y, score; converged, tries, whether
 /// there is a covariance; and that.
@@ -135,7 +29,7 @@ pub fn refine(
 ) -> u32 {
     // SAFETY: as for the response below.
     unsafe {
-        exported::chess_corners_refine(
+        raw::chess_corners_refine(
             image.bytes.as_ptr(),
             image.bytes.len(),
             image.width,
@@ -147,9 +41,9 @@ pub fn refine(
             x,
             y,
             wanted,
-            answer.place,
-            answer.state,
-            answer.covariance,
+            answer.place.as_mut_ptr(),
+            answer.state.as_mut_ptr(),
+            answer.covariance.as_mut_ptr(),
         )
     }
 }
@@ -166,7 +60,7 @@ pub fn refine_with(
 ) -> u32 {
     // SAFETY: as for the response below.
     unsafe {
-        exported::chess_corners_refine_with(
+        raw::chess_corners_refine_with(
             image.bytes.as_ptr(),
             image.bytes.len(),
             image.width,
@@ -178,11 +72,11 @@ pub fn refine_with(
             x,
             y,
             wanted,
-            columns,
-            overlap,
-            answer.place,
-            answer.state,
-            answer.covariance,
+            columns.as_ptr(),
+            overlap.as_ptr(),
+            answer.place.as_mut_ptr(),
+            answer.state.as_mut_ptr(),
+            answer.covariance.as_mut_ptr(),
         )
     }
 }
@@ -194,7 +88,7 @@ pub fn fit_operator(
     overlap: &mut [f32; OVERLAP],
 ) -> u32 {
     // SAFETY: as for the response below.
-    unsafe { exported::chess_corners_fit_operator(radius, columns, overlap) }
+    unsafe { raw::chess_corners_fit_operator(radius, columns.as_mut_ptr(), overlap.as_mut_ptr()) }
 }
 
 /// Document 01's number; `count` takes the number of records written.
@@ -207,7 +101,7 @@ pub fn refine_list(
 ) -> u32 {
     // SAFETY: as for the response below.
     unsafe {
-        exported::chess_corners_refine_list(
+        raw::chess_corners_refine_list(
             image.bytes.as_ptr(),
             image.bytes.len(),
             image.width,
@@ -251,12 +145,12 @@ pub fn response(
     // SAFETY: each pointer and length come from one live slice or reference,
     // and no two of those that are written overlap.
     unsafe {
-        exported::chess_corners_response(
+        raw::chess_corners_response(
             bytes.as_ptr(),
             bytes.len(),
             width,
             height,
-            ring,
+            ring.as_ptr(),
             radius,
             region.x0 as usize,
             region.y0 as usize,
@@ -266,6 +160,33 @@ pub fn response(
             out.len(),
             out_width,
             out_height,
+        )
+    }
+}
+
+/// Document 01's number; `count` takes the number of peaks.
+pub fn peaks(
+    response: &[f32],
+    [width, height]: [usize; 2],
+    s: PeakSettings,
+    out: &mut [f32],
+    count: &mut usize,
+) -> u32 {
+    // SAFETY: as above.
+    unsafe {
+        raw::chess_corners_peaks(
+            response.as_ptr(),
+            response.len(),
+            width,
+            height,
+            s.ring_radius,
+            s.window_radius,
+            s.refine_radius,
+            s.threshold,
+            s.min_cluster_size,
+            out.as_mut_ptr(),
+            out.len(),
+            count,
         )
     }
 }
@@ -280,7 +201,7 @@ pub fn merge(
 ) -> u32 {
     // SAFETY: as above.
     unsafe {
-        exported::chess_corners_merge(
+        raw::chess_corners_merge(
             corners.as_mut_ptr(),
             corners.len(),
             radius,

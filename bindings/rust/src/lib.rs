@@ -7,7 +7,9 @@
 
 use std::fmt;
 
-mod exported {
+/// The exported functions as they are; `include/chess_corners.h` says what each
+/// takes and writes, and what must hold of a pointer.
+pub mod raw {
     extern "C" {
         pub fn chess_corners_response(
             img: *const u8,
@@ -239,7 +241,7 @@ impl Operator {
         };
         // SAFETY: both arrays are live and apart.
         let number = unsafe {
-            exported::chess_corners_fit_operator(
+            raw::chess_corners_fit_operator(
                 radius,
                 made.columns.as_mut_ptr(),
                 made.overlap.as_mut_ptr(),
@@ -263,7 +265,7 @@ pub fn response(
     // SAFETY: each pointer and length come from one live slice or reference,
     // and Rust's borrows keep apart what is written.
     let number = unsafe {
-        exported::chess_corners_response(
+        raw::chess_corners_response(
             image.bytes.as_ptr(),
             image.bytes.len(),
             image.width,
@@ -294,7 +296,7 @@ pub fn peaks(
     let mut count = 0;
     // SAFETY: as above.
     let number = unsafe {
-        exported::chess_corners_peaks(
+        raw::chess_corners_peaks(
             response.as_ptr(),
             response.len(),
             width,
@@ -346,7 +348,7 @@ pub fn refine(
     let (mut place, mut state, mut entries) = ([0.0; 3], [0; 3], [0.0; 3]);
     // SAFETY: as above.
     let number = unsafe {
-        exported::chess_corners_refine(
+        raw::chess_corners_refine(
             image.bytes.as_ptr(),
             image.bytes.len(),
             image.width,
@@ -378,7 +380,7 @@ pub fn refine_with(
     let (mut place, mut state, mut entries) = ([0.0; 3], [0; 3], [0.0; 3]);
     // SAFETY: as above.
     let number = unsafe {
-        exported::chess_corners_refine_with(
+        raw::chess_corners_refine_with(
             image.bytes.as_ptr(),
             image.bytes.len(),
             image.width,
@@ -410,7 +412,7 @@ pub fn refine_list(
     let mut count = 0;
     // SAFETY: as above.
     let number = unsafe {
-        exported::chess_corners_refine_list(
+        raw::chess_corners_refine_list(
             image.bytes.as_ptr(),
             image.bytes.len(),
             image.width,
@@ -439,7 +441,7 @@ pub fn merge(
     let mut count = 0;
     // SAFETY: as above.
     let number = unsafe {
-        exported::chess_corners_merge(
+        raw::chess_corners_merge(
             corners.as_mut_ptr(),
             corners.len(),
             radius,
