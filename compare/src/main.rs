@@ -6,6 +6,7 @@ mod bench;
 mod list;
 mod merge;
 mod operator;
+mod peaks;
 mod port;
 mod refine;
 mod response;
@@ -29,10 +30,14 @@ const LONG: u64 = 60;
 const SEEDS: usize = 32;
 const PER_LIST: usize = 4;
 
+/// Peak scans for each merge and response.
+const SCANS: usize = 2;
+
 /// Every call's own test of this driver.
 fn faults_noticed() -> Result<(), String> {
     merge::faults_noticed()?;
     response::faults_noticed()?;
+    peaks::faults_noticed()?;
     operator::faults_noticed()?;
     refine::faults_noticed()?;
     list::faults_noticed()
@@ -43,6 +48,7 @@ fn faults_noticed() -> Result<(), String> {
 struct Tallies {
     merges: Tally,
     responses: Tally,
+    peaks: Tally,
     operators: Tally,
     seeds: Tally,
     lists: Tally,
@@ -57,6 +63,8 @@ impl Tallies {
             && refine::rare(&mut self.seeds)
             && list::longest(&mut self.lists, random)
             && merge::short(&mut self.merges)
+            && peaks::longest(&mut self.peaks, random)
+            && peaks::short(&mut self.peaks)
             && response::short(&mut self.responses, long, [0, 255])
             && response::short(&mut self.responses, false, [low, high])
     }
@@ -67,6 +75,7 @@ impl Tallies {
             && self
                 .responses
                 .tried(&response::any(random, &mut kept.rings))
+            && (0..SCANS).all(|_| self.peaks.tried(&peaks::any(random)))
             && (!random.once_in(PER_LIST) || self.lists.tried(&list::any(random)))
             && (0..SEEDS).all(|_| self.seeds.tried(&kept.scenes.any(random)))
     }
@@ -74,10 +83,11 @@ impl Tallies {
     fn told(&self, to_the_end: bool) -> bool {
         let merges = self.merges.told::<merge::Merge>(to_the_end);
         let responses = self.responses.told::<response::Response>(to_the_end);
+        let peaks = self.peaks.told::<peaks::Peaks>(to_the_end);
         let operators = self.operators.told::<operator::Operator>(to_the_end);
         let seeds = self.seeds.told::<refine::Refine>(to_the_end);
         let lists = self.lists.told::<list::List>(to_the_end);
-        merges && responses && operators && seeds && lists
+        merges && responses && peaks && operators && seeds && lists
     }
 }
 

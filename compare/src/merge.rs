@@ -1,7 +1,9 @@
 //! `chess_corners_merge` against `merge_corners_simple` and document 01.
 
 use crate::port;
-use crate::trial::{self, alike, bits, parts, Lent, Met, Tally, Trial, PAINT, PAINT_F};
+use crate::trial::{
+    self, alike, bits, oddness, parts, Lent, Met, Tally, Trial, PAINT, PAINT_F, PLAIN,
+};
 use oracle::calls;
 use oracle::random::Random;
 use oracle::rules::{self, Way};
@@ -53,15 +55,6 @@ impl Display for Merge {
         )?;
         f.write_str(&trial::corner_lines(&self.floats))
     }
-}
-
-/// How odd a float looks: whole small numbers least.
-fn oddness(f: f32) -> u64 {
-    let plain = [0.0f32, 1.0, 2.0, 4.0, 0.5];
-    plain
-        .iter()
-        .position(|p| p.to_bits() == f.to_bits())
-        .map_or(9, |k| k as u64)
 }
 
 impl Trial for Merge {
@@ -171,7 +164,7 @@ impl Trial for Merge {
             links: corners,
             ..self.clone()
         });
-        for value in [0.0, 1.0, 2.0, 4.0, 0.5] {
+        for value in PLAIN {
             out.push(Merge {
                 radius: value,
                 ..self.clone()

@@ -181,7 +181,7 @@ impl Trial for Response {
             let less = Response {
                 width: part.width as u64,
                 height: part.height as u64,
-                bytes: part.bytes,
+                bytes: part.values,
                 region: Region {
                     x0: moved(r.x0, part.x),
                     y0: moved(r.y0, part.y),

@@ -59,7 +59,7 @@ impl Scene {
         let mut out: Vec<(Scene, [f32; 2])> = crops(&self.image.bytes, w, h)
             .into_iter()
             .map(|part| {
-                let image = Rc::new(Image::new(part.width, part.height, part.bytes));
+                let image = Rc::new(Image::new(part.width, part.height, part.values));
                 let less = Scene {
                     image,
                     ..self.clone()

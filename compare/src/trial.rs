@@ -77,6 +77,17 @@ pub fn held<T: PartialEq + Debug>(name: &str, got: T, want: T) -> Result<(), Str
     }
 }
 
+/// Floats that a small input is made of, the plainest first.
+pub const PLAIN: [f32; 5] = [0.0, 1.0, 2.0, 4.0, 0.5];
+
+/// How odd a float looks: whole small numbers least.
+pub fn oddness(f: f32) -> u64 {
+    PLAIN
+        .iter()
+        .position(|p| p.to_bits() == f.to_bits())
+        .map_or(9, |k| k as u64)
+}
+
 /// The last bit of a float is another.
 pub fn flip(f: &mut f32) {
     *f = f32::from_bits(f.to_bits() ^ 1);
@@ -120,7 +131,7 @@ pub struct Met {
 }
 
 /// The most classes of a case.
-const MOST: usize = 8;
+const MOST: usize = 16;
 
 impl Met {
     pub fn of(class: &'static str) -> Self {
@@ -179,19 +190,19 @@ pub fn fewer(count: usize) -> Vec<Range<usize>> {
     out
 }
 
-/// A part of an image, and where it begins.
-pub struct Crop {
+/// A part of an image or a response, and where it begins.
+pub struct Crop<T> {
     pub x: usize,
     pub y: usize,
     pub width: usize,
     pub height: usize,
-    pub bytes: Vec<u8>,
+    pub values: Vec<T>,
 }
 
 /// An image without half of it, or without a row or column at an edge; none
 /// of an image that is no whole one.
-pub fn crops(bytes: &[u8], w: usize, h: usize) -> Vec<Crop> {
-    if w == 0 || h == 0 || w.checked_mul(h) != Some(bytes.len()) {
+pub fn crops<T: Copy>(values: &[T], w: usize, h: usize) -> Vec<Crop<T>> {
+    if w == 0 || h == 0 || w.checked_mul(h) != Some(values.len()) {
         return Vec::new();
     }
     [
@@ -213,8 +224,8 @@ pub fn crops(bytes: &[u8], w: usize, h: usize) -> Vec<Crop> {
         y: rows.start,
         width: cols.len(),
         height: rows.len(),
-        bytes: rows
-            .flat_map(|y| bytes[y * w..][cols.clone()].to_vec())
+        values: rows
+            .flat_map(|y| values[y * w..][cols.clone()].to_vec())
             .collect(),
     })
     .collect()
