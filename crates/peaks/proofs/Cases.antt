@@ -2,7 +2,7 @@
 use mathlib.Core.Path.{_≡_, refl}
 use mathlib.Core.List.{List, [], _∷_, map}
 use Prim.Native.Nat.{ℕ}
-use lib.ListN.{length, set, replicate}
+use lib.ListN.{set, replicate}
 use lib.Ieee.{Float, binary32, ofBits, toBits, ofInt, lt}
 use Rattle.imageview.specs.Image.{sizesFit}
 use Rattle.peaks.specs.declared.Peaks.{Peaks}

@@ -1,16 +1,16 @@
 -- What holds of every peak of every response: two of them never lie in each other's window, and each exceeds zero and the threshold.
-use mathlib.Core.Path.{_≡_, refl, sym, ap, _∙_, subst, subst₂}
+use mathlib.Core.Path.{_≡_, refl, sym, ap, _∙_, subst}
 use mathlib.Core.Logic.{_⊎_, ⊎-elim}
 use mathlib.Core.Bool.{Bool, true, false, _&&_, _||_, not, cond, false≢true}
 use Prim.Native.Nat.{ℕ, _+_, _-_, _*_, _/_, _%_, _≤_, _<_}
-use native.Mathlib.Nat.{add-mul, suc-mul, mul-le-mul-right, zero-mul, mul-one, mul-pos, eq-or-lt-of-le, lt-of-lt-of-le}
+use native.Mathlib.Nat.{add-mul, suc-mul, mul-le-mul-right, zero-mul, mul-pos, eq-or-lt-of-le}
 use native.Mathlib.Omega.{arith}
 use lib.Arith.{digits-div, digits-mod}
-use lib.Dec.{leb, ltb, eqb}
+use lib.Dec.{leb, eqb}
 use lib.Ieee.{Float, nan, inf, fin, up, down, below, lt}
 use lib.Ieee.Fits.{down-pos}
 use lib.Ieee.Scale.{finite}
-use borrow.Author.Tests.{eqb-true, ne-eqb, ltb-true, ltb-false, lt-ltb}
+use borrow.Author.Tests.{ne-eqb, ltb-true, ltb-false, lt-ltb}
 use Rattle.floats.proofs.OrderLaws.{lt-trans, lt-asym}
 use Rattle.peaks.specs.Peak.{Scan, zeroFloat, valueAt, least, side, cells, middle, neighbour, beats, inside, highest, positives, isPeak}
 use Rattle.peaks.proofs.CountLaws.{first-of, second-of, every-at}

@@ -1,7 +1,6 @@
 -- The window of a pixel in four pieces: the rows above, the left and the right of its own row, and the rows below; the pixel itself is in none.
 use mathlib.Core.Path.{_≡_, refl, sym, ap, _∙_}
 use mathlib.Core.Bool.{Bool, true, false, _&&_, _||_, not, cond}
-use mathlib.Core.List.{List}
 use Prim.Native.Nat.{ℕ, suc, _+_, _-_, _*_, _/_, _%_, _≤_, _<_}
 use native.Mathlib.Nat.{add-mul, suc-mul, mul-le-mul, mul-le-mul-right, mul-add-div-right, mul-add-mod-self-right}
 use native.Mathlib.Omega.{arith}

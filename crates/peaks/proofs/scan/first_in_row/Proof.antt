@@ -1,5 +1,4 @@
 -- `peaks::scan::first_in_row` meets its contract: what the columns between the borders leave is outside.
-use mathlib.Core.Path.{sym}
 use native.Mathlib.Omega.{arith}
 use Rattle.peaks.specs.Steps.{scanOf}
 use Rattle.peaks.proofs.PeakLaws.{above-out, below-out, right-out, left-out, row-none, row-from}

@@ -1,6 +1,5 @@
 -- `peaks::scan::next_peak` meets its contract: there is no peak from the place asked for up to (x, y).
-use mathlib.Core.Path.{_≡_, sym, _∙_}
-use Prim.Native.Nat.{ℕ, _+_, _-_, _*_, _≤_, _<_}
+use Prim.Native.Nat.{_+_, _-_, _*_, _≤_}
 use native.Mathlib.Nat.{mod-lt, le-of-lt}
 use native.Mathlib.Omega.{arith}
 use Rattle.peaks.specs.Steps.{scanOf}

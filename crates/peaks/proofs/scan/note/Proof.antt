@@ -1,6 +1,6 @@
 -- `peaks::scan::note` meets its contract: the places of the peaks before `at` are noted.
 use mathlib.Core.Path.{_≡_, _∙_}
-use Prim.Native.Nat.{zero-le, _+_, _-_, _≤_, _<_}
+use Prim.Native.Nat.{zero-le, _-_}
 use native.Mathlib.Omega.{arith}
 use lib.ListN.{length, length-set}
 use Rattle.peaks.specs.Steps.{scanOf, Listed}

@@ -1,8 +1,6 @@
 -- `peaks::scan::record_all` meets its contract: the notes and then the rest, where the count has room.
-use mathlib.Core.Path.{_≡_, refl, sym, _∙_}
-use Prim.Native.Nat.{ℕ, _+_, _*_, _/_, _≤_, _<_}
+use mathlib.Core.Path.{refl, sym}
 use native.Mathlib.Omega.{arith}
-use lib.ListN.{length}
 use borrow.Author.Needs.{needs}
 use Rattle.peaks.specs.Steps.{scanOf}
 use Rattle.peaks.proofs.ChosenLaws.{before-all, noteworthy, noted-out}

@@ -1,6 +1,5 @@
 -- `peaks::scan::seek` meets its contract: none of the values passed exceeds the floor.
-use mathlib.Core.Path.{_≡_}
-use Prim.Native.Nat.{ℕ, _+_, _-_, _≤_}
+use Prim.Native.Nat.{_+_, _-_, _≤_}
 use native.Mathlib.Omega.{arith}
 use Rattle.peaks.specs.Steps.{Low}
 use Rattle.peaks.proofs.SeekLaws.{low-none, low-join, low-part, low-eight}

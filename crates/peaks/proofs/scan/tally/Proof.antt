@@ -1,6 +1,6 @@
 -- `peaks::scan::tally` meets its contract: `count` peaks lie before the place `at`, which is one too, or the end.
 use mathlib.Core.Path.{subst}
-use Prim.Native.Nat.{ℕ, _+_, _-_, _≤_, _<_}
+use Prim.Native.Nat.{ℕ, _-_, _<_}
 use native.Mathlib.Omega.{arith}
 use lib.ListN.{length}
 use Rattle.peaks.specs.Steps.{scanOf, Stands}

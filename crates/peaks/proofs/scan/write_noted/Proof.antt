@@ -1,14 +1,12 @@
 -- `peaks::scan::write_noted` meets its contract: the records of the first i places noted are written.
 use mathlib.Core.Path.{_≡_, refl, ap, _∙_}
 use mathlib.Core.List.{_++_}
-use Prim.Native.Nat.{ℕ, _+_, _-_, _*_, _≤_, _<_}
+use Prim.Native.Nat.{ℕ, _+_, _-_, _*_, _≤_}
 use native.Mathlib.Omega.{arith}
 use lib.ListN.{length, take, drop, getD}
-use borrow.Author.Needs.{needs}
 use Rattle.peaks.specs.Call.{recordsOf}
 use Rattle.peaks.specs.Steps.{scanOf}
 use Rattle.peaks.proofs.CountLaws.{ended}
-use Rattle.peaks.proofs.FrameLaws.{size-most}
 use Rattle.peaks.proofs.NextLaws.{column-most, row-most}
 use Rattle.peaks.proofs.ChosenLaws.{noted-none, noted-more}
 use Rattle.peaks.proofs.scan.write_noted.Statement.{statement}

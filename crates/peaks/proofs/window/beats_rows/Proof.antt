@@ -1,9 +1,9 @@
 -- `peaks::window::beats_rows` meets its contract: v beats the rows passed.
 use mathlib.Core.Path.{_≡_, sym, ap, _∙_}
 use mathlib.Core.Bool.{true}
-use Prim.Native.Nat.{ℕ, _+_, _-_, _*_, _≤_}
+use Prim.Native.Nat.{ℕ, _-_, _*_, _≤_}
 use native.Mathlib.Omega.{arith}
-use lib.Ieee.{Float, lt}
+use lib.Ieee.{lt}
 use borrow.Author.Tests.{not-true, not-false}
 use Rattle.peaks.specs.Peak.{every}
 use Rattle.peaks.specs.Steps.{blockAt}

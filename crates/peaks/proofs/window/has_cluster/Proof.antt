@@ -1,5 +1,5 @@
 -- `peaks::window::has_cluster` meets its contract: the pieces counted so far are positive values of the window, and all four are all of them.
-use mathlib.Core.Path.{sym, ap, _∙_}
+use mathlib.Core.Path.{sym, ap}
 use Prim.Native.Nat.{ℕ}
 use native.Mathlib.Nat.{le-trans}
 use native.Mathlib.Omega.{arith}
