@@ -573,7 +573,7 @@ pub fn faults_noticed() -> Result<(), String> {
     let mut written = Peaks {
         width: 9,
         height: 9,
-        response: vec![0.5; 81],
+        response: vec![0.0; 81],
         settings: LEAST,
         out: 9,
     };

@@ -238,7 +238,8 @@ pub type Fault<L> = (&'static str, fn(&mut L));
 pub fn faults_noticed<T: Trial>(cases: &[T], faults: &[Fault<T::Left>]) -> Result<(), String> {
     for case in cases {
         let left = case.by_port();
-        case.judged(&left)?;
+        case.judged(&left)
+            .map_err(|how| format!("{}: {how}\n{case}", T::NAME))?;
         for (name, fault) in faults {
             let mut spoilt = left.clone();
             fault(&mut spoilt);
