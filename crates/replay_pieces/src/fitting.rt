@@ -1,9 +1,9 @@
 // What asks for the operator of a radius: the covariance of a place, and the fit on a patch.
 use crate::moving;
 use crate::numbers;
+use fit_cache::fits;
 use saddle_fit::Covariance;
 use saddle_fit::Jacobian;
-use saddle_fit::fits;
 use saddle_fit::noise;
 ghost use mathlib.Core.Path.{_≡_};
 ghost use Prim.Native.Nat.{_+_, _*_, _≤_};

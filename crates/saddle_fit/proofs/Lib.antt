@@ -1,8 +1,4 @@
 -- Laws of the refiner's parts.
-pub mod FitLaws
-pub mod CacheLaws
-pub mod PlaceLaws
-pub mod TryLaws
 pub mod Choice
 pub mod ListLaws
 pub mod SolveLaws

@@ -1,13 +1,9 @@
-// The parts of the saddle-point refiner, after `saddle_point.rs`: the fit on a patch and its saddle, the window between pixels, one candidate with the
-// fits kept on the way, the sensitivity, and the covariance.
+// The formulas of the saddle-point refiner, after `saddle_point.rs`: the saddle of a fit, the window between pixels, the sensitivity and the Newton step,
+// and the covariance.
 pub mod between;
-mod cache;
-pub mod fits;
 pub mod noise;
-mod place;
 pub mod sensitivity;
 pub mod solve;
-pub mod tries;
 
 // The settings; the radius is that of the patch.
 pub struct SaddlePointConfig {
@@ -41,60 +37,6 @@ pub struct Corners {
     pub c11: [f32; 5],
 }
 
-// Fits that were worked out, by their centre pixel, the oldest overwritten first, and the four about the last base.
-// The slots in use are the first `len`, or all nine; the next to be written is `len % 9`. A base x of 8192 is none.
-pub struct IntegerFits {
-    pub centres: [u16; 18],
-    pub coefs: [f32; 45],
-    pub len: usize,
-    pub corners: Corners,
-    pub base_x: usize,
-    pub base_y: usize,
-}
-
-// What a look-up hands back: the coefficients, and the cache with them in it. The cache is the first field, here and below:
-// at the front of the struct its copies are seen to be copies, and most of them go.
-pub struct Looked {
-    pub fits: IntegerFits,
-    pub coefs: [f32; 5],
-}
-
-// The cache after the four fits about a base were asked for; where they are there, they are its corners.
-pub struct Around {
-    pub fits: IntegerFits,
-    pub found: bool,
-}
-
-// A window between pixels: the pixel below and before it, 8192 where that lies outside every image, and how far on it lies.
-pub struct Window {
-    pub base_x: usize,
-    pub base_y: usize,
-    pub tx: f32,
-    pub ty: f32,
-}
-
-// A seed and the pixel that it rounds to.
-pub struct Seed {
-    pub x: f32,
-    pub y: f32,
-    pub centre_x: usize,
-    pub centre_y: usize,
-}
-
-// Whether a candidate is taken, and then its saddle.
-pub struct Weighed {
-    pub taken: bool,
-    pub fit: PatchSaddle,
-}
-
-// A candidate with its window, and the cache after it; where it is taken, the corners are those about the window.
-pub struct Candidate {
-    pub fits: IntegerFits,
-    pub taken: bool,
-    pub window: Window,
-    pub fit: PatchSaddle,
-}
-
 // How the coefficients change with the window along each axis.
 pub struct Slope {
     pub x: [f32; 5],
@@ -105,15 +47,6 @@ pub struct Slope {
 pub struct Jacobian {
     pub first: [f32; 5],
     pub second: [f32; 5],
-}
-
-// The five sums of a fit while samples are added.
-pub struct Sums {
-    pub a: f32,
-    pub b: f32,
-    pub c: f32,
-    pub d: f32,
-    pub e: f32,
 }
 
 pub struct Matrix {

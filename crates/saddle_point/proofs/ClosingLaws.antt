@@ -18,7 +18,7 @@ use Rattle.saddle_fit.specs.declared.Slope.{Slope}
 use Rattle.saddle_point.specs.declared.Sloping.{Sloping}
 use Rattle.saddle_fit.specs.declared.Jacobian.{Jacobian}
 use Rattle.saddle_fit.specs.declared.Matrix.{Matrix}
-use Rattle.saddle_fit.specs.declared.Seed.{Seed}
+use Rattle.fit_cache.specs.declared.Seed.{Seed}
 use Rattle.saddle_point.specs.declared.Ended.{Ended}
 use Rattle.saddle_point.specs.declared.Estimate.{Estimate}
 use Rattle.saddle_fit.specs.declared.Covariance.{Covariance}
@@ -31,11 +31,11 @@ use Rattle.saddle_fit.specs.Sensitivity.{regular, Along, noWay, way, along, bot
 use Rattle.saddle_fit.specs.Covariance.{covarianceOf}
 use Rattle.saddle_fit.specs.Run.{Task, Finish, atStart, settled, runOf, picked, stepsFrom, searchFrom}
 use Rattle.saddle_point.specs.Refine.{single, estimate, closed, closedAt, finished}
-use Rattle.saddle_fit.specs.Adding.{Sound, Within}
-use Rattle.saddle_fit.specs.Tries.{taskAt}
+use Rattle.fit_cache.specs.Adding.{Sound, Within}
+use Rattle.fit_cache.specs.Tries.{taskAt}
 use Rattle.saddle_point.specs.Ending.{Ends, centred, Closes, wayOf, GoesX, GoesY}
-use Rattle.saddle_fit.proofs.CacheLaws.{there, behind}
-use Rattle.saddle_fit.proofs.PlaceLaws.{never}
+use Rattle.fit_cache.proofs.CacheLaws.{there, behind}
+use Rattle.fit_cache.proofs.PlaceLaws.{never}
 use Rattle.saddle_point.proofs.StepLaws.{no, yes}
 
 -- ---- the estimate by its fields

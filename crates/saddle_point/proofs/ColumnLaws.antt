@@ -18,7 +18,7 @@ use Rattle.fit_operator.proofs.CallLaws.{built-length}
 use Rattle.saddle_fit.specs.declared.SaddlePointConfig.{SaddlePointConfig}
 use Rattle.saddle_fit.specs.declared.PatchSaddle.{PatchSaddle}
 use Rattle.saddle_fit.specs.declared.Move.{Move}
-use Rattle.saddle_fit.specs.declared.Seed.{Seed}
+use Rattle.fit_cache.specs.declared.Seed.{Seed}
 use Rattle.saddle_fit.specs.declared.Solved.{Solved}
 use Rattle.saddle_fit.specs.declared.Solved.the-variants.{Refused, Saddle}
 use Rattle.saddle_point.specs.declared.Estimate.{Estimate}
@@ -30,7 +30,7 @@ use Rattle.saddle_fit.specs.Solve.{solve}
 use Rattle.saddle_fit.specs.Between.{Place, placeOf, Fits, lacking, four, fits4, cornersAt, blend}
 use Rattle.saddle_fit.specs.Sensitivity.{Sloped, noSlope, sloped, along, both, slopeAt}
 use Rattle.saddle_fit.specs.Run.{Task, nearSeed, settled, norm2, Stand, Tried, passed, taken, judged, weighed, candidate, Search, orElse, searchFrom, Finish, atStart, atStand, picked, laterMove, stepsFrom, runOf}
-use Rattle.saddle_fit.specs.Tries.{taskAt}
+use Rattle.fit_cache.specs.Tries.{taskAt}
 use Rattle.saddle_point.specs.Admission.{fittedWith, freshFit}
 use Rattle.saddle_point.specs.Refine.{single, closed, closedAt, finished, fromSaddle, fromFit}
 

@@ -20,7 +20,7 @@ use Rattle.imageview.specs.Patch.{inside, supportsPatch}
 use Rattle.imageview.proofs.ImageLaws.{Good, good}
 use Rattle.saddle_fit.specs.declared.SaddlePointConfig.{SaddlePointConfig}
 use Rattle.saddle_fit.specs.declared.PatchSaddle.{PatchSaddle}
-use Rattle.saddle_fit.specs.declared.Seed.{Seed}
+use Rattle.fit_cache.specs.declared.Seed.{Seed}
 use Rattle.saddle_point.specs.declared.Estimate.{Estimate}
 use Rattle.saddle_fit.specs.declared.Solved.{Solved}
 use Rattle.saddle_fit.specs.declared.Solved.the-variants.{Refused, Saddle}
@@ -34,10 +34,10 @@ use Rattle.saddle_fit.specs.Fit.{Fit, fitted, fitAt, coefficients}
 use Rattle.saddle_fit.specs.Solve.{solve}
 use Rattle.saddle_fit.specs.Run.{Task, nearAlong, nearSeed, runOf}
 use Rattle.saddle_point.specs.Refine.{goodLimits, centreOf, taskOf, finished, fromSaddle, fromFit, refineWith, lentWith, refineLent, withOperator, tested, refineOf}
-use Rattle.saddle_fit.specs.Adding.{Sound, Within}
-use Rattle.saddle_fit.specs.Tries.{taskAt}
+use Rattle.fit_cache.specs.Adding.{Sound, Within}
+use Rattle.fit_cache.specs.Tries.{taskAt}
 use Rattle.saddle_point.specs.Admission.{seedOf, admitOf, fittedWith, freshFit}
-use Rattle.saddle_fit.proofs.CacheLaws.{there}
+use Rattle.fit_cache.proofs.CacheLaws.{there}
 use Rattle.saddle_point.proofs.StepLaws.{no, yes, differs}
 
 pub both-true : (a b : Bool) → (a && b) ≡ true → (a ≡ true) × (b ≡ true)

@@ -12,7 +12,7 @@ use Rattle.fit_operator.specs.declared.Operator.{Operator}
 use Rattle.fit_operator.specs.declared.Operator.the-variants as Answer
 use Rattle.saddle_fit.specs.Numbers.{zero32}
 use Rattle.saddle_fit.specs.declared.SaddlePointConfig.{SaddlePointConfig}
-use Rattle.saddle_fit.specs.declared.Seed.{Seed}
+use Rattle.fit_cache.specs.declared.Seed.{Seed}
 use Rattle.saddle_point.specs.declared.Refined.{Refined}
 use Rattle.saddle_point.specs.declared.Refined.the-variants.{IllConditioned, BadRadius}
 use Rattle.saddle_point.specs.declared.Admitted.{Admitted}

@@ -11,7 +11,7 @@ use Rattle.imageview.specs.Image.{Image}
 use Rattle.saddle_fit.specs.declared.SaddlePointConfig.{SaddlePointConfig}
 use Rattle.saddle_fit.specs.declared.PatchSaddle.{PatchSaddle}
 use Rattle.saddle_fit.specs.declared.Slope.{Slope}
-use Rattle.saddle_fit.specs.declared.Seed.{Seed}
+use Rattle.fit_cache.specs.declared.Seed.{Seed}
 use Rattle.saddle_fit.specs.declared.Solved.{Solved}
 use Rattle.saddle_fit.specs.declared.Solved.the-variants.{Refused, Saddle}
 use Rattle.saddle_fit.specs.declared.Covariance.{Covariance}
@@ -23,7 +23,7 @@ use Rattle.saddle_fit.specs.Between.{Place, placeOf}
 use Rattle.saddle_fit.specs.Sensitivity.{regular, Sloped, noSlope, sloped, slopeAt, slopeWithin, saddleJacobian, sensitivity}
 use Rattle.saddle_fit.specs.Covariance.{covarianceOf}
 use Rattle.saddle_fit.specs.Run.{Task, nearAlong, nearSeed, settled, runOf, searchFrom, stepsFrom, picked, Finish, atStart}
-use Rattle.saddle_fit.specs.Tries.{taskAt}
+use Rattle.fit_cache.specs.Tries.{taskAt}
 use Rattle.saddle_point.specs.declared.Ended.{Ended}
 use Rattle.saddle_point.specs.declared.Estimate.{Estimate}
 use Rattle.saddle_point.specs.declared.Refined.{Refined}

@@ -16,11 +16,11 @@ use Rattle.saddle_fit.specs.Sensitivity.{slopeWithin, slopeAt, saddleJacobian, 
 use Rattle.saddle_fit.specs.Run.{Task, Stand, Tried, passed, taken, Search, Finish, atStart, atStand, settled, picked, orElse, laterMove, candidate, searchFrom, stepsFrom, runOf}
 use Rattle.saddle_point.specs.Refine.{single, closed, closedAt, finished}
 use Rattle.saddle_point.specs.declared.Ended.{Ended}
-use Rattle.saddle_fit.specs.declared.Candidate.{Candidate}
-use Rattle.saddle_fit.specs.declared.Window.{Window}
-use Rattle.saddle_fit.specs.declared.IntegerFits.{IntegerFits}
-use Rattle.saddle_fit.specs.Cache.{Sized, Kept, Fresh}
-use Rattle.saddle_fit.specs.Tries.{Tries}
+use Rattle.fit_cache.specs.declared.Candidate.{Candidate}
+use Rattle.fit_cache.specs.declared.Window.{Window}
+use Rattle.fit_cache.specs.declared.IntegerFits.{IntegerFits}
+use Rattle.fit_cache.specs.Cache.{Sized, Kept, Fresh}
+use Rattle.fit_cache.specs.Tries.{Tries}
 use Rattle.saddle_point.specs.Ending.{onward, from, Going, Ends}
 
 pub no : {A : Type 0} (b : Bool) (x y : A) → b ≡ false → cond b x y ≡ y

@@ -7,13 +7,13 @@ use lib.Ieee.{Float}
 use Rattle.imageview.specs.Image.{Image, isImage}
 use Rattle.imageview.specs.Patch.{supportsPatch}
 use Rattle.saddle_fit.specs.declared.SaddlePointConfig.{SaddlePointConfig}
-use Rattle.saddle_fit.specs.declared.Seed.{Seed}
+use Rattle.fit_cache.specs.declared.Seed.{Seed}
 use Rattle.saddle_point.specs.declared.Admitted.{Admitted}
 use Rattle.saddle_point.specs.declared.Admitted.the-variants.{Good, NoImage, NoRadius, NoLimit, NoPatch}
 use Rattle.fit_operator.specs.Call as Operator
 use Rattle.saddle_fit.specs.Numbers.{zero32}
 use Rattle.saddle_fit.specs.Fit.{fitted, coefficients}
-use Rattle.saddle_fit.specs.Tries.{taskAt}
+use Rattle.fit_cache.specs.Tries.{taskAt}
 use Rattle.saddle_point.specs.declared.Refined.{Refined}
 use Rattle.saddle_point.specs.declared.Refined.the-variants.{IllConditioned, BadRadius}
 use Rattle.saddle_point.specs.Refine.{centreOf, goodLimits, fromFit}

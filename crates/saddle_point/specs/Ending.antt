@@ -9,16 +9,16 @@ use Rattle.saddle_fit.specs.declared.PatchSaddle.{PatchSaddle}
 use Rattle.saddle_fit.specs.declared.Move.{Move}
 use Rattle.saddle_point.specs.declared.Estimate.{Estimate}
 use Rattle.saddle_point.specs.declared.Ended.{Ended}
-use Rattle.saddle_fit.specs.declared.IntegerFits.{IntegerFits}
-use Rattle.saddle_fit.specs.Cache.{Kept}
+use Rattle.fit_cache.specs.declared.IntegerFits.{IntegerFits}
+use Rattle.fit_cache.specs.Cache.{Kept}
 use Rattle.saddle_fit.specs.Between.{Place, placeOf}
 use Rattle.imageview.specs.Image.{Image, imageOf}
 use Rattle.saddle_point.specs.declared.Sloping.{Sloping}
 use Rattle.saddle_fit.specs.declared.Slope.{Slope}
-use Rattle.saddle_fit.specs.declared.Seed.{Seed}
+use Rattle.fit_cache.specs.declared.Seed.{Seed}
 use Rattle.saddle_fit.specs.Numbers.{zero32}
 use Rattle.saddle_fit.specs.Fit.{fitAt}
-use Rattle.saddle_fit.specs.Tries.{taskAt}
+use Rattle.fit_cache.specs.Tries.{taskAt}
 use Rattle.saddle_fit.specs.Sensitivity as Sensitivity
 use Rattle.saddle_fit.specs.Sensitivity.{slopeWithin}
 use Rattle.saddle_fit.specs.Run.{Task, Stand, Tried, passed, taken, Search, searchFrom, stepsFrom, runOf}

@@ -2,13 +2,13 @@
 use super::Estimate;
 use super::Sloping;
 use crate::steps;
+use fit_cache::Seed;
+use fit_cache::fits;
 use saddle_fit::Covariance;
 use saddle_fit::PatchSaddle;
 use saddle_fit::SaddlePointConfig;
-use saddle_fit::Seed;
 use saddle_fit::Slope;
 use saddle_fit::between;
-use saddle_fit::fits;
 use saddle_fit::noise;
 use saddle_fit::sensitivity;
 use saddle_fit::solve;
@@ -24,8 +24,8 @@ ghost use Rattle.saddle_fit.specs.Run.{runOf};
 ghost use Rattle.saddle_fit.specs.Run as Run;
 ghost use Rattle.saddle_point.specs.Refine.{single, finished};
 ghost use Rattle.saddle_point.specs.Refine as Refine;
-ghost use Rattle.saddle_fit.specs.Adding.{Sound, Within};
-ghost use Rattle.saddle_fit.specs.Tries.{taskAt};
+ghost use Rattle.fit_cache.specs.Adding.{Sound, Within};
+ghost use Rattle.fit_cache.specs.Tries.{taskAt};
 ghost use Rattle.saddle_point.specs.Ending.{centred, Closes, GoesX, GoesY};
 
 // The first fit, where the steps did not settle.

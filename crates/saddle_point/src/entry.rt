@@ -2,20 +2,20 @@
 use super::Admitted;
 use super::Refined;
 use crate::closing;
+use fit_cache::Seed;
+use fit_cache::fits;
+use fit_cache::tries;
 use fit_operator::Operator;
 use saddle_fit::SaddlePointConfig;
-use saddle_fit::Seed;
 use saddle_fit::Solved;
-use saddle_fit::fits;
 use saddle_fit::solve;
-use saddle_fit::tries;
 ghost use mathlib.Core.Path.{_≡_};
 ghost use Rattle.imageview.specs.Image.{imageOf};
 ghost use Rattle.saddle_fit.specs.Fit.{fitted, coefficients};
 ghost use Rattle.saddle_fit.specs.Solve.{goodLimit};
 ghost use Rattle.saddle_point.specs.Refine.{goodLimits, fromFit, lentWith, refineLent, refineOf};
-ghost use Rattle.saddle_fit.specs.Adding.{Within};
-ghost use Rattle.saddle_fit.specs.Tries.{taskAt};
+ghost use Rattle.fit_cache.specs.Adding.{Within};
+ghost use Rattle.fit_cache.specs.Tries.{taskAt};
 ghost use Rattle.saddle_point.specs.Admission.{admitOf, fittedWith, freshFit};
 ghost use Rattle.fit_operator.specs.Call.{wayOf};
 

@@ -1,8 +1,8 @@
 // The saddle-point refiner of one seed, after `saddle_point.rs`.
+use fit_cache::Seed;
 use saddle_fit::Corners;
 use saddle_fit::Covariance;
 use saddle_fit::PatchSaddle;
-use saddle_fit::Seed;
 
 mod closing;
 mod entry;

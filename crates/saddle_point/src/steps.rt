@@ -1,24 +1,24 @@
 // The steps toward the window at whose centre the saddle lies: one loop over the steps and their halvings.
 use super::Ended;
+use fit_cache::IntegerFits;
+use fit_cache::Seed;
+use fit_cache::tries;
 use saddle_fit::Corners;
-use saddle_fit::IntegerFits;
 use saddle_fit::Move;
 use saddle_fit::PatchSaddle;
 use saddle_fit::SaddlePointConfig;
-use saddle_fit::Seed;
 use saddle_fit::between;
 use saddle_fit::sensitivity;
 use saddle_fit::solve;
-use saddle_fit::tries;
 ghost use mathlib.Core.Path.{_≡_};
 ghost use mathlib.Core.Bool.{false};
 ghost use Prim.Native.Nat.{_<_, _≤_};
 ghost use Rattle.imageview.specs.Image.{imageOf};
 ghost use Rattle.saddle_fit.specs.Sensitivity as Sensitivity;
 ghost use Rattle.saddle_fit.specs.Run as Run;
-ghost use Rattle.saddle_fit.specs.Adding.{Sound};
-ghost use Rattle.saddle_fit.specs.Cache.{Fresh};
-ghost use Rattle.saddle_fit.specs.Tries.{taskAt};
+ghost use Rattle.fit_cache.specs.Adding.{Sound};
+ghost use Rattle.fit_cache.specs.Cache.{Fresh};
+ghost use Rattle.fit_cache.specs.Tries.{taskAt};
 ghost use Rattle.saddle_point.specs.Ending.{Ends};
 
 // A cache with no fit in it.

@@ -9,7 +9,7 @@ use mir.Val.{toZ, ofZ}
 use borrow.Author.Tests.{le-leb, lt-leb}
 use Rattle.imageview.specs.Image.{Image, imageOf, isImage}
 use Rattle.imageview.specs.Patch.{inside, supportsPatch}
-use Rattle.saddle_fit.specs.declared.Seed.{Seed}
+use Rattle.fit_cache.specs.declared.Seed.{Seed}
 use Rattle.saddle_point.specs.Refine.{centreOf, goodLimits}
 use Rattle.saddle_point.specs.Admission.{seedOf}
 use Rattle.saddle_point.proofs.EntryLaws.{chosen, both-true, inside-fits, centre-is, supported, same-seed}
