@@ -2,6 +2,7 @@
 //! are the thread's time on the processor: on a busy computer the clock on the
 //! wall would count the work of others, the more the longer a call takes.
 
+mod peaks;
 mod refine;
 
 use crate::port;
@@ -257,8 +258,9 @@ fn merges() -> bool {
 /// A table by its name.
 type Table = (&'static str, fn() -> bool);
 
-const TABLES: [Table; 3] = [
+const TABLES: [Table; 4] = [
     ("response", responses),
+    ("peaks", peaks::table),
     ("merge", merges),
     ("refine", refine::tables),
 ];

@@ -24,26 +24,33 @@ struct Board {
 const ACROSS: [f32; 2] = [24.0, 3.0];
 const DOWN: [f32; 2] = [-3.0, 24.0];
 
+/// The board's image with noise of up to so many levels, by a seed.
+pub fn board(seed: u64, levels: i64) -> oracle::types::Image {
+    let [w, h] = SIZE;
+    let det = ACROSS[0] * DOWN[1] - ACROSS[1] * DOWN[0];
+    let lit = |x: f32, y: f32| {
+        let i = ((x * DOWN[1] - y * DOWN[0]) / det).floor() as i32;
+        let j = ((y * ACROSS[0] - x * ACROSS[1]) / det).floor() as i32;
+        (i + j) & 1 == 0
+    };
+    let mut bytes = Vec::new();
+    for k in 0..w * h {
+        let (x, y) = ((k % w) as f32, (k / w) as f32);
+        let points = (0..64).filter(|p| {
+            let at = |p: usize| (p % 8) as f32 / 4.0 - 0.875;
+            lit(x + at(*p), y + at(*p / 8))
+        });
+        bytes.push(40 + (points.count() * 160 / 64) as u8);
+    }
+    let mut image = oracle::types::Image::new(w, h, bytes);
+    pictures::shake(&mut Random::of(seed, "bench"), &mut image, levels);
+    image
+}
+
 impl Board {
     fn new() -> Self {
         let [w, h] = SIZE;
-        let det = ACROSS[0] * DOWN[1] - ACROSS[1] * DOWN[0];
-        let lit = |x: f32, y: f32| {
-            let i = ((x * DOWN[1] - y * DOWN[0]) / det).floor() as i32;
-            let j = ((y * ACROSS[0] - x * ACROSS[1]) / det).floor() as i32;
-            (i + j) & 1 == 0
-        };
-        let mut bytes = Vec::new();
-        for k in 0..w * h {
-            let (x, y) = ((k % w) as f32, (k / w) as f32);
-            let points = (0..64).filter(|p| {
-                let at = |p: usize| (p % 8) as f32 / 4.0 - 0.875;
-                lit(x + at(*p), y + at(*p / 8))
-            });
-            bytes.push(40 + (points.count() * 160 / 64) as u8);
-        }
-        let mut image = oracle::types::Image::new(w, h, bytes);
-        pictures::shake(&mut Random::of(1, "bench"), &mut image, 3);
+        let image = board(1, 3);
         let mut corners = Vec::new();
         for j in -30i32..60 {
             for i in -30i32..60 {
