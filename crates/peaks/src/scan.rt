@@ -61,7 +61,20 @@ fn first_of_eight(response: &[f32], start: usize, floor: f32) -> usize
     found
 }
 
-// The first value from column x on, short of `end`, that exceeds the floor; eight columns at a time.
+// The first value from column x on, short of `end`, that exceeds the floor. Where such values lie close, that is x itself.
+fn next_above(response: &[f32], floor: f32, base: usize, x: usize, end: usize) -> usize
+    requires { ⌜ (base + end ≤ length (now response)) × (x ≤ 8192) × (end ≤ 4096) ⌝ }
+    ensures { λ r. ⌜ Low (now (response .entry)) floor base x r ⌝ }
+{
+    if x < end {
+        if floor < response[base + x] {
+            return x;
+        }
+    }
+    seek(response, floor, base, x, end)
+}
+
+// The same, eight columns at a time.
 fn seek(response: &[f32], floor: f32, base: usize, x: usize, end: usize) -> usize
     requires { ⌜ (base + end ≤ length (now response)) × (x ≤ 8192) × (end ≤ 4096) ⌝ }
     ensures { λ r. ⌜ Low (now (response .entry)) floor base x r ⌝ }
@@ -99,14 +112,14 @@ fn first_in(response: &[f32], rule: Rule, floor: f32, y: usize, from: usize, end
 {
     let window = rule.window;
     let base = y * rule.width;
-    let mut x = seek(response, floor, base, from, end);
+    let mut x = next_above(response, floor, base, from, end);
     while x < end {
         let v = response[base + x];
         let run = window::run_ahead(response, base + x + 1, window, v);
         if is_peak(response, rule, floor, run, x, y) {
             return x;
         }
-        x = seek(response, floor, base, x + run + 1, end);
+        x = next_above(response, floor, base, x + run + 1, end);
     }
     rule.width
 }

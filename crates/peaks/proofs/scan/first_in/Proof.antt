@@ -20,11 +20,11 @@ abbrev μ-loop : tie.MeasureT-loop
 mul-base : tie.Need-mul-base Inv-loop μ-loop
 mul-base c = omega (arith, row-fits (c .before .before .pre) .1)
 
-seek-requires : tie.Need-seek-requires Inv-loop μ-loop
-seek-requires c κs = let f = row-fits (c .before .before .pre) in (f .0, let h = f .2 in omega arith, f .3)
+next-above-requires : tie.Need-next-above-requires Inv-loop μ-loop
+next-above-requires c κs = let f = row-fits (c .before .before .pre) in (f .0, let h = f .2 in omega arith, f .3)
 
 loop-holds : tie.Need-loop-holds Inv-loop μ-loop
-loop-holds c = (c .seek .ensures .on, passed-first (c .before .before .before .pre) (c .seek .result) (c .seek .ensures))
+loop-holds c = (c .next-above .ensures .on, passed-first (c .before .before .before .pre) (c .next-above .result) (c .next-above .ensures))
 
 add-v : tie.Need-add-v Inv-loop μ-loop
 add-v c =
@@ -70,29 +70,29 @@ returns c =
     let l = c .before .before .before .before .before .loop in
     record { low = l .inv .0; passed = λ k h m u. l .inv .1 k h u; most = let e = c .before .before .before .before .before .before .before .before .before .pre .right in let t = c .before .before .before .before .loop-test .taken in omega arith; hit = λ h. sym (c .before .is-peak .ensures) ∙ c .if1 .taken }
 
-add-seek : tie.Need-add-seek Inv-loop μ-loop
-add-seek c =
+add-next-above : tie.Need-add-next-above Inv-loop μ-loop
+add-next-above c =
     let f = row-fits (c .before .before .before .before .before .before .before .before .before .pre) in
     omega (arith, f .3, c .before .before .before .before .loop-test .taken, c .before .before .run-ahead .ensures .most, c .before .before .before .before .before .before .before .before .before .pre .sound .window-most)
 
-add-seek-2 : tie.Need-add-seek-2 Inv-loop μ-loop
-add-seek-2 c =
+add-next-above-2 : tie.Need-add-next-above-2 Inv-loop μ-loop
+add-next-above-2 c =
     let f = row-fits (c .before .before .before .before .before .before .before .before .before .pre) in
     omega (arith, f .3, c .before .before .before .before .loop-test .taken, c .before .before .run-ahead .ensures .most, c .before .before .before .before .before .before .before .before .before .pre .sound .window-most)
 
-seek-requires-2 : tie.Need-seek-requires-2 Inv-loop μ-loop
-seek-requires-2 c κs =
+next-above-requires-2 : tie.Need-next-above-requires-2 Inv-loop μ-loop
+next-above-requires-2 c κs =
     let f = row-fits (c .before .before .before .before .before .before .before .before .before .pre) in
     (f .0, omega (arith, f .3, c .before .before .before .before .loop-test .taken, c .before .before .run-ahead .ensures .most, c .before .before .before .before .before .before .before .before .before .pre .sound .window-most), f .3)
 
 loop-less : tie.Need-loop-less Inv-loop μ-loop
-loop-less c = let h = c .seek2 .ensures .on in omega (arith, c .before .before .before .before .before .loop-test .taken)
+loop-less c = let h = c .next-above2 .ensures .on in omega (arith, c .before .before .before .before .before .loop-test .taken)
 
 loop-again : tie.Need-loop-again Inv-loop μ-loop
 loop-again c =
     let l = c .before .before .before .before .before .before .loop in (
-      let h = c .seek2 .ensures .on in let i = l .inv .0 in omega arith,
-      passed-on (c .before .before .before .before .before .before .before .before .before .before .pre) (l .x) (c .before .before .before .run-ahead .result) (c .seek2 .result) (l .inv .0) (c .before .before .before .run-ahead .ensures) (sym (c .before .before .is-peak .ensures) ∙ c .before .if1 .left) (c .seek2 .ensures) (l .inv .1),
+      let h = c .next-above2 .ensures .on in let i = l .inv .0 in omega arith,
+      passed-on (c .before .before .before .before .before .before .before .before .before .before .pre) (l .x) (c .before .before .before .run-ahead .result) (c .next-above2 .result) (l .inv .0) (c .before .before .before .run-ahead .ensures) (sym (c .before .before .is-peak .ensures) ∙ c .before .if1 .left) (c .next-above2 .ensures) (l .inv .1),
     )
 
 returns-2 : tie.Need-returns-2 Inv-loop μ-loop
@@ -107,7 +107,7 @@ first-in-spec =
     Inv-loop
     μ-loop
     mul-base
-    seek-requires
+    next-above-requires
     loop-holds
     add-v
     mul-v
@@ -117,9 +117,9 @@ first-in-spec =
     run-ahead-requires
     is-peak-requires
     returns
-    add-seek
-    add-seek-2
-    seek-requires-2
+    add-next-above
+    add-next-above-2
+    next-above-requires-2
     loop-less
     loop-again
     returns-2)
