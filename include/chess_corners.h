@@ -10,7 +10,10 @@
  * one of that many elements for as long as the call lasts, aligned for its type and not null, also where the
  * number is 0; and a buffer that is written must share no element with any other of the same call.
  *
- * Numbers, in the order in which a call looks:
+ * Stack, on x86-64, as compiled for release (docs/SPEED.md): response 1.4 KiB, peaks 17 KiB, fit_operator 11 KiB, refine 16.5 KiB,
+ * refine_with 3 KiB, refine_list 17 KiB, merge 0.3 KiB. No call recurses. Scratch: only the merge asks for any, heads and links.
+ *
+ * Numbers:
  *    0 Accepted        1 Rejected: the first fit lies outside the box about the seed
  *    2 OutOfBounds: the patch at the rounded seed leaves the image
  *    3 IllConditioned: no fit operator (radius 0), or the first fit is refused
