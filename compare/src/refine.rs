@@ -55,8 +55,7 @@ pub struct Left {
 }
 
 /// The operator of a radius, lent to many calls. What the radius does not use
-/// is NaN; where there is no operator all is finite, as with a NaN in it the
-/// lent one has no sums that are zero at radius 0.
+/// is NaN, all of it where there is no operator.
 struct Operator {
     columns: [f32; port::COLUMNS],
     overlap: [f32; port::OVERLAP],
@@ -64,10 +63,9 @@ struct Operator {
 
 impl Operator {
     fn of(radius: usize) -> Self {
-        let unused = if radius == 0 { PAINT_F } else { f32::NAN };
         let mut op = Operator {
-            columns: [unused; port::COLUMNS],
-            overlap: [unused; port::OVERLAP],
+            columns: [f32::NAN; port::COLUMNS],
+            overlap: [f32::NAN; port::OVERLAP],
         };
         port::fit_operator(radius, &mut op.columns, &mut op.overlap);
         op
