@@ -1,5 +1,3 @@
 -- Laws of the face.
 pub mod FaceLaws
 pub mod SeedLaws
-pub mod Marked
-pub mod Road

@@ -1,5 +1,4 @@
--- Laws and closed cases of the refiner.
-pub mod Cases
+-- Laws of the refiner.
 pub mod StepLaws
 pub mod ClosingLaws
 pub mod EntryLaws
