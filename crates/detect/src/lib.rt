@@ -4,6 +4,7 @@ mod list;
 ghost use mathlib.Core.Path.{_≡_};
 ghost use Rattle.imageview.specs.Image.{imageOf};
 ghost use Rattle.detect.specs.Refining.{Done};
+use imageview::Sizes;
 use saddle_fit::SaddlePointConfig;
 
 // How the call ended, by document 01's names.
@@ -20,15 +21,14 @@ pub enum Refinements {
 // Refines the corners, x, y and strength of each, and writes those that are accepted, in input order with their own strength.
 pub fn refine_corners_on_image(
     img: &[u8],
-    width: usize,
-    height: usize,
+    sizes: Sizes,
     cfg: SaddlePointConfig,
     corners: &[f32],
     out: &mut [f32],
 ) -> Refinements
-    ensures { λ r. ⌜ Done (imageOf (now (img .entry)) width height) cfg (now (corners .entry)) (now (out .entry)) r (now (out .exit)) ⌝ }
+    ensures { λ r. ⌜ Done (imageOf (now (img .entry)) sizes) cfg (now (corners .entry)) (now (out .entry)) r (now (out .exit)) ⌝ }
 {
-    if !imageview::is_image(img, width, height) {
+    if !imageview::is_image(img, sizes) {
         return Refinements::BadImage;
     }
     if 7 < cfg.radius {
@@ -47,5 +47,5 @@ pub fn refine_corners_on_image(
     if out.len() < len {
         return Refinements::BadOut;
     }
-    Refinements::Refined(list::refine_list(img, width, height, cfg, corners, out) / 3)
+    Refinements::Refined(list::refine_list(img, sizes, cfg, corners, out) / 3)
 }

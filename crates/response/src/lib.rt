@@ -1,10 +1,13 @@
 // The ChESS response of an image over a region, after `response.rs`.
 ghost use mathlib.Core.Path.{_≡_};
+ghost use Rattle.imageview.specs.Image.{imageOf};
 ghost use Rattle.response.specs.Call.{Done, regionOf};
 
 mod region;
 mod ring;
 mod row;
+
+use imageview::Sizes;
 
 // A region from (x0, y0) up to but without (x1, y1).
 pub struct Roi {
@@ -28,16 +31,15 @@ pub enum Response {
 // pairs (dx, dy); +0.0 is written where the pixel has not the radius of pixels on all four sides.
 pub fn chess_response_u8_patch(
     img: &[u8],
-    width: usize,
-    height: usize,
+    sizes: Sizes,
     ring: &[i32; 32],
     radius: usize,
     roi: Roi,
     out: &mut [f32],
 ) -> Response
-    ensures { λ r. ⌜ Done (record { samples = now (img .entry); width = width; height = height }) (now (ring .entry)) radius (regionOf roi) (now (out .entry)) r (now (out .exit)) ⌝ }
+    ensures { λ r. ⌜ Done (imageOf (now (img .entry)) sizes) (now (ring .entry)) radius (regionOf roi) (now (out .entry)) r (now (out .exit)) ⌝ }
 {
-    if !imageview::is_image(img, width, height) {
+    if !imageview::is_image(img, sizes) {
         return Response::BadImage;
     }
     if radius < 1 {
@@ -56,5 +58,5 @@ pub fn chess_response_u8_patch(
     if roi.y1 <= roi.y0 {
         return Response::EmptyRoi;
     }
-    region::write_clamped(img, width, height, &offsets, radius, roi, out)
+    region::write_clamped(img, sizes, &offsets, radius, roi, out)
 }

@@ -17,7 +17,7 @@ use borrow.Author.Tests.{leb-true, ltb-true}
 use Rattle.floats.specs.Whole.{roundAway}
 use Rattle.imageview.specs.Image.{Image, isImage}
 use Rattle.imageview.specs.Patch.{inside, supportsPatch}
-use Rattle.imageview.proofs.ImageLaws.{Good, good}
+use Rattle.imageview.proofs.ImageLaws as images
 use Rattle.saddle_fit.specs.declared.SaddlePointConfig.{SaddlePointConfig}
 use Rattle.saddle_fit.specs.declared.PatchSaddle.{PatchSaddle}
 use Rattle.fit_cache.specs.declared.Seed.{Seed}
@@ -34,7 +34,7 @@ use Rattle.saddle_fit.specs.Fit.{Fit, fitted, fitAt, coefficients}
 use Rattle.saddle_fit.specs.Solve.{solve}
 use Rattle.saddle_fit.specs.Run.{Task, nearAlong, nearSeed, runOf}
 use Rattle.saddle_point.specs.Refine.{goodLimits, centreOf, taskOf, finished, fromSaddle, fromFit, refineWith, lentWith, refineLent, withOperator, tested, refineOf}
-use Rattle.fit_cache.specs.Adding.{Sound, Within}
+use Rattle.fit_cache.specs.Adding.{Sound, PatchWithin}
 use Rattle.fit_cache.specs.Tries.{taskAt}
 use Rattle.saddle_point.specs.Admission.{seedOf, admitOf, fittedWith, freshFit}
 use Rattle.fit_cache.proofs.CacheLaws.{there}
@@ -57,16 +57,15 @@ inside-high : (radius n : ℕ) (z : ℤ) → inside radius n z ≡ true → natA
 inside-high radius n (pos c) h = ltb-true (c + radius) n (both-true (leb radius c) (ltb (c + radius) n) h .1)
 inside-high radius n (negsuc c) h = absurd (subst differs (sym h) tt)
 
-pub inside-fits : (radius n : ℕ) (z : ℤ) → inside radius n z ≡ true → Fits w64 n → T (nonNeg z) × Fits w64 (natAbs z)
-inside-fits radius n z h f = (subst (λ (v : ℤ). T (nonNeg v)) (sym (inside-is radius n z h)) tt, record { fits = omega (arith, inside-high radius n z h, f .fits) })
+pub inside-fits : (radius n : ℕ) (z : ℤ) → inside radius n z ≡ true → n ≤ 4096 → T (nonNeg z) × Fits w64 (natAbs z)
+inside-fits radius n z h most = (subst (λ (v : ℤ). T (nonNeg v)) (sym (inside-is radius n z h)) tt, record { fits = omega (arith, inside-high radius n z h) })
 
-pub within-of : (img : Image) (radius : ℕ) (z w : ℤ) → isImage img ≡ true → leb radius 7 ≡ true → supportsPatch img radius z w ≡ true → Within img radius (natAbs z) (natAbs w)
+pub within-of : (img : Image) (radius : ℕ) (z w : ℤ) → isImage img ≡ true → leb radius 7 ≡ true → supportsPatch img radius z w ≡ true → PatchWithin img radius (natAbs z) (natAbs w)
 unfolding supportsPatch
 within-of img radius z w i r p =
-    let g : Good img = good img (subst T (sym i) tt) in
     let both = both-true (inside radius (img .width) z) (inside radius (img .height) w) p in
     record {
-      sound = record { count = g .count; wide = g .width-most; high = g .height-most; small = leb-true radius 7 r };
+      sound = record { image = images.tested img (subst T (sym i) tt); small = leb-true radius 7 r };
       left = inside-low radius (img .width) z (both .0);
       right = inside-high radius (img .width) z (both .0);
       above = inside-low radius (img .height) w (both .1);
@@ -142,9 +141,9 @@ module _ (img : Image) (cfg : SaddlePointConfig) (x y : Float) (seed : Seed) (h 
   tests : Passed (isImage img) (leb (cfg .radius) 7) (supportsPatch img (cfg .radius) (centreOf x) (centreOf y)) (seedOf x y) seed
   tests = passed (isImage img) (leb (cfg .radius) 7) (goodLimits cfg) (supportsPatch img (cfg .radius) (centreOf x) (centreOf y)) (seedOf x y) seed h
 
-  pub good-within : Within img (cfg .radius) (seed .«centre_x») (seed .«centre_y»)
+  pub good-within : PatchWithin img (cfg .radius) (seed .«centre_x») (seed .«centre_y»)
   good-within =
-      subst (λ (s : Seed). Within img (cfg .radius) (s .«centre_x») (s .«centre_y»)) (sym (tests .seed))
+      subst (λ (s : Seed). PatchWithin img (cfg .radius) (s .«centre_x») (s .«centre_y»)) (sym (tests .seed))
       (within-of img (cfg .radius) (centreOf x) (centreOf y) (tests .image) (tests .radius) (tests .patch))
 
   centre-x : centreOf x ≡ pos (natAbs (centreOf x))

@@ -46,9 +46,9 @@ OfTried t passed = Unit
 OfTried t (taken s) = Boxed t s
 
 -- how a run ends: at a stand in the box, after at most so many tries
-abbrev pub Within : Task → ℕ → Finish → Type 0
-Within t most (atStart n) = n ≤ most
-Within t most (atStand s n) = Boxed t s × (n ≤ most)
+abbrev pub EndsBoxed : Task → ℕ → Finish → Type 0
+EndsBoxed t most (atStart n) = n ≤ most
+EndsBoxed t most (atStand s n) = Boxed t s × (n ≤ most)
 
 module _ (t : Task) where
   -- ---- one candidate
@@ -91,11 +91,11 @@ module _ (t : Task) where
   search-few (suc left) f ox oy m scale = else-few left (candidate t f (ox ⊕ scale ⊗ m .x) (oy ⊕ scale ⊗ m .y)) (searchFrom left t f ox oy m (scale ⊗ half)) (search-few left f ox oy m (scale ⊗ half))
 
   -- ---- the steps
-  picked-within : (most : ℕ) (o : Tried) (go : Stand → Finish) (stay : Finish) → OfTried t o → ((s : Stand) → Boxed t s → Within t most (go s)) → Within t most stay → Within t most (picked o go stay)
+  picked-within : (most : ℕ) (o : Tried) (go : Stand → Finish) (stay : Finish) → OfTried t o → ((s : Stand) → Boxed t s → EndsBoxed t most (go s)) → EndsBoxed t most stay → EndsBoxed t most (picked o go stay)
   picked-within most passed go stay p q r = r
   picked-within most (taken s) go stay p q r = q s p
 
-  either : (most : ℕ) (b : Bool) (e f : Finish) → Within t most e → Within t most f → Within t most (cond b e f)
+  either : (most : ℕ) (b : Bool) (e f : Finish) → EndsBoxed t most e → EndsBoxed t most f → EndsBoxed t most (cond b e f)
   either most true e f p q = p
   either most false e f p q = q
 
@@ -105,7 +105,7 @@ module _ (t : Task) where
   here : (n left most : ℕ) → n + 4 * left ≤ most → n ≤ most
   here n left most h = omega arith
 
-  steps-within : (most left : ℕ) (s : Stand) (n : ℕ) → Boxed t s → n + 4 * left ≤ most → Within t most (stepsFrom left t s n)
+  steps-within : (most left : ℕ) (s : Stand) (n : ℕ) → Boxed t s → n + 4 * left ≤ most → EndsBoxed t most (stepsFrom left t s n)
   unfolding stepsFrom
   steps-within most zero s n b h = (b, here n zero most h)
   steps-within most (suc left) s n b h =
@@ -115,7 +115,7 @@ module _ (t : Task) where
       (b, here n (suc left) most h)
       (picked-within most (r .outcome) (λ s'. stepsFrom left t s' (n + r .count)) (atStand s (n + r .count)) (search-boxed 4 (s .fit) (s .ox) (s .oy) (laterMove s) one32) (λ s' b'. steps-within most left s' (n + r .count) b' k) (b, here (n + r .count) left most k))
 
-  pub run-within : (f : PatchSaddle) → Within t 64 (runOf t f)
+  pub run-within : (f : PatchSaddle) → EndsBoxed t 64 (runOf t f)
   unfolding runOf
   run-within f =
       let m : Move = record { x = f .ux; y = f .uy } in
@@ -163,7 +163,7 @@ module _ (t : Task) (overlap : List Float) (wanted : Bool) (good : goodLimit (t 
   centre-sound w f n noSlope p h = record { score = scored f p; tries = h }
   centre-sound w f n (sloped s) p h = closed-sound zero32 zero32 w f n s p h
 
-  finished-sound : (f : PatchSaddle) (e : Finish) → Solves (t .cfg) f → Within t 64 e → Sound (finished t overlap wanted f e)
+  finished-sound : (f : PatchSaddle) (e : Finish) → Solves (t .cfg) f → EndsBoxed t 64 e → Sound (finished t overlap wanted f e)
   finished-sound f (atStart n) p h =
       let l = slopeAt (t .img) (t .columns) (t .cfg .radius) (t .centreX) (t .centreY) in
       let w = placeOf (t .centreX) (t .centreY) zero32 zero32 in

@@ -33,7 +33,7 @@ closed-requires c κs = (column (c .before .before .before .before .before .befo
 returns-2 : tie.Need-returns-2
 returns-2 c =
     let a = c .before .before .before .before .before .before .before .before .before .args in
-    ends-closed (imageOf (a .img .now) (a .width) (a .height)) (a .columns .now) (a .overlap .now) (a .cfg) (a .seed) (a .first) (a .wanted) (c .before .before .before .before .before .run .result) (c .before .before .before .before .before .run .ensures) (c .closed .result) (c .before .slope-within .result) (c .before .before .before .before .if2 .taken) (c .before .slope-within .ensures) (c .closed .ensures)
+    ends-closed (imageOf (a .img .now) (a .sizes)) (a .columns .now) (a .overlap .now) (a .cfg) (a .seed) (a .first) (a .wanted) (c .before .before .before .before .before .run .result) (c .before .before .before .before .before .run .ensures) (c .closed .result) (c .before .slope-within .result) (c .before .before .before .before .if2 .taken) (c .before .slope-within .ensures) (c .closed .ensures)
 
 single-at-requires : tie.Need-single-at-requires
 single-at-requires c κs = (column (c .before .before .before .before .before .pre .0), row (c .before .before .before .before .before .pre .0))
@@ -41,7 +41,7 @@ single-at-requires c κs = (column (c .before .before .before .before .before .p
 returns-3 : tie.Need-returns-3
 returns-3 c =
     let a = c .before .before .before .before .before .before .args in
-    ends-first (imageOf (a .img .now) (a .width) (a .height)) (a .columns .now) (a .overlap .now) (a .cfg) (a .seed) (a .first) (a .wanted) (c .before .before .run .result) (c .before .before .run .ensures) (c .single-at .result) (c .before .if2 .left) (c .single-at .ensures)
+    ends-first (imageOf (a .img .now) (a .sizes)) (a .columns .now) (a .overlap .now) (a .cfg) (a .seed) (a .first) (a .wanted) (c .before .before .run .result) (c .before .before .run .ensures) (c .single-at .result) (c .before .if2 .left) (c .single-at .ensures)
 
 pub estimate-spec : {M : Type 1} → statement M
 estimate-spec =

@@ -7,6 +7,8 @@ use lib.IntN.{ℤ, natAbs}
 use mir.Syntax.{w32}
 use mir.Val.{toZ, ofZ}
 use borrow.Author.Tests.{le-leb, lt-leb}
+use Rattle.imageview.specs.Steps.{Tested}
+use Rattle.imageview.proofs.ImageLaws.{tested, passed}
 use Rattle.imageview.specs.Image.{Image, imageOf, isImage}
 use Rattle.imageview.specs.Patch.{inside, supportsPatch}
 use Rattle.fit_cache.specs.declared.Seed.{Seed}
@@ -22,7 +24,7 @@ is-image-requires c κs = search needs
 returns : tie.Need-returns
 returns c =
     let a = c .before .before .before .before .before .args in
-    let img : Image = imageOf (a .img .now) (a .width) (a .height) in
+    let img : Image = imageOf (a .img .now) (a .sizes) in
     let r : Bool = leb (a .cfg .radius) 7 in
     let l : Bool = goodLimits (a .cfg) in
     let p : Bool = supportsPatch img (a .cfg .radius) (centreOf (a .x)) (centreOf (a .y)) in
@@ -46,24 +48,28 @@ f32-to-i32-requires-2 c κs = search needs
 supports-patch-requires : tie.Need-supports-patch-requires
 supports-patch-requires c κs = search needs
 
+-- an image that passed the first test
+image-of : (c : tie.Then1) → Tested (imageOf (c .before .before .before .args .img .now) (c .before .before .before .args .sizes))
+image-of c = tested (imageOf (c .before .before .before .args .img .now) (c .before .before .before .args .sizes)) (passed (sym (c .before .is-image .ensures) ∙ c .if1 .taken))
+
+cast-t13 : tie.Need-cast-t13
+cast-t13 c =
+    let s = c .before .before .before .before .before .before .before .before .before .before .before .before .before in
+    let z : ℤ = toZ w32 (ofZ w32 (c .before .before .before .before .f32-to-i32 .result)) in
+    let w : ℤ = toZ w32 (ofZ w32 (c .before .before .f32-to-i322 .result)) in
+    inside-fits (s .args .cfg .radius) (s .args .sizes .width) z (both-true (inside (s .args .cfg .radius) (s .args .sizes .width) z) (inside (s .args .cfg .radius) (s .args .sizes .height) w) (sym (c .before .supports-patch .ensures) ∙ c .if4 .taken) .0) (image-of (c .before .before .before .before .before .before .before .before .before .before) .sized .width-most)
+
 cast-t14 : tie.Need-cast-t14
 cast-t14 c =
     let s = c .before .before .before .before .before .before .before .before .before .before .before .before .before in
     let z : ℤ = toZ w32 (ofZ w32 (c .before .before .before .before .f32-to-i32 .result)) in
     let w : ℤ = toZ w32 (ofZ w32 (c .before .before .f32-to-i322 .result)) in
-    inside-fits (s .args .cfg .radius) (s .args .width) z (both-true (inside (s .args .cfg .radius) (s .args .width) z) (inside (s .args .cfg .radius) (s .args .height) w) (sym (c .before .supports-patch .ensures) ∙ c .if4 .taken) .0) (s .fits .width)
-
-cast-t15 : tie.Need-cast-t15
-cast-t15 c =
-    let s = c .before .before .before .before .before .before .before .before .before .before .before .before .before in
-    let z : ℤ = toZ w32 (ofZ w32 (c .before .before .before .before .f32-to-i32 .result)) in
-    let w : ℤ = toZ w32 (ofZ w32 (c .before .before .f32-to-i322 .result)) in
-    inside-fits (s .args .cfg .radius) (s .args .height) w (both-true (inside (s .args .cfg .radius) (s .args .width) z) (inside (s .args .cfg .radius) (s .args .height) w) (sym (c .before .supports-patch .ensures) ∙ c .if4 .taken) .1) (s .fits .height)
+    inside-fits (s .args .cfg .radius) (s .args .sizes .height) w (both-true (inside (s .args .cfg .radius) (s .args .sizes .width) z) (inside (s .args .cfg .radius) (s .args .sizes .height) w) (sym (c .before .supports-patch .ensures) ∙ c .if4 .taken) .1) (image-of (c .before .before .before .before .before .before .before .before .before .before) .sized .height-most)
 
 returns-2 : tie.Need-returns-2
 returns-2 c =
     let a = c .before .before .before .before .before .before .before .before .before .before .before .before .before .args in
-    let img : Image = imageOf (a .img .now) (a .width) (a .height) in
+    let img : Image = imageOf (a .img .now) (a .sizes) in
     let r : Bool = leb (a .cfg .radius) 7 in
     let l : Bool = goodLimits (a .cfg) in
     let p : Bool = supportsPatch img (a .cfg .radius) (centreOf (a .x)) (centreOf (a .y)) in
@@ -80,7 +86,7 @@ returns-2 c =
 returns-3 : tie.Need-returns-3
 returns-3 c =
     let a = c .before .before .before .before .before .before .before .before .before .before .before .before .before .args in
-    let img : Image = imageOf (a .img .now) (a .width) (a .height) in
+    let img : Image = imageOf (a .img .now) (a .sizes) in
     let r : Bool = leb (a .cfg .radius) 7 in
     let l : Bool = goodLimits (a .cfg) in
     let p : Bool = supportsPatch img (a .cfg .radius) (centreOf (a .x)) (centreOf (a .y)) in
@@ -96,7 +102,7 @@ returns-3 c =
 returns-4 : tie.Need-returns-4
 returns-4 c =
     let a = c .before .before .before .before .before .before .before .args in
-    let img : Image = imageOf (a .img .now) (a .width) (a .height) in
+    let img : Image = imageOf (a .img .now) (a .sizes) in
     let r : Bool = leb (a .cfg .radius) 7 in
     let l : Bool = goodLimits (a .cfg) in
     let p : Bool = supportsPatch img (a .cfg .radius) (centreOf (a .x)) (centreOf (a .y)) in
@@ -107,7 +113,7 @@ returns-4 c =
 returns-5 : tie.Need-returns-5
 returns-5 c =
     let a = c .before .before .before .args in
-    let img : Image = imageOf (a .img .now) (a .width) (a .height) in
+    let img : Image = imageOf (a .img .now) (a .sizes) in
     let r : Bool = leb (a .cfg .radius) 7 in
     let l : Bool = goodLimits (a .cfg) in
     let p : Bool = supportsPatch img (a .cfg .radius) (centreOf (a .x)) (centreOf (a .y)) in
@@ -125,8 +131,8 @@ admit-spec =
     round-f32-requires-2
     f32-to-i32-requires-2
     supports-patch-requires
+    cast-t13
     cast-t14
-    cast-t15
     returns-2
     returns-3
     returns-4

@@ -15,7 +15,7 @@ enum-known-admitted c = search needs
 refine-fresh-requires : tie.Need-refine-fresh-requires
 refine-fresh-requires c κs =
     let a = c .before .before .before .before .before .args in
-    good-within (imageOf (a .img .now) (a .width) (a .height)) (a .cfg) (a .x) (a .y) (c .before .admitted .given .0 .0) (sym (c .before .before .before .admit .ensures) ∙ c .before .admitted .given .1)
+    good-within (imageOf (a .img .now) (a .sizes)) (a .cfg) (a .x) (a .y) (c .before .admitted .given .0 .0) (sym (c .before .before .before .admit .ensures) ∙ c .before .admitted .given .1)
 
 enum-told : tie.Need-enum-told
 enum-told c = search needs
@@ -33,27 +33,27 @@ returns : tie.Need-returns
 returns c =
     let a = c .before .before .before .before .before .before .args in
     c .refine-fresh .ensures
-    ∙ good-refined (imageOf (a .img .now) (a .width) (a .height)) (a .cfg) (a .x) (a .y) (c .before .before .admitted .given .0 .0) (sym (c .before .before .before .before .admit .ensures) ∙ c .before .before .admitted .given .1) (a .wanted)
+    ∙ good-refined (imageOf (a .img .now) (a .sizes)) (a .cfg) (a .x) (a .y) (c .before .before .admitted .given .0 .0) (sym (c .before .before .before .before .admit .ensures) ∙ c .before .before .admitted .given .1) (a .wanted)
 
 returns-2 : tie.Need-returns-2
 returns-2 c =
     let a = c .before .before .before .before .args in
-    other-refined (imageOf (a .img .now) (a .width) (a .height)) (a .cfg) (a .x) (a .y) (a .wanted) _ (sym (c .before .before .admit .ensures) ∙ c .enum-told .given .1)
+    other-refined (imageOf (a .img .now) (a .sizes)) (a .cfg) (a .x) (a .y) (a .wanted) _ (sym (c .before .before .admit .ensures) ∙ c .enum-told .given .1)
 
 returns-3 : tie.Need-returns-3
 returns-3 c =
     let a = c .before .before .before .before .args in
-    other-refined (imageOf (a .img .now) (a .width) (a .height)) (a .cfg) (a .x) (a .y) (a .wanted) _ (sym (c .before .before .admit .ensures) ∙ c .enum-told2 .given .1)
+    other-refined (imageOf (a .img .now) (a .sizes)) (a .cfg) (a .x) (a .y) (a .wanted) _ (sym (c .before .before .admit .ensures) ∙ c .enum-told2 .given .1)
 
 returns-4 : tie.Need-returns-4
 returns-4 c =
     let a = c .before .before .before .before .args in
-    other-refined (imageOf (a .img .now) (a .width) (a .height)) (a .cfg) (a .x) (a .y) (a .wanted) _ (sym (c .before .before .admit .ensures) ∙ c .enum-told3 .given .1)
+    other-refined (imageOf (a .img .now) (a .sizes)) (a .cfg) (a .x) (a .y) (a .wanted) _ (sym (c .before .before .admit .ensures) ∙ c .enum-told3 .given .1)
 
 returns-5 : tie.Need-returns-5
 returns-5 c =
     let a = c .before .before .before .before .args in
-    other-refined (imageOf (a .img .now) (a .width) (a .height)) (a .cfg) (a .x) (a .y) (a .wanted) _ (sym (c .before .before .admit .ensures) ∙ c .enum-told4 .given .1)
+    other-refined (imageOf (a .img .now) (a .sizes)) (a .cfg) (a .x) (a .y) (a .wanted) _ (sym (c .before .before .admit .ensures) ∙ c .enum-told4 .given .1)
 
 pub refine-spec : {M : Type 1} → statement M
 refine-spec =
