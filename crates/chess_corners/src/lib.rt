@@ -46,11 +46,7 @@ pub extern "C" fn chess_corners_response(
             *out_height = height;
             0
         }
-        Response::BadImage => 10,
-        Response::BadRadius => 11,
-        Response::BadRing => 13,
-        Response::EmptyRoi => 14,
-        Response::BadOut => 15,
+        Response::Refused(refusal) => refusals::number(refusal),
     }
 }
 
@@ -146,11 +142,6 @@ pub extern "C" fn chess_corners_refine_list(
             *count = accepted;
             0
         }
-        Refinements::BadImage => 10,
-        Refinements::BadRadius => 11,
-        Refinements::BadLimit => 12,
-        Refinements::BadLength => 19,
-        Refinements::TooMany => 16,
-        Refinements::BadOut => 15,
+        Refinements::Refused(refusal) => refusals::number(refusal),
     }
 }

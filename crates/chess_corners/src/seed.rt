@@ -109,21 +109,11 @@ fn tell(
 {
     match answer {
         Refined::Accepted(e) => tell_estimate(e, x, y, place, state, covariance),
-        Refined::Rejected(det) => {
-            *place = [x, y, det];
-            1
+        Refined::Unmoved(why, score) => {
+            *place = [x, y, score];
+            saddle_point::why_number(why)
         }
-        Refined::OutOfBounds => {
-            *place = [x, y, 0.0];
-            2
-        }
-        Refined::IllConditioned(det) => {
-            *place = [x, y, det];
-            3
-        }
-        Refined::BadImage => 10,
-        Refined::BadRadius => 11,
-        Refined::BadLimit => 12,
+        Refined::Refused(refusal) => refusals::number(refusal),
     }
 }
 

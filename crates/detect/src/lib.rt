@@ -5,17 +5,13 @@ ghost use mathlib.Core.Path.{_≡_};
 ghost use Rattle.imageview.specs.Image.{imageOf};
 ghost use Rattle.detect.specs.Refining.{Done};
 use imageview::Sizes;
+use refusals::Refusal;
 use saddle_fit::SaddlePointConfig;
 
-// How the call ended, by document 01's names.
+// How the call ended.
 pub enum Refinements {
     Refined(usize),
-    BadImage,
-    BadRadius,
-    BadLimit,
-    BadLength,
-    TooMany,
-    BadOut,
+    Refused(Refusal),
 }
 
 // Refines the corners, x, y and strength of each, and writes those that are accepted, in input order with their own strength.
@@ -29,23 +25,23 @@ pub fn refine_corners_on_image(
     ensures { λ r. ⌜ Done (imageOf (now (img .entry)) sizes) cfg (now (corners .entry)) (now (out .entry)) r (now (out .exit)) ⌝ }
 {
     if !imageview::is_image(img, sizes) {
-        return Refinements::BadImage;
+        return Refinements::Refused(Refusal::BadImage);
     }
     if 7 < cfg.radius {
-        return Refinements::BadRadius;
+        return Refinements::Refused(Refusal::BadRadius);
     }
     if !saddle_point::good_limits(cfg) {
-        return Refinements::BadLimit;
+        return Refinements::Refused(Refusal::BadLimit);
     }
     let len = corners.len();
     if len % 3 != 0 {
-        return Refinements::BadLength;
+        return Refinements::Refused(Refusal::BadLength);
     }
     if 4096 < len / 3 {
-        return Refinements::TooMany;
+        return Refinements::Refused(Refusal::TooMany);
     }
     if out.len() < len {
-        return Refinements::BadOut;
+        return Refinements::Refused(Refusal::BadOut);
     }
     Refinements::Refined(list::refine_list(img, sizes, cfg, corners, out) / 3)
 }

@@ -8,8 +8,9 @@ use lib.ListN.{length}
 use lib.Ieee.{Float}
 use Rattle.imageview.specs.Image.{Image, stride}
 use Rattle.imageview.specs.Steps.{Tested}
+use Rattle.refusals.specs.declared.Refusal.the-variants.{BadOut}
 use Rattle.response.specs.declared.Response.{Response}
-use Rattle.response.specs.declared.Response.the-variants.{Written, BadOut}
+use Rattle.response.specs.declared.Response.the-variants.{Written, Refused}
 use Rattle.response.specs.Region.{Region, ringFits, clamped, widthOf, heightOf, zeroFloat}
 use Rattle.pixel_response.specs.Steps.{Wrote}
 use Rattle.response.specs.Starts.{Around, startedAt}
@@ -45,7 +46,7 @@ abbrev pub sizeFits : Image → Region → ℕ → Bool
 sizeFits img r room = eqb room (widthOf (clamped img r) * heightOf (clamped img r))
 
 pub record Clamped (img : Image) (offsets : List ℕ) (radius : ℕ) (r : Region) (out : List Float) (answer : Response) (out' : List Float) : Type 0 where
-  pub answers : answer ≡ cond (sizeFits img r (length out)) (Written (widthOf (clamped img r)) (heightOf (clamped img r))) BadOut
+  pub answers : answer ≡ cond (sizeFits img r (length out)) (Written (widthOf (clamped img r)) (heightOf (clamped img r))) (Refused BadOut)
   pub full :
       sizeFits img r (length out) ≡ true
       → Wrote zeroFloat (length out) 0 (λ i. shiftedAt img offsets radius (clamped img r .x0 + i % widthOf (clamped img r)) (clamped img r .y0 + i / widthOf (clamped img r))) out out'

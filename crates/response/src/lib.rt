@@ -8,6 +8,7 @@ mod ring;
 mod row;
 
 use imageview::Sizes;
+use refusals::Refusal;
 
 // A region from (x0, y0) up to but without (x1, y1).
 pub struct Roi {
@@ -17,14 +18,10 @@ pub struct Roi {
     pub y1: usize,
 }
 
-// How the call ended, by document 01's names.
+// How the call ended.
 pub enum Response {
     Written { width: usize, height: usize },
-    BadImage,
-    BadRadius,
-    BadRing,
-    EmptyRoi,
-    BadOut,
+    Refused(Refusal),
 }
 
 // The response over the region, written to `out`, which has the size of the region that is left within the image. The ring is sixteen
@@ -40,23 +37,23 @@ pub fn chess_response_u8_patch(
     ensures { λ r. ⌜ Done (imageOf (now (img .entry)) sizes) (now (ring .entry)) radius (regionOf roi) (now (out .entry)) r (now (out .exit)) ⌝ }
 {
     if !imageview::is_image(img, sizes) {
-        return Response::BadImage;
+        return Response::Refused(Refusal::BadImage);
     }
     if radius < 1 {
-        return Response::BadRadius;
+        return Response::Refused(Refusal::BadRadius);
     }
     if 10 < radius {
-        return Response::BadRadius;
+        return Response::Refused(Refusal::BadRadius);
     }
     let offsets = ring::offsets_of(ring);
     if !ring::are_around(&offsets, radius) {
-        return Response::BadRing;
+        return Response::Refused(Refusal::BadRing);
     }
     if roi.x1 <= roi.x0 {
-        return Response::EmptyRoi;
+        return Response::Refused(Refusal::EmptyRoi);
     }
     if roi.y1 <= roi.y0 {
-        return Response::EmptyRoi;
+        return Response::Refused(Refusal::EmptyRoi);
     }
     region::write_clamped(img, sizes, &offsets, radius, roi, out)
 }

@@ -13,6 +13,7 @@ use crate::Roi;
 use crate::ring;
 use crate::row;
 use imageview::Sizes;
+use refusals::Refusal;
 
 // +0.0 throughout.
 fn fill(out: &mut [f32])
@@ -199,7 +200,7 @@ pub fn write_clamped(
     let room = out.len();
     let size = w * h;
     if room != size {
-        return Response::BadOut;
+        return Response::Refused(Refusal::BadOut);
     }
     write_region(img, sizes, offsets, radius, x0, y0, w, h, out);
     Response::Written {

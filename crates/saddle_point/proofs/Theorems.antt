@@ -18,7 +18,7 @@ use Rattle.saddle_fit.specs.declared.Solved.the-variants.{Refused, Saddle}
 use Rattle.saddle_fit.specs.declared.Covariance.{Covariance}
 use Rattle.saddle_fit.specs.declared.Covariance.the-variants.{Unknown}
 use Rattle.saddle_fit.specs.Numbers.{_⊕_, _⊗_, zero32, one32, half}
-use Rattle.saddle_fit.specs.Fit.{Fit, noFit, fitted, fitAt}
+use Rattle.saddle_fit.specs.Fit.{coefficients}
 use Rattle.saddle_fit.specs.Solve.{solve, scoreOf, goodLimit}
 use Rattle.saddle_fit.specs.Between.{Place, placeOf, Fits, lacking, four, cornersAt, blend}
 use Rattle.saddle_fit.specs.Covariance.{covarianceOf}
@@ -27,9 +27,13 @@ use Rattle.saddle_fit.specs.Run.{Task, nearSeed, settled, norm2, Stand, Tried, 
 use Rattle.saddle_fit.proofs.SolveLaws.{score-above-zero}
 use Rattle.saddle_point.specs.declared.Estimate.{Estimate}
 use Rattle.saddle_point.specs.declared.Refined.{Refined}
-use Rattle.saddle_point.specs.declared.Refined.the-variants.{Accepted, Rejected, OutOfBounds, IllConditioned, BadImage, BadRadius, BadLimit}
-use Rattle.saddle_point.specs.Refine.{single, estimate, closed, closedAt, finished, fromSaddle, fromFit, centreOf, taskOf, refineWith, goodLimits, withOperator, tested, refineOf}
-use Rattle.saddle_point.proofs.EntryLaws.{both-true}
+use Rattle.saddle_point.specs.declared.Refined.the-variants.{Accepted, Unmoved}
+use Rattle.saddle_point.specs.declared.Refined.the-variants as Refined
+use Rattle.saddle_point.specs.declared.Why.the-variants.{Rejected}
+use Rattle.fit_cache.specs.declared.Seed.{Seed}
+use Rattle.fit_cache.specs.Tries.{taskAt}
+use Rattle.saddle_point.specs.Refine.{single, estimate, closed, closedAt, finished, fromSaddle, centreOf, seedOf, answered, goodLimits, withOperator, refineOf}
+use Rattle.saddle_point.proofs.EntryLaws.{both-true, chosen}
 
 -- a saddle of some fit
 pub record Solves (cfg : SaddlePointConfig) (f : PatchSaddle) : Type 0 where
@@ -138,12 +142,8 @@ pub record Sound (e : Estimate) : Type 0 where
 
 abbrev Answers : Refined → Type 0
 Answers (Accepted e) = Sound e
-Answers (Rejected d) = Unit
-Answers OutOfBounds = Unit
-Answers (IllConditioned d) = Unit
-Answers BadImage = Unit
-Answers BadRadius = Unit
-Answers BadLimit = Unit
+Answers (Unmoved why score) = Unit
+Answers (Refined.Refused r) = Unit
 
 module _ (t : Task) (overlap : List Float) (wanted : Bool) (good : goodLimit (t .cfg .«det_margin») ≡ true) where
   scored : (f : PatchSaddle) → Solves (t .cfg) f → lt zero32 (scoreOf f) ≡ true
@@ -172,7 +172,7 @@ module _ (t : Task) (overlap : List Float) (wanted : Bool) (good : goodLimit (t 
       pick (settled (s .fit)) (closed t overlap wanted (s .ox) (s .oy) (s .place) (s .fit) n (slopeWithin (s .corners) (s .place .tx) (s .place .ty))) (single t f n)
       (closed-sound (s .ox) (s .oy) (s .place) (s .fit) n (slopeWithin (s .corners) (s .place .tx) (s .place .ty)) (h .0 .solves) (h .1)) (record { score = scored f p; tries = h .1 })
 
-  by-box : (b : Bool) (e : Estimate) (d : Float) → Sound e → Answers (cond b (Accepted e) (Rejected d))
+  by-box : (b : Bool) (e : Estimate) (d : Float) → Sound e → Answers (cond b (Accepted e) (Unmoved Rejected d))
   by-box true e d p = p
   by-box false e d p = tt
 
@@ -180,30 +180,27 @@ module _ (t : Task) (overlap : List Float) (wanted : Bool) (good : goodLimit (t 
   saddle-sound (Refused d) l e = tt
   saddle-sound (Saddle f) l e = by-box (nearSeed t (f .ux) (f .uy)) (finished t overlap wanted f (runOf t f)) (f .«det_h») (finished-sound f (runOf t f) (record { fit = l; is = e }) (run-within t f))
 
-  fit-sound : (f : Fit) → Answers (fromFit t overlap wanted f)
-  fit-sound noFit = tt
-  fit-sound (fitted l) = saddle-sound (solve (t .cfg) l) l refl
-
 -- ---- with the tests before it
 module _ (img : Image) (cfg : SaddlePointConfig) (x y : Float) (wanted : Bool) where
-  by-way : (w : Operator.Way) → goodLimit (cfg .«det_margin») ≡ true → Answers (withOperator img cfg x y wanted w)
-  unfolding refineWith
-  by-way Operator.badRadius g = tt
-  by-way Operator.none g = tt
-  by-way (Operator.built columns overlap) g = fit-sound (taskOf img columns cfg x y) overlap wanted g (fitAt img columns (cfg .radius) (centreOf x) (centreOf y))
+  by-way : (seed : Seed) (w : Operator.Way) → goodLimit (cfg .«det_margin») ≡ true → Answers (withOperator img cfg seed wanted w)
+  by-way seed Operator.badRadius g = tt
+  by-way seed Operator.none g = tt
+  by-way seed (Operator.built columns overlap) g =
+      let l = coefficients img columns (cfg .radius) (seed .«centre_x») (seed .«centre_y») in
+      saddle-sound (taskAt img columns cfg seed) overlap wanted g (solve cfg l) l refl
 
-  by-bools : (i r l p : Bool) (a : Refined) → (l ≡ true → Answers a) → Answers (cond (not i) BadImage (cond (not r) BadRadius (cond (not l) BadLimit (cond (not p) OutOfBounds a))))
-  by-bools false r l p a h = tt
-  by-bools true false l p a h = tt
-  by-bools true true false p a h = tt
-  by-bools true true true false a h = tt
-  by-bools true true true true a h = h refl
+  by-bools : (i r l p : Bool) (seed : Seed) (go : Seed → Refined) → (l ≡ true → Answers (go seed)) → Answers (answered (chosen i r l p seed) go)
+  by-bools false r l p seed go h = tt
+  by-bools true false l p seed go h = tt
+  by-bools true true false p seed go h = tt
+  by-bools true true true false seed go h = tt
+  by-bools true true true true seed go h = h refl
 
   sound : Answers (refineOf img cfg x y wanted)
   unfolding refineOf
   sound =
-      by-bools (isImage img) (leb (cfg .radius) 7) (goodLimits cfg) (supportsPatch img (cfg .radius) (centreOf x) (centreOf y)) (withOperator img cfg x y wanted (Operator.wayOf (cfg .radius)))
-      (λ g. by-way (Operator.wayOf (cfg .radius)) (both-true (goodLimit (cfg .«det_margin»)) (goodLimit (cfg .«max_offset»)) (both-true (goodLimit (cfg .«det_margin») && goodLimit (cfg .«max_offset»)) (goodLimit (cfg .«min_abs_det»)) g .0) .0))
+      by-bools (isImage img) (leb (cfg .radius) 7) (goodLimits cfg) (supportsPatch img (cfg .radius) (centreOf x) (centreOf y)) (seedOf x y) (λ seed. withOperator img cfg seed wanted (Operator.wayOf (cfg .radius)))
+      (λ g. by-way (seedOf x y) (Operator.wayOf (cfg .radius)) (both-true (goodLimit (cfg .«det_margin»)) (goodLimit (cfg .«max_offset»)) (both-true (goodLimit (cfg .«det_margin») && goodLimit (cfg .«max_offset»)) (goodLimit (cfg .«min_abs_det»)) g .0) .0))
 
   -- every accepted score is above zero, and the tries are at most 64
   pub accepted-sound : (e : Estimate) → refineOf img cfg x y wanted ≡ Accepted e → Sound e

@@ -20,8 +20,7 @@ ghost use Rattle.saddle_fit.specs.Numbers.{_⊕_};
 ghost use Rattle.fit_cache.specs.Adding.{PatchWithin};
 ghost use Rattle.fit_cache.specs.Tries.{taskAt};
 ghost use Rattle.saddle_point.specs.declared.Spot.the-variants.{At};
-ghost use Rattle.saddle_point.specs.Refine.{lentWith, refineLent};
-ghost use Rattle.saddle_point.specs.Admission.{fittedWith};
+ghost use Rattle.saddle_point.specs.Refine.{refineWith, lentWith, refineLent};
 ghost use Rattle.saddle_point.specs.Spot.{Comes, Lands};
 
 // The spot of one seed with an operator that is lent.
@@ -38,10 +37,8 @@ pub fn spot_with(
     let admitted = entry::admit(img, sizes, cfg, x, y);
     match admitted {
         Admitted::Good(seed) => spot_lent(img, sizes, cfg, seed, columns),
-        Admitted::NoImage => Spot::Nowhere,
-        Admitted::NoRadius => Spot::Nowhere,
-        Admitted::NoLimit => Spot::Nowhere,
-        Admitted::NoPatch => Spot::Nowhere,
+        Admitted::Unmoved(_) => Spot::Nowhere,
+        Admitted::Refused(_) => Spot::Nowhere,
     }
 }
 
@@ -54,7 +51,7 @@ fn spot_lent(
     columns: &[f32; 1125],
 ) -> Spot
     requires { ⌜ PatchWithin (imageOf (now img) sizes) (cfg .radius) (seed .«centre_x») (seed .«centre_y») ⌝ }
-    ensures { λ r. ⌜ Lands (λ overlap wanted. lentWith cfg (fittedWith (imageOf (now (img .entry)) sizes) cfg seed wanted (now (columns .entry)) overlap)) r ⌝ }
+    ensures { λ r. ⌜ Lands (λ overlap wanted. lentWith cfg (refineWith (imageOf (now (img .entry)) sizes) cfg seed wanted (now (columns .entry)) overlap)) r ⌝ }
 {
     if cfg.radius == 0 {
         return Spot::Nowhere;
@@ -71,7 +68,7 @@ fn spot_of_seed(
     columns: &[f32; 1125],
 ) -> Spot
     requires { ⌜ PatchWithin (imageOf (now img) sizes) (cfg .radius) (seed .«centre_x») (seed .«centre_y») ⌝ }
-    ensures { λ r. ⌜ Lands (λ overlap wanted. fittedWith (imageOf (now (img .entry)) sizes) cfg seed wanted (now (columns .entry)) overlap) r ⌝ }
+    ensures { λ r. ⌜ Lands (λ overlap wanted. refineWith (imageOf (now (img .entry)) sizes) cfg seed wanted (now (columns .entry)) overlap) r ⌝ }
 {
     let radius = cfg.radius;
     let cx = seed.centre_x;
