@@ -5,8 +5,9 @@ use mathlib.Core.Bool.{Bool, true, false, not, cond}
 use mathlib.Core.List.{List, [], _∷_, _++_}
 use Prim.Native.Nat.{ℕ, zero, suc, _+_, _*_, _/_, _%_}
 use lib.Dec.{leb, ltb, eqb}
-use lib.ListN.{length, drop, getD}
-use lib.Ieee.{Float, nan}
+use lib.ListN.{length, drop}
+use lib.Ieee.{Float}
+use Rattle.shapes.specs.Numbers.{entry}
 use Rattle.imageview.specs.Image.{Image, isImage}
 use Rattle.saddle_fit.specs.declared.SaddlePointConfig.{SaddlePointConfig}
 use Rattle.saddle_point.specs.declared.Spot.{Spot}
@@ -25,9 +26,6 @@ numberOf BadLimit = 12
 numberOf BadLength = 19
 numberOf TooMany = 16
 numberOf BadOut = 15
-
-abbrev pub entry : List Float → ℕ → Float
-entry l i = getD l i nan
 
 -- what is written of a seed: where it was refined to and its own strength, if it was accepted
 abbrev pub recordOf : Spot → Float → List Float

@@ -1,6 +1,6 @@
 -- Laws of the entry: the tests as one answer, what a seed that passed them has, and what the first fit decides.
 use mathlib.Core.Path.{_≡_, refl, sym, ap, _∙_, subst}
-use mathlib.Core.Bool.{Bool, true, false, _&&_, not, cond}
+use mathlib.Core.Bool.{Bool, true, false, _&&_, not, cond, and-eq-true-iff}
 use mathlib.Core.List.{List}
 use Prim.Native.Nat.{ℕ, _+_, _^_, _≤_, _<_}
 use native.Mathlib.Omega.{arith}
@@ -15,6 +15,7 @@ use mir.Val.{SFits, Fits, toZ, ofZ}
 use mir.ValLaws.{toZ-ofZ}
 use borrow.Author.Tests.{leb-true, ltb-true}
 use Rattle.floats.specs.Whole.{roundAway}
+use Rattle.shapes.specs.Numbers.{plusZero}
 use Rattle.imageview.specs.Image.{Image, isImage}
 use Rattle.imageview.specs.Patch.{inside, supportsPatch}
 use Rattle.imageview.proofs.ImageLaws.{Good, good}
@@ -29,7 +30,6 @@ use Rattle.saddle_point.specs.declared.Admitted.the-variants as Admitted
 use Rattle.saddle_point.specs.declared.Refined.{Refined}
 use Rattle.saddle_point.specs.declared.Refined.the-variants.{Accepted, Rejected, OutOfBounds, IllConditioned, BadImage, BadRadius, BadLimit}
 use Rattle.fit_operator.specs.Call as Operator
-use Rattle.saddle_fit.specs.Numbers.{zero32}
 use Rattle.saddle_fit.specs.Fit.{Fit, fitted, fitAt, coefficients}
 use Rattle.saddle_fit.specs.Solve.{solve}
 use Rattle.saddle_fit.specs.Run.{Task, nearAlong, nearSeed, runOf}
@@ -40,21 +40,17 @@ use Rattle.saddle_point.specs.Admission.{seedOf, admitOf, fittedWith, fr
 use Rattle.fit_cache.proofs.CacheLaws.{there}
 use Rattle.saddle_point.proofs.StepLaws.{no, yes, differs}
 
-pub both-true : (a b : Bool) → (a && b) ≡ true → (a ≡ true) × (b ≡ true)
-both-true true b h = (refl, h)
-both-true false b h = absurd (subst differs (sym h) tt)
-
 -- ---- a centre inside
 pub inside-is : (radius n : ℕ) (z : ℤ) → inside radius n z ≡ true → z ≡ pos (natAbs z)
 inside-is radius n (pos c) h = refl
 inside-is radius n (negsuc c) h = absurd (subst differs (sym h) tt)
 
 inside-low : (radius n : ℕ) (z : ℤ) → inside radius n z ≡ true → radius ≤ natAbs z
-inside-low radius n (pos c) h = leb-true radius c (both-true (leb radius c) (ltb (c + radius) n) h .0)
+inside-low radius n (pos c) h = leb-true radius c (and-eq-true-iff (leb radius c) (ltb (c + radius) n) .0 h .0)
 inside-low radius n (negsuc c) h = absurd (subst differs (sym h) tt)
 
 inside-high : (radius n : ℕ) (z : ℤ) → inside radius n z ≡ true → natAbs z + radius < n
-inside-high radius n (pos c) h = ltb-true (c + radius) n (both-true (leb radius c) (ltb (c + radius) n) h .1)
+inside-high radius n (pos c) h = ltb-true (c + radius) n (and-eq-true-iff (leb radius c) (ltb (c + radius) n) .0 h .1)
 inside-high radius n (negsuc c) h = absurd (subst differs (sym h) tt)
 
 pub inside-fits : (radius n : ℕ) (z : ℤ) → inside radius n z ≡ true → Fits w64 n → T (nonNeg z) × Fits w64 (natAbs z)
@@ -64,7 +60,7 @@ pub within-of : (img : Image) (radius : ℕ) (z w : ℤ) → isImage img ≡ tru
 unfolding supportsPatch
 within-of img radius z w i r p =
     let g : Good img = good img (subst T (sym i) tt) in
-    let both = both-true (inside radius (img .width) z) (inside radius (img .height) w) p in
+    let both = and-eq-true-iff (inside radius (img .width) z) (inside radius (img .height) w) .0 p in
     record {
       sound = record { count = g .count; wide = g .width-most; high = g .height-most; small = leb-true radius 7 r };
       left = inside-low radius (img .width) z (both .0);
@@ -149,11 +145,11 @@ module _ (img : Image) (cfg : SaddlePointConfig) (x y : Float) (seed : Seed) (h 
 
   centre-x : centreOf x ≡ pos (natAbs (centreOf x))
   unfolding supportsPatch
-  centre-x = inside-is (cfg .radius) (img .width) (centreOf x) (both-true (inside (cfg .radius) (img .width) (centreOf x)) (inside (cfg .radius) (img .height) (centreOf y)) (tests .patch) .0)
+  centre-x = inside-is (cfg .radius) (img .width) (centreOf x) (and-eq-true-iff (inside (cfg .radius) (img .width) (centreOf x)) (inside (cfg .radius) (img .height) (centreOf y)) .0 (tests .patch) .0)
 
   centre-y : centreOf y ≡ pos (natAbs (centreOf y))
   unfolding supportsPatch
-  centre-y = inside-is (cfg .radius) (img .height) (centreOf y) (both-true (inside (cfg .radius) (img .width) (centreOf x)) (inside (cfg .radius) (img .height) (centreOf y)) (tests .patch) .1)
+  centre-y = inside-is (cfg .radius) (img .height) (centreOf y) (and-eq-true-iff (inside (cfg .radius) (img .width) (centreOf x)) (inside (cfg .radius) (img .height) (centreOf y)) .0 (tests .patch) .1)
 
   -- the seed's fit is that of the definition
   good-fitted : (wanted : Bool) (columns overlap : List Float) → fromFit (taskAt img columns cfg seed) overlap wanted (fitted (coefficients img columns (cfg .radius) (seed .«centre_x») (seed .«centre_y»))) ≡ refineWith img cfg x y wanted columns overlap
@@ -176,7 +172,7 @@ module _ (img : Image) (cfg : SaddlePointConfig) (x y : Float) (seed : Seed) (h 
   -- so is that with the operator built for it
   pub fresh-answer : (wanted : Bool) (w : Operator.Way) → freshFit img cfg seed wanted w ≡ tested img cfg x y (withOperator img cfg x y wanted w)
   fresh-answer wanted Operator.badRadius = sym (tested-as img cfg x y BadRadius (Admitted.Good seed) h)
-  fresh-answer wanted Operator.none = sym (tested-as img cfg x y (IllConditioned zero32) (Admitted.Good seed) h)
+  fresh-answer wanted Operator.none = sym (tested-as img cfg x y (IllConditioned plusZero) (Admitted.Good seed) h)
   fresh-answer wanted (Operator.built columns overlap) = good-fitted wanted columns overlap ∙ sym (tested-as img cfg x y (refineWith img cfg x y wanted columns overlap) (Admitted.Good seed) h)
 
 pub good-refined : (img : Image) (cfg : SaddlePointConfig) (x y : Float) (seed : Seed) → admitOf img cfg x y ≡ Admitted.Good seed → (wanted : Bool) → freshFit img cfg seed wanted (Operator.wayOf (cfg .radius)) ≡ refineOf img cfg x y wanted

@@ -4,6 +4,7 @@ use mathlib.Core.List.{List}
 use lib.Dec.{leb}
 use lib.IntN.{natAbs}
 use lib.Ieee.{Float}
+use Rattle.shapes.specs.Numbers.{plusZero}
 use Rattle.imageview.specs.Image.{Image, isImage}
 use Rattle.imageview.specs.Patch.{supportsPatch}
 use Rattle.saddle_fit.specs.declared.SaddlePointConfig.{SaddlePointConfig}
@@ -11,7 +12,6 @@ use Rattle.fit_cache.specs.declared.Seed.{Seed}
 use Rattle.saddle_point.specs.declared.Admitted.{Admitted}
 use Rattle.saddle_point.specs.declared.Admitted.the-variants.{Good, NoImage, NoRadius, NoLimit, NoPatch}
 use Rattle.fit_operator.specs.Call as Operator
-use Rattle.saddle_fit.specs.Numbers.{zero32}
 use Rattle.saddle_fit.specs.Fit.{fitted, coefficients}
 use Rattle.fit_cache.specs.Tries.{taskAt}
 use Rattle.saddle_point.specs.declared.Refined.{Refined}
@@ -32,5 +32,5 @@ fittedWith img cfg seed wanted columns overlap = fromFit (taskAt img columns cfg
 -- with the operator that is built for it
 abbrev pub freshFit : Image → SaddlePointConfig → Seed → Bool → Operator.Way → Refined
 freshFit img cfg seed wanted Operator.badRadius = BadRadius
-freshFit img cfg seed wanted Operator.none = IllConditioned zero32
+freshFit img cfg seed wanted Operator.none = IllConditioned plusZero
 freshFit img cfg seed wanted (Operator.built columns overlap) = fittedWith img cfg seed wanted columns overlap

@@ -9,6 +9,7 @@ use lib.Ieee.{Float, binary32, ofInt, toSigned, neg, lt, eq}
 use lib.Ieee.Scale.{finite}
 use Rattle.floats.specs.Whole.{roundAway}
 use Rattle.floats.specs.Root.{sqrt}
+use Rattle.shapes.specs.Numbers.{plusZero}
 use Rattle.imageview.specs.Image.{Image, isImage}
 use Rattle.imageview.specs.Patch.{supportsPatch}
 use Rattle.fit_operator.specs.Call as Operator
@@ -24,7 +25,7 @@ use Rattle.saddle_fit.specs.declared.Covariance.{Covariance}
 use Rattle.saddle_fit.specs.declared.Covariance.the-variants.{Unknown}
 use Rattle.saddle_point.specs.declared.Refined.{Refined}
 use Rattle.saddle_point.specs.declared.Refined.the-variants.{Accepted, Rejected, OutOfBounds, IllConditioned, BadImage, BadRadius, BadLimit}
-use Rattle.saddle_fit.specs.Numbers.{_⊕_, zero32}
+use Rattle.saddle_fit.specs.Numbers.{_⊕_}
 use Rattle.saddle_fit.specs.Fit.{Fit, noFit, fitted, fitAt}
 use Rattle.saddle_fit.specs.Solve.{solve, scoreOf, goodLimit}
 use Rattle.saddle_fit.specs.Between.{Place, placeOf}
@@ -48,14 +49,14 @@ closed t overlap wanted ox oy w f n s =
     cond (regular m) (estimate t ox oy f true n (cond wanted (covarianceOf overlap (w .tx) (w .ty) j m) Unknown)) (estimate t ox oy f false n Unknown)
 
 abbrev pub closedAt : Task → List Float → Bool → Place → PatchSaddle → ℕ → Sloped → Estimate
-closedAt t overlap wanted w f n noSlope = estimate t zero32 zero32 f false n Unknown
-closedAt t overlap wanted w f n (sloped s) = closed t overlap wanted zero32 zero32 w f n s
+closedAt t overlap wanted w f n noSlope = estimate t plusZero plusZero f false n Unknown
+closedAt t overlap wanted w f n (sloped s) = closed t overlap wanted plusZero plusZero w f n s
 
 -- first is the first fit's saddle
 abbrev pub finished : Task → List Float → Bool → PatchSaddle → Finish → Estimate
 finished t overlap wanted first (atStart n) =
     cond (settled first)
-    (closedAt t overlap wanted (placeOf (t .centreX) (t .centreY) zero32 zero32) first n (slopeAt (t .img) (t .columns) (t .cfg .radius) (t .centreX) (t .centreY)))
+    (closedAt t overlap wanted (placeOf (t .centreX) (t .centreY) plusZero plusZero) first n (slopeAt (t .img) (t .columns) (t .cfg .radius) (t .centreX) (t .centreY)))
     (single t first n)
 finished t overlap wanted first (atStand s n) =
     cond (settled (s .fit)) (closed t overlap wanted (s .ox) (s .oy) (s .place) (s .fit) n (slopeWithin (s .corners) (s .place .tx) (s .place .ty))) (single t first n)
@@ -88,7 +89,7 @@ goodLimits cfg = goodLimit (cfg .«det_margin») && goodLimit (cfg .«max_offset
 
 abbrev pub withOperator : Image → SaddlePointConfig → Float → Float → Bool → Operator.Way → Refined
 withOperator img cfg x y wanted Operator.badRadius = BadRadius
-withOperator img cfg x y wanted Operator.none = IllConditioned zero32
+withOperator img cfg x y wanted Operator.none = IllConditioned plusZero
 withOperator img cfg x y wanted (Operator.built columns overlap) = refineWith img cfg x y wanted columns overlap
 
 abbrev pub tested : Image → SaddlePointConfig → Float → Float → Refined → Refined
@@ -101,7 +102,7 @@ tested img cfg x y answer =
 
 -- at radius 0 there is no operator, whatever is lent
 abbrev pub lentWith : SaddlePointConfig → Refined → Refined
-lentWith cfg answer = cond (eqb (cfg .radius) 0) (IllConditioned zero32) answer
+lentWith cfg answer = cond (eqb (cfg .radius) 0) (IllConditioned plusZero) answer
 
 -- for whatever operator is lent
 unfoldable pub refineLent : Image → SaddlePointConfig → Float → Float → Bool → List Float → List Float → Refined
@@ -129,7 +130,7 @@ pub data Values : Type 0 where
 abbrev pub valuesOf : Float → Float → Refined → Values
 valuesOf x y (Accepted e) = values (e .x) (e .y) (e .score)
 valuesOf x y (Rejected det) = values x y det
-valuesOf x y OutOfBounds = values x y zero32
+valuesOf x y OutOfBounds = values x y plusZero
 valuesOf x y (IllConditioned det) = values x y det
 valuesOf x y BadImage = nothing
 valuesOf x y BadRadius = nothing

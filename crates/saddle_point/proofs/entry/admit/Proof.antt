@@ -1,7 +1,7 @@
 -- `saddle_point::entry::admit` meets its contract: the tests in their order, and the centre as the conversion gives it.
 use borrow.Author.Needs.{needs}
 use mathlib.Core.Path.{_≡_, sym, ap, _∙_, subst}
-use mathlib.Core.Bool.{Bool, true, false, _&&_}
+use mathlib.Core.Bool.{Bool, true, false, _&&_, and-eq-true-iff}
 use lib.Dec.{leb}
 use lib.IntN.{ℤ, natAbs}
 use mir.Syntax.{w32}
@@ -12,7 +12,7 @@ use Rattle.imageview.specs.Patch.{inside, supportsPatch}
 use Rattle.fit_cache.specs.declared.Seed.{Seed}
 use Rattle.saddle_point.specs.Refine.{centreOf, goodLimits}
 use Rattle.saddle_point.specs.Admission.{seedOf}
-use Rattle.saddle_point.proofs.EntryLaws.{chosen, both-true, inside-fits, centre-is, supported, same-seed}
+use Rattle.saddle_point.proofs.EntryLaws.{chosen, inside-fits, centre-is, supported, same-seed}
 use Rattle.saddle_point.proofs.entry.admit.Statement.{statement}
 use Rattle.saddle_point.proofs.entry.admit.Tie as tie
 
@@ -51,14 +51,14 @@ cast-t14 c =
     let s = c .before .before .before .before .before .before .before .before .before .before .before .before .before in
     let z : ℤ = toZ w32 (ofZ w32 (c .before .before .before .before .f32-to-i32 .result)) in
     let w : ℤ = toZ w32 (ofZ w32 (c .before .before .f32-to-i322 .result)) in
-    inside-fits (s .args .cfg .radius) (s .args .width) z (both-true (inside (s .args .cfg .radius) (s .args .width) z) (inside (s .args .cfg .radius) (s .args .height) w) (sym (c .before .supports-patch .ensures) ∙ c .if4 .taken) .0) (s .fits .width)
+    inside-fits (s .args .cfg .radius) (s .args .width) z (and-eq-true-iff (inside (s .args .cfg .radius) (s .args .width) z) (inside (s .args .cfg .radius) (s .args .height) w) .0 (sym (c .before .supports-patch .ensures) ∙ c .if4 .taken) .0) (s .fits .width)
 
 cast-t15 : tie.Need-cast-t15
 cast-t15 c =
     let s = c .before .before .before .before .before .before .before .before .before .before .before .before .before in
     let z : ℤ = toZ w32 (ofZ w32 (c .before .before .before .before .f32-to-i32 .result)) in
     let w : ℤ = toZ w32 (ofZ w32 (c .before .before .f32-to-i322 .result)) in
-    inside-fits (s .args .cfg .radius) (s .args .height) w (both-true (inside (s .args .cfg .radius) (s .args .width) z) (inside (s .args .cfg .radius) (s .args .height) w) (sym (c .before .supports-patch .ensures) ∙ c .if4 .taken) .1) (s .fits .height)
+    inside-fits (s .args .cfg .radius) (s .args .height) w (and-eq-true-iff (inside (s .args .cfg .radius) (s .args .width) z) (inside (s .args .cfg .radius) (s .args .height) w) .0 (sym (c .before .supports-patch .ensures) ∙ c .if4 .taken) .1) (s .fits .height)
 
 returns-2 : tie.Need-returns-2
 returns-2 c =
