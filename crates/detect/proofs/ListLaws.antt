@@ -9,13 +9,14 @@ use native.Mathlib.Omega.{arith}
 use lib.ListN.{length, set, take, drop, length-append, length-drop, take-append-drop}
 use lib.Seq.{sets, sets-eq, take-at, drop-append-add, drop-drop}
 use lib.Ieee.{Float}
+use Rattle.shapes.specs.Numbers.{entry}
 use Rattle.imageview.specs.Image.{Image}
 use Rattle.saddle_fit.specs.declared.SaddlePointConfig.{SaddlePointConfig}
 use Rattle.saddle_point.specs.declared.Spot.{Spot}
 use Rattle.saddle_point.specs.declared.Spot.the-variants.{At, Nowhere}
 use Rattle.saddle_point.specs.Refine.{refineLent, refineOf}
 use Rattle.saddle_point.specs.Spot.{spotOf, Lands}
-use Rattle.detect.specs.Refining.{entry, recordOf, spotFor, recordsOf}
+use Rattle.detect.specs.Refining.{recordOf, spotFor, recordsOf}
 use Rattle.detect.specs.Steps.{Front, Filled, Usable, Going}
 
 -- ---- one record

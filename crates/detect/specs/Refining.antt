@@ -7,6 +7,7 @@ use Prim.Native.Nat.{ℕ, zero, suc, _+_, _*_, _/_, _%_}
 use lib.Dec.{leb, ltb, eqb}
 use lib.ListN.{length, drop, getD}
 use lib.Ieee.{Float, nan}
+use Rattle.shapes.specs.Numbers.{entry}
 use Rattle.refusals.specs.declared.Refusal.{Refusal}
 use Rattle.refusals.specs.declared.Refusal.the-variants.{BadImage, BadRadius, BadLimit, BadLength, TooMany, BadOut}
 use Rattle.refusals.specs.Numbers as Refusals

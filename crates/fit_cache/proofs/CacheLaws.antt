@@ -10,7 +10,8 @@ use lib.Dec.{T, leb, ltb, eqb, leb→le}
 use lib.Ieee.Fits.{and-l, and-r}
 use lib.IntN.{pos}
 use borrow.Author.Tests.{eqb-true, eqb-false, leb-false, ltb-true, ltb-false, le-leb, lt-leb, lt-ltb, le-ltb}
-use Rattle.fit_operator.specs.Loops.{tabulated}
+use Rattle.shapes.specs.Numbers.{entry}
+use Rattle.shapes.specs.Lists.{tabulated}
 use Rattle.saddle_fit.specs.declared.Corners.{Corners}
 use Rattle.saddle_fit.specs.Between.{Fits, lacking, four, fits4, cornersAt}
 use lib.ListN.{length, getD, set, length-set}
@@ -22,7 +23,6 @@ use Rattle.fit_cache.specs.declared.Looked.{Looked}
 use Rattle.fit_cache.specs.declared.Around.{Around}
 use Rattle.imageview.specs.Patch.{inside, supportsPatch}
 use Rattle.imageview.proofs.PatchLaws.{before}
-use Rattle.saddle_fit.specs.Numbers.{at}
 use Rattle.fit_cache.specs.Adding.{Sound, PatchWithin, FourWithin, hasRoom}
 use Rattle.saddle_fit.proofs.Choice.{and-both, and-first, and-second}
 use Rattle.saddle_fit.specs.Fit.{Fit, noFit, fitted, fitAt, coefficients}
@@ -55,12 +55,12 @@ five {a} {b} {c} {d} {e} {a'} {b'} {c'} {d'} {e'} p q r s t =
     ∙ ap (λ (v : Float). a' ∷ b' ∷ c' ∷ d' ∷ v ∷ []) t
 
 abbrev fiveAt : List Float → ℕ → List Float
-fiveAt l p = at l p ∷ at l (p + 1) ∷ at l (p + 2) ∷ at l (p + 3) ∷ at l (p + 4) ∷ []
+fiveAt l p = entry l p ∷ entry l (p + 1) ∷ entry l (p + 2) ∷ entry l (p + 3) ∷ entry l (p + 4) ∷ []
 
 abbrev put : List Float → ℕ → Float → Float → Float → Float → Float → List Float
 put l p a b c d e = set (set (set (set (set l p a) (p + 1) b) (p + 2) c) (p + 3) d) (p + 4) e
 
-put-else : (l : List Float) (s m : ℕ) (a b c d e : Float) → (m / 5 ≡ s → ⊥) → at (put l (5 * s) a b c d e) m ≡ at l m
+put-else : (l : List Float) (s m : ℕ) (a b c d e : Float) → (m / 5 ≡ s → ⊥) → entry (put l (5 * s) a b c d e) m ≡ entry l m
 put-else l s m a b c d e h =
     getD-set-other (set (set (set (set l (5 * s) a) (5 * s + 1) b) (5 * s + 2) c) (5 * s + 3) d) (5 * s + 4) m e nan (λ (q : m ≡ 5 * s + 4). h (omega arith))
     ∙ getD-set-other (set (set (set l (5 * s) a) (5 * s + 1) b) (5 * s + 2) c) (5 * s + 3) m d nan (λ (q : m ≡ 5 * s + 3). h (omega arith))
@@ -115,7 +115,7 @@ pair-y l p x y h = getD-set-same (set l p x) (p + 1) y 0 (subst (λ (n : ℕ). p
 
 -- ---- storing a fit
 abbrev fiveOf : List Float → List Float
-fiveOf l = at l 0 ∷ at l 1 ∷ at l 2 ∷ at l 3 ∷ at l 4 ∷ []
+fiveOf l = entry l 0 ∷ entry l 1 ∷ entry l 2 ∷ entry l 3 ∷ entry l 4 ∷ []
 
 pub record Stored (fits : IntegerFits) (x y : ℕ) (coefs : List Float) (r : IntegerFits) : Type 0 where
   pub sized : Shaped r
@@ -142,14 +142,14 @@ put-in fits x y len coefs z n =
     record {
       sized = record {
         centres = length-set (set c (2 * s) x) (2 * s + 1) y ∙ length-set c (2 * s) x ∙ z .centres;
-        coefs = put-length l (5 * s) (at coefs 0) (at coefs 1) (at coefs 2) (at coefs 3) (at coefs 4) ∙ z .coefs;
+        coefs = put-length l (5 * s) (entry coefs 0) (entry coefs 1) (entry coefs 2) (entry coefs 3) (entry coefs 4) ∙ z .coefs;
         count = n .small;
       };
       used = n .used;
-      fit = put-at l (5 * s) (at coefs 0) (at coefs 1) (at coefs 2) (at coefs 3) (at coefs 4) (subst (λ (k : ℕ). 5 * s + 4 < k) (sym (z .coefs)) (in-coefs (fits .len)));
+      fit = put-at l (5 * s) (entry coefs 0) (entry coefs 1) (entry coefs 2) (entry coefs 3) (entry coefs 4) (subst (λ (k : ℕ). 5 * s + 4 < k) (sym (z .coefs)) (in-coefs (fits .len)));
       at-x = pair-x c (2 * s) x y (subst (λ (k : ℕ). 2 * s < k) (sym (z .centres)) (in-centres (fits .len)));
       at-y = pair-y c (2 * s) x y (subst (λ (k : ℕ). 2 * s + 1 < k) (sym (z .centres)) (in-centres-2 (fits .len)));
-      fit-else = λ slot h. fit-else l s slot (at coefs 0) (at coefs 1) (at coefs 2) (at coefs 3) (at coefs 4) h;
+      fit-else = λ slot h. fit-else l s slot (entry coefs 0) (entry coefs 1) (entry coefs 2) (entry coefs 3) (entry coefs 4) h;
       x-else = λ slot h. pair-else c s (2 * slot) x y (λ (q : 2 * slot / 2 ≡ s). h (half slot s q));
       y-else = λ slot h. pair-else c s (2 * slot + 1) x y (λ (q : (2 * slot + 1) / 2 ≡ s). h (half-2 slot s q));
       corners = refl;
@@ -278,14 +278,6 @@ room11 w = record { sound = w .sound; left = omega (arith, w .left); right = w .
 
 pub room-at : {img : Image} {radius x y : ℕ} (k : ℕ) → FourWithin img radius x y → k < 4 → PatchWithin img radius (x + k % 2) (y + k / 2)
 room-at k w h = record { sound = w .sound; left = omega (arith, w .left); right = omega (arith, w .right); above = omega (arith, w .above); below = omega (arith, w .below) }
-
-pub both-so : (a b : Bool) → (a && b) ≡ true → (a ≡ true) × (b ≡ true)
-both-so true b h = (refl, h)
-both-so false b h = absurd (subst never h tt)
-  where
-    never : Bool → Type 0
-    never true = ⊥
-    never false = Unit
 
 -- the four, by one of them
 module _ (img : Image) (columns : List Float) (radius x y : ℕ) where

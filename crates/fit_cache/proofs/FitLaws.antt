@@ -10,12 +10,14 @@ use lib.IntN.{pos}
 use lib.ListN.{length, getD, take, drop, length-drop}
 use lib.Seq.{getD-take, getD-drop, length-take-le}
 use lib.Ieee.{Float, binary32, ofInt}
+use Rattle.shapes.specs.Numbers.{plusZero, entry}
+use Rattle.shapes.specs.Turns.{turns}
+use Rattle.shapes.specs.Lists.{tabulated}
 use Rattle.imageview.specs.Image.{Image, stride, pixel}
 use Rattle.imageview.proofs.ImageLaws.{index}
-use Rattle.fit_operator.specs.Loops.{turns, tabulated}
 use Rattle.fit_operator.specs.Basis.{side, samples}
 use Rattle.fit_cache.specs.declared.Sums.{Sums}
-use Rattle.saddle_fit.specs.Numbers.{_⊕_, _⊖_, _⊗_, zero32, at}
+use Rattle.saddle_fit.specs.Numbers.{_⊕_, _⊖_, _⊗_}
 use Rattle.saddle_fit.specs.Fit.{sampleOf, coefficient, coefficients}
 use Rattle.fit_cache.specs.Adding.{added, rowAdded, term, sumsOf, PatchWithin}
 
@@ -50,7 +52,7 @@ twice r p = omega arith
 middle : (r : ℕ) → samples r / 2 ≡ r * side r + r
 middle r = ap (λ (n : ℕ). n / 2) (add-mul (2 * r) 1 (side r) ∙ ap (λ (n : ℕ). n + 1 * side r) (mul-assoc 2 r (side r)) ∙ ap (λ (n : ℕ). 2 * (r * side r) + n) (one-mul (side r))) ∙ twice r (r * side r)
 
--- the sample at column u of row v
+-- the sample entry column u of row v
 abbrev sampleAt : Image → ℕ → ℕ → Float
 sampleAt img u v = ofInt binary32 (pos (getD (img .samples) (v * stride img + u) 0))
 
@@ -73,7 +75,7 @@ sums-more img columns radius x y k z e =
     (λ (n : ℕ).
     let v = sampleOf img radius x y k ⊖ sampleOf img radius x y (samples radius / 2) in
     let s = sumsOf img columns radius x y k in
-    record { a = s .a ⊕ at columns n ⊗ v; b = s .b ⊕ at columns (5 * k + 1) ⊗ v; c = s .c ⊕ at columns (5 * k + 2) ⊗ v; d = s .d ⊕ at columns (5 * k + 3) ⊗ v; e = s .e ⊕ at columns (5 * k + 4) ⊗ v })
+    record { a = s .a ⊕ entry columns n ⊗ v; b = s .b ⊕ entry columns (5 * k + 1) ⊗ v; c = s .c ⊕ entry columns (5 * k + 2) ⊗ v; d = s .d ⊕ entry columns (5 * k + 3) ⊗ v; e = s .e ⊕ entry columns (5 * k + 4) ⊗ v })
     (sym (add-zero (5 * k)))
 
 along-row : (img : Image) (columns : List Float) (radius x y row n : ℕ) (part : List ℕ) (centre : Float) → part ≡ take (side radius) (drop ((y - radius + row) * stride img + (x - radius)) (img .samples)) → centre ≡ sampleOf img radius x y (samples radius / 2) → n ≤ side radius → rowAdded columns part centre (row * side radius) n (sumsOf img columns radius x y (row * side radius)) ≡ sumsOf img columns radius x y (row * side radius + n)
@@ -88,7 +90,7 @@ along-row img columns radius x y row (suc n) part centre p c h =
     ∙ ap (λ (v : Float). sampleOf img radius x y k ⊖ v) c)
     ∙ ap (λ (m : ℕ). sumsOf img columns radius x y m) (sym (add-suc (row * side radius) n))
 
-pub sums-none : (img : Image) (columns : List Float) (radius x y : ℕ) → record { a = zero32; b = zero32; c = zero32; d = zero32; e = zero32 } ≡ sumsOf img columns radius x y (0 * side radius)
+pub sums-none : (img : Image) (columns : List Float) (radius x y : ℕ) → record { a = plusZero; b = plusZero; c = plusZero; d = plusZero; e = plusZero } ≡ sumsOf img columns radius x y (0 * side radius)
 unfolding turns
 sums-none img columns radius x y = ap (λ (n : ℕ). sumsOf img columns radius x y n) (sym (zero-mul (side radius)))
 

@@ -2,11 +2,11 @@
 use mathlib.Core.Path.{_≡_, refl, sym, ap, _∙_, subst}
 use mathlib.Core.Bool.{Bool, true, false, _&&_, cond}
 use mathlib.Core.List.{List}
-use Prim.Native.Nat.{ℕ, zero, suc, _+_, _-_, _*_, _^_, _≤_, _<_}
+use Prim.Native.Nat.{ℕ, zero, suc, _+_, _*_, _^_, _≤_, _<_}
 use native.Mathlib.Nat.{le-trans, lt-of-lt-of-le}
 use native.Mathlib.Omega.{arith}
 use lib.Dec.{T, ltb, lit≤}
-use lib.IntN.{ℤ, pos, negsuc, subℕ, _+ℤ_, natAbs}
+use lib.IntN.{ℤ, pos, negsuc, _+ℤ_, natAbs}
 use lib.Signed.{mag, ltZ, nonNeg}
 use lib.Ieee.{Float, binary32, toSigned}
 use lib.Ieee.Casts.{toSigned-in}
@@ -21,6 +21,7 @@ use mir.Facts.{sfits-widen}
 use borrow.Author.Tests.{lt-ltb, le-ltb, ltb-true, ltb-false}
 use Rattle.imageview.specs.Image.{Image}
 use Rattle.imageview.specs.Patch.{inside, supportsPatch}
+use Rattle.fit_operator.proofs.BasisLaws.{sub-small}
 use Rattle.saddle_fit.specs.Fit.{Fit, noFit, fitAt, fitWithin}
 use Rattle.saddle_fit.specs.Between.{Place, baseOf, placeOf, Fits, lacking, fits4, cornersAt}
 use Rattle.fit_cache.specs.Adding.{Sound}
@@ -28,13 +29,6 @@ use Rattle.fit_cache.specs.Tries.{pixelOf, windowOf}
 use Rattle.fit_cache.proofs.CacheLaws.{none-first, behind}
 
 -- ---- the sum
-sub-small : (a b n : ℕ) → a < n → b < n → mag (subℕ a b) < n
-sub-small a b n p q = by (ltb a b)
-  where
-    by : (t : Bool) → mag (cond t (negsuc (b - suc a)) (pos (a - b))) < n
-    by true = omega arith
-    by false = omega arith
-
 sum-small : (from : ℕ) (by : ℤ) → from < 4096 → mag by < 0x8000_0000 → mag (pos from +ℤ by) < 0x8000_0000_0000_0000
 sum-small from (pos b) h g = omega arith
 sum-small from (negsuc b) h g = lt-of-lt-of-le (sub-small from (suc b) 0x8000_0001 (omega arith) (omega arith)) (lit≤ tt)

@@ -7,22 +7,23 @@ use lib.Dec.{leb, ltb}
 use lib.IntN.{pos}
 use lib.ListN.{length, getD}
 use lib.Ieee.{Float, binary32, ofInt}
+use Rattle.shapes.specs.Numbers.{plusZero, entry}
+use Rattle.shapes.specs.Turns.{turns}
 use Rattle.imageview.specs.Image.{Image}
 use Rattle.imageview.specs.Steps.{Tested}
-use Rattle.fit_operator.specs.Loops.{turns}
 use Rattle.fit_operator.specs.Basis.{samples}
 use Rattle.fit_cache.specs.declared.Sums.{Sums}
-use Rattle.saddle_fit.specs.Numbers.{_⊕_, _⊖_, _⊗_, zero32, at}
+use Rattle.saddle_fit.specs.Numbers.{_⊕_, _⊖_, _⊗_}
 use Rattle.saddle_fit.specs.Fit.{sampleOf}
 
 -- with the sample k, which is z above the centre's
 abbrev pub added : List Float → ℕ → Float → Sums → Sums
 added columns k z s = record {
-  a = s .a ⊕ at columns (5 * k) ⊗ z;
-  b = s .b ⊕ at columns (5 * k + 1) ⊗ z;
-  c = s .c ⊕ at columns (5 * k + 2) ⊗ z;
-  d = s .d ⊕ at columns (5 * k + 3) ⊗ z;
-  e = s .e ⊕ at columns (5 * k + 4) ⊗ z;
+  a = s .a ⊕ entry columns (5 * k) ⊗ z;
+  b = s .b ⊕ entry columns (5 * k + 1) ⊗ z;
+  c = s .c ⊕ entry columns (5 * k + 2) ⊗ z;
+  d = s .d ⊕ entry columns (5 * k + 3) ⊗ z;
+  e = s .e ⊕ entry columns (5 * k + 4) ⊗ z;
 }
 
 -- with n samples of a row whose first is the sample from
@@ -32,16 +33,16 @@ rowAdded columns row centre from (suc n) s = added columns (from + n) (ofInt bin
 
 -- what the sample k adds to the coefficient i
 abbrev pub term : Image → List Float → ℕ → ℕ → ℕ → ℕ → ℕ → Float → Float
-term img columns radius x y i k a = a ⊕ at columns (5 * k + i) ⊗ (sampleOf img radius x y k ⊖ sampleOf img radius x y (samples radius / 2))
+term img columns radius x y i k a = a ⊕ entry columns (5 * k + i) ⊗ (sampleOf img radius x y k ⊖ sampleOf img radius x y (samples radius / 2))
 
 -- those of the patch's first n samples
 abbrev pub sumsOf : Image → List Float → ℕ → ℕ → ℕ → ℕ → Sums
 sumsOf img columns radius x y n = record {
-  a = turns n (term img columns radius x y 0) zero32;
-  b = turns n (term img columns radius x y 1) zero32;
-  c = turns n (term img columns radius x y 2) zero32;
-  d = turns n (term img columns radius x y 3) zero32;
-  e = turns n (term img columns radius x y 4) zero32;
+  a = turns n (term img columns radius x y 0) plusZero;
+  b = turns n (term img columns radius x y 1) plusZero;
+  c = turns n (term img columns radius x y 2) plusZero;
+  d = turns n (term img columns radius x y 3) plusZero;
+  e = turns n (term img columns radius x y 4) plusZero;
 }
 
 -- an image and a radius that passed the tests

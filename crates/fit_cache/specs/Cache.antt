@@ -7,18 +7,18 @@ use Prim.Native.Nat.{ℕ, _+_, _*_, _%_, _≤_, _<_}
 use lib.IntN.{pos}
 use lib.ListN.{length, getD, set}
 use lib.Ieee.{Float}
+use Rattle.shapes.specs.Numbers.{entry}
 use Rattle.imageview.specs.Image.{Image}
 use Rattle.saddle_fit.specs.declared.Corners.{Corners}
 use Rattle.fit_cache.specs.declared.Around.{Around}
 use Rattle.fit_cache.specs.declared.IntegerFits.{IntegerFits}
 use Rattle.fit_cache.specs.declared.Looked.{Looked}
-use Rattle.saddle_fit.specs.Numbers.{at}
 use Rattle.saddle_fit.specs.Fit.{coefficients}
 use Rattle.saddle_fit.specs.Between.{Fits, lacking, four, cornersAt}
 
 -- the fit in a slot, and its centre
 abbrev pub fitIn : List Float → ℕ → List Float
-fitIn coefs slot = at coefs (5 * slot) ∷ at coefs (5 * slot + 1) ∷ at coefs (5 * slot + 2) ∷ at coefs (5 * slot + 3) ∷ at coefs (5 * slot + 4) ∷ []
+fitIn coefs slot = entry coefs (5 * slot) ∷ entry coefs (5 * slot + 1) ∷ entry coefs (5 * slot + 2) ∷ entry coefs (5 * slot + 3) ∷ entry coefs (5 * slot + 4) ∷ []
 
 abbrev pub centreX : List ℕ → ℕ → ℕ
 centreX centres slot = getD centres (2 * slot) 0
@@ -52,7 +52,7 @@ abbrev pub named : List ℕ → ℕ → ℕ → ℕ → List ℕ
 named centres slot x y = set (set centres (2 * slot) x) (2 * slot + 1) y
 
 abbrev pub filled : List Float → ℕ → List Float → List Float
-filled coefs slot fit = set (set (set (set (set coefs (5 * slot) (at fit 0)) (5 * slot + 1) (at fit 1)) (5 * slot + 2) (at fit 2)) (5 * slot + 3) (at fit 3)) (5 * slot + 4) (at fit 4)
+filled coefs slot fit = set (set (set (set (set coefs (5 * slot) (entry fit 0)) (5 * slot + 1) (entry fit 1)) (5 * slot + 2) (entry fit 2)) (5 * slot + 3) (entry fit 3)) (5 * slot + 4) (entry fit 4)
 
 -- one fit more: each slot in use then was in use before, or is the one that is written
 pub record Counted (len r : ℕ) : Type 0 where

@@ -12,7 +12,7 @@ use mir.Syntax.{w32}
 use mir.Val.{SFits, toZ}
 use mir.ValLaws.{toZ-pos}
 use borrow.Author.Tests.{le-ltb}
-use Rattle.fit_operator.specs.Loops.{one}
+use Rattle.shapes.specs.Numbers.{one}
 use Rattle.fit_operator.specs.Basis.{side, samples, quadraticBasis}
 
 -- ---- the offset
@@ -20,7 +20,7 @@ minus-is : (a b : ℕ) → pos a -ℤ pos b ≡ subℕ a b
 minus-is a zero = ap pos (add-zero a ∙ sym (sub-zero a)) ∙ ap (λ (t : Bool). cond t (negsuc (0 - suc a)) (pos (a - 0))) (sym (le-ltb a 0 (omega arith)))
 minus-is a (suc b) = refl
 
-sub-small : (a b n : ℕ) → a < n → b < n → mag (subℕ a b) < n
+pub sub-small : (a b n : ℕ) → a < n → b < n → mag (subℕ a b) < n
 sub-small a b n p q = by (ltb a b)
   where
     by : (t : Bool) → mag (cond t (negsuc (b - suc a)) (pos (a - b))) < n

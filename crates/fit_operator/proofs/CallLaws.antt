@@ -7,21 +7,21 @@ use lib.Dec.{leb}
 use lib.ListN.{length, drop}
 use lib.Ieee.{Float}
 use borrow.Author.Tests.{le-leb, lt-leb}
+use Rattle.shapes.proofs.ListLaws.{length-tabulated}
+use Rattle.shapes.specs.Lists.{tabulated, overwritten}
 use Rattle.fit_operator.specs.declared.Operator.the-variants.{Built, Singular, BadRadius}
-use Rattle.fit_operator.specs.Loops.{tabulated}
 use Rattle.fit_operator.specs.Basis.{samples}
 use Rattle.fit_operator.specs.Inverse.{Reduced, singular, reduced, reduceFrom, normalMatrix, inverseNormalMatrix}
 use Rattle.fit_operator.specs.Rows.{columnsOf, overlapOf}
 use Rattle.fit_operator.specs.Call.{Way, badRadius, none, built, wayFrom, wayOf, answerOf, columnsAfter, overlapAfter, Done}
-use Rattle.fit_operator.specs.Steps.{reducedBy, Kept, filled, rowAt, columnAt, overlapAt}
-use Rattle.fit_operator.proofs.ListLaws.{length-tabulated}
+use Rattle.fit_operator.specs.Steps.{reducedBy, Kept, rowAt, columnAt, overlapAt}
 use Rattle.fit_operator.proofs.InverseLaws.{first-of, second-of}
 use Rattle.fit_operator.proofs.RowLaws.{columns-is, overlap-is}
 
 -- ---- what is kept
-pub kept : (radius : ℕ) (m old rows columns columns' overlap' : List Float) → rows ≡ filled (5 * samples radius) (rowAt radius m) old
-    → columns' ≡ filled (5 * samples radius) (columnAt rows) columns → overlap' ≡ tabulated 225 (overlapAt radius rows) → Kept radius m columns columns' overlap'
-unfolding filled
+pub kept : (radius : ℕ) (m old rows columns columns' overlap' : List Float) → rows ≡ overwritten (5 * samples radius) (rowAt radius m) old
+    → columns' ≡ overwritten (5 * samples radius) (columnAt rows) columns → overlap' ≡ tabulated 225 (overlapAt radius rows) → Kept radius m columns columns' overlap'
+unfolding overwritten
 kept radius m old rows columns columns' overlap' e p q =
     record {
       columns-is = p ∙ ap (λ (l : List Float). l ++ drop (5 * samples radius) columns) (columns-is radius m rows old e);

@@ -1,5 +1,4 @@
 -- Laws of the fit operator and its closed cases.
-pub mod ListLaws
 pub mod BasisLaws
 pub mod InverseLaws
 pub mod RowLaws

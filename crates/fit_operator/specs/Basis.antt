@@ -2,7 +2,7 @@
 use Prim.Native.Nat.{ℕ, zero, suc, _+_, _*_, _/_, _%_}
 use lib.IntN.{subℕ}
 use lib.Ieee.{Float, binary32, ofInt, mul}
-use Rattle.fit_operator.specs.Loops.{one}
+use Rattle.shapes.specs.Numbers.{one}
 
 abbrev pub side : ℕ → ℕ
 side radius = 2 * radius + 1

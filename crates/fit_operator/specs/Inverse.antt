@@ -1,6 +1,6 @@
 -- The inverse of the normal matrix in binary64, by Gauss-Jordan with partial pivoting on the matrix and the identity beside it: six rows of twelve, flat.
 -- Of equal pivots the last row wins; a pivot below 1e-9 in magnitude ends it with none.
-use mathlib.Core.Bool.{Bool, true, false, cond}
+use mathlib.Core.Bool.{cond}
 use mathlib.Core.List.{List}
 use Prim.Native.Nat.{ℕ, zero, suc, _+_, _-_, _*_, _/_, _%_}
 use lib.Dec.{ltb, eqb}
@@ -9,7 +9,9 @@ use Rattle.floats.specs.Magnitude.{magnitude}
 use Rattle.floats.specs.TotalOrder.{totalCmp}
 use Rattle.floats.specs.declared.Order.{Order}
 use Rattle.floats.specs.declared.Order.the-variants.{Less, Equal, Greater}
-use Rattle.fit_operator.specs.Loops.{turns, tabulated, at, plusZero, one}
+use Rattle.shapes.specs.Lists.{tabulated}
+use Rattle.shapes.specs.Numbers.{entry, plusZero, one}
+use Rattle.shapes.specs.Turns.{turns}
 use Rattle.fit_operator.specs.Basis.{samples, phi}
 
 -- sum over the samples of phi row times phi col
@@ -32,7 +34,7 @@ better m col best p Greater = best
 -- the best of best, p, p + 1, .., as many as are left
 unfoldable pub pivotFrom : ℕ → List Float → ℕ → ℕ → ℕ → ℕ
 pivotFrom zero m col best p = best
-pivotFrom (suc left) m col best p = pivotFrom left m col (better m col best p (totalCmp (at m (12 * best + col)) (at m (12 * p + col)))) (p + 1)
+pivotFrom (suc left) m col best p = pivotFrom left m col (better m col best p (totalCmp (entry m (12 * best + col)) (entry m (12 * p + col)))) (p + 1)
 
 unfoldable pub pivotOf : List Float → ℕ → ℕ
 unfolding pivotFrom
@@ -44,15 +46,15 @@ exchanged a b r = cond (eqb r a) b (cond (eqb r b) a r)
 
 unfoldable pub swapped : ℕ → ℕ → List Float → List Float
 unfolding tabulated
-swapped a b m = tabulated 72 (λ i. at m (12 * exchanged a b (i / 12) + i % 12))
+swapped a b m = tabulated 72 (λ i. entry m (12 * exchanged a b (i / 12) + i % 12))
 
 unfoldable pub scaled : ℕ → List Float → List Float
 unfolding tabulated
-scaled col m = tabulated 72 (λ i. cond (eqb (i / 12) col) (mul binary64 (at m i) (div binary64 one (at m (12 * col + col)))) (at m i))
+scaled col m = tabulated 72 (λ i. cond (eqb (i / 12) col) (mul binary64 (entry m i) (div binary64 one (entry m (12 * col + col)))) (entry m i))
 
 unfoldable pub cleared : ℕ → List Float → List Float
 unfolding tabulated
-cleared col m = tabulated 72 (λ i. cond (eqb (i / 12) col) (at m i) (sub binary64 (at m i) (mul binary64 (at m (12 * (i / 12) + col)) (at m (12 * col + i % 12)))))
+cleared col m = tabulated 72 (λ i. cond (eqb (i / 12) col) (entry m i) (sub binary64 (entry m i) (mul binary64 (entry m (12 * (i / 12) + col)) (entry m (12 * col + i % 12)))))
 
 -- 1e-9
 abbrev pub least : Float
@@ -68,7 +70,7 @@ reduceFrom zero col m = reduced m
 reduceFrom (suc left) col m =
     let p = pivotOf m col in
     let r = reduceFrom left (col + 1) (cleared col (scaled col (swapped col p m))) in
-    cond (lt (magnitude (at m (12 * p + col))) least) singular r
+    cond (lt (magnitude (entry m (12 * p + col))) least) singular r
 
 unfoldable pub inverseNormalMatrix : ℕ → Reduced
 unfolding reduceFrom normalMatrix

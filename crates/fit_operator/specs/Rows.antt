@@ -1,18 +1,20 @@
 -- The rows a to e of the operator in binary64, from the reduced matrix, and what is kept of them, narrowed once: the columns, sample by sample,
 -- and the nine shifted overlaps.
-use mathlib.Core.Bool.{Bool, true, false, _&&_, cond}
+use mathlib.Core.Bool.{Bool, _&&_, cond}
 use mathlib.Core.List.{List}
 use Prim.Native.Nat.{ℕ, _+_, _-_, _*_, _/_, _%_}
 use lib.Dec.{leb, ltb}
 use lib.Ieee.{Float, binary32, binary64, add, mul}
 use Rattle.floats.specs.Convert.{convert}
-use Rattle.fit_operator.specs.Loops.{turns, tabulated, at, plusZero, minusZero}
+use Rattle.shapes.specs.Lists.{tabulated}
+use Rattle.shapes.specs.Numbers.{entry, plusZero, minusZero}
+use Rattle.shapes.specs.Turns.{turns}
 use Rattle.fit_operator.specs.Basis.{side, samples, phi}
 
 -- row c at the sample k: the inverse's row times the basis there; the Rust's sum starts from -0.0
 unfoldable pub rowEntry : ℕ → List Float → ℕ → ℕ → Float
 unfolding turns phi
-rowEntry radius m c k = turns 6 (λ j a. add binary64 a (mul binary64 (at m (12 * c + (6 + j))) (phi radius j k))) minusZero
+rowEntry radius m c k = turns 6 (λ j a. add binary64 a (mul binary64 (entry m (12 * c + (6 + j))) (phi radius j k))) minusZero
 
 -- column k has the five entries at k
 unfoldable pub columnsOf : ℕ → List Float → List Float

@@ -7,7 +7,8 @@ use lib.ListN.{drop}
 use lib.Ieee.{Float, binary32, binary64, add, mul}
 use Rattle.floats.specs.Convert.{convert}
 use Rattle.floats.specs.TotalOrder.{totalCmp}
-use Rattle.fit_operator.specs.Loops.{turns, tabulated, at, plusZero}
+use Rattle.shapes.specs.Numbers.{entry, plusZero}
+use Rattle.shapes.specs.Turns.{turns}
 use Rattle.fit_operator.specs.Basis.{side, samples}
 use Rattle.fit_operator.specs.Rows.{rowEntry, columnsOf, stays, shifted, overlapOf}
 use Rattle.fit_operator.specs.Inverse.{Reduced, singular, reduced, better, pivotOf}
@@ -17,15 +18,10 @@ pub record Count (radius n : ℕ) : Type 0 where
   pub is : n ≡ samples radius
   pub most : n ≤ 225
 
--- a list whose first n entries were written
-unfoldable pub filled : ℕ → (ℕ → Float) → List Float → List Float
-unfolding tabulated
-filled n f old = tabulated n f ++ drop n old
-
 -- ---- the pivot
 -- the better of two rows, which is a row
 pub record Better (m : List Float) (col best p r : ℕ) : Type 0 where
-  pub is : r ≡ better m col best p (totalCmp (at m (12 * best + col)) (at m (12 * p + col)))
+  pub is : r ≡ better m col best p (totalCmp (entry m (12 * best + col)) (entry m (12 * p + col)))
   pub row : r < 6
 
 pub record Pivot (m : List Float) (col r : ℕ) : Type 0 where
@@ -42,13 +38,13 @@ abbrev pub rowAt : ℕ → List Float → ℕ → Float
 rowAt radius m i = rowEntry radius m (i % 5) (i / 5)
 
 abbrev pub columnAt : List Float → ℕ → Float
-columnAt rows i = convert binary32 (at rows i)
+columnAt rows i = convert binary32 (entry rows i)
 
 -- an overlap's sum after the sample k
 abbrev pub overlapTerm : ℕ → List Float → ℕ → ℕ → ℕ → ℕ → Float → Float
 overlapTerm radius rows d r s k a =
     cond (stays radius (k % side radius) (d % 3) && stays radius (k / side radius) (d / 3))
-    (add binary64 a (mul binary64 (at rows (5 * k + r)) (at rows (5 * shifted radius d k + s)))) a
+    (add binary64 a (mul binary64 (entry rows (5 * k + r)) (entry rows (5 * shifted radius d k + s)))) a
 
 unfoldable pub overlapSum : ℕ → List Float → ℕ → ℕ → ℕ → Float
 overlapSum radius rows d r s = turns (samples radius) (overlapTerm radius rows d r s) plusZero

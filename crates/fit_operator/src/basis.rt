@@ -4,7 +4,7 @@ ghost use Prim.Native.Nat.{_≤_, _<_};
 ghost use lib.IntN.{subℕ};
 ghost use lib.ListN.{length};
 ghost use lib.Ieee.{binary32, ofInt};
-ghost use Rattle.fit_operator.specs.Loops.{at};
+ghost use Rattle.shapes.specs.Numbers.{entry};
 ghost use Rattle.fit_operator.specs.Basis.{side, samples, quadraticBasis, phi};
 ghost use Rattle.fit_operator.specs.Steps.{Count};
 
@@ -52,7 +52,7 @@ pub fn phi_at(radius: usize, j: usize, k: usize) -> f64
 // An entry of a list. What is lent as a slice is known to have its length, an array behind a reference is not.
 pub fn element(list: &[f64], i: usize) -> f64
     requires { ⌜ i < length (now list) ⌝ }
-    ensures { λ r. ⌜ r ≡ at (now (list .entry)) i ⌝ }
+    ensures { λ r. ⌜ r ≡ entry (now (list .entry)) i ⌝ }
 {
     list[i]
 }

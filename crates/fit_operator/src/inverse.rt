@@ -4,7 +4,7 @@ ghost use mathlib.Core.Path.{_≡_};
 ghost use Prim.Native.Nat.{_≤_, _<_};
 ghost use lib.Ieee.{lt};
 ghost use Rattle.floats.specs.Magnitude.{magnitude};
-ghost use Rattle.fit_operator.specs.Loops.{at};
+ghost use Rattle.shapes.specs.Numbers.{entry};
 ghost use Rattle.fit_operator.specs.Inverse.{normalEntry, normalMatrix, exchanged, swapped, scaled, cleared, least, reduceFrom};
 ghost use Rattle.fit_operator.specs.Steps.{Better, Pivot, reducedBy};
 use crate::basis;
@@ -27,7 +27,7 @@ fn normal_entry(radius: usize, row: usize, col: usize) -> f64
 
 fn normal_at(radius: usize, i: usize) -> f64
     requires { ⌜ (radius ≤ 7) × (i < 72) ⌝ }
-    ensures { λ r. ⌜ r ≡ at (normalMatrix radius) i ⌝ }
+    ensures { λ r. ⌜ r ≡ entry (normalMatrix radius) i ⌝ }
 {
     let row = i / 12;
     let col = i % 12;
@@ -55,7 +55,7 @@ pub fn normal_matrix(radius: usize) -> [f64; 72]
 
 pub fn entry(m: &[f64; 72], i: usize) -> f64
     requires { ⌜ i < 72 ⌝ }
-    ensures { λ r. ⌜ r ≡ at (now (m .entry)) i ⌝ }
+    ensures { λ r. ⌜ r ≡ entry (now (m .entry)) i ⌝ }
 {
     basis::element(m, i)
 }
@@ -117,7 +117,7 @@ fn swapped_rows(m: &[f64; 72], a: usize, b: usize) -> [f64; 72]
 
 fn scaled_at(m: &[f64; 72], col: usize, i: usize) -> f64
     requires { ⌜ (col < 6) × (i < 72) ⌝ }
-    ensures { λ r. ⌜ r ≡ at (scaled col (now (m .entry))) i ⌝ }
+    ensures { λ r. ⌜ r ≡ entry (scaled col (now (m .entry))) i ⌝ }
 {
     if i / 12 == col {
         return entry(m, i) * (1.0 / entry(m, 12 * col + col));
@@ -141,7 +141,7 @@ fn scaled_row(m: &[f64; 72], col: usize) -> [f64; 72]
 
 fn cleared_at(m: &[f64; 72], col: usize, i: usize) -> f64
     requires { ⌜ (col < 6) × (i < 72) ⌝ }
-    ensures { λ r. ⌜ r ≡ at (cleared col (now (m .entry))) i ⌝ }
+    ensures { λ r. ⌜ r ≡ entry (cleared col (now (m .entry))) i ⌝ }
 {
     if i / 12 == col {
         return entry(m, i);

@@ -4,10 +4,10 @@ ghost use mathlib.Core.Path.{_≡_};
 ghost use mathlib.Core.Bool.{true};
 ghost use Prim.Native.Nat.{_+_, _-_, _*_, _≤_, _<_};
 ghost use lib.ListN.{length};
-ghost use Rattle.fit_operator.specs.Loops.{tabulated};
+ghost use Rattle.shapes.specs.Lists.{tabulated, overwritten};
 ghost use Rattle.fit_operator.specs.Basis.{side, samples};
 ghost use Rattle.fit_operator.specs.Rows.{rowEntry, stays};
-ghost use Rattle.fit_operator.specs.Steps.{filled, rowAt, columnAt, overlapTerm, overlapSum, overlapAt};
+ghost use Rattle.fit_operator.specs.Steps.{rowAt, columnAt, overlapTerm, overlapSum, overlapAt};
 use crate::basis;
 use crate::inverse;
 
@@ -27,7 +27,7 @@ fn row_entry(radius: usize, m: &[f64; 72], c: usize, k: usize) -> f64
 
 pub fn fill_rows(radius: usize, m: &[f64; 72], rows: &mut [f64])
     requires { ⌜ (radius ≤ 7) × (length (now rows) ≡ 1125) ⌝ }
-    ensures { λ _. ⌜ now (rows .exit) ≡ filled (5 * samples radius) (rowAt radius (now (m .entry))) (now (rows .entry)) ⌝ }
+    ensures { λ _. ⌜ now (rows .exit) ≡ overwritten (5 * samples radius) (rowAt radius (now (m .entry))) (now (rows .entry)) ⌝ }
 {
     let n = 5 * basis::samples_of(radius);
     let mut i: usize = 0;
@@ -39,7 +39,7 @@ pub fn fill_rows(radius: usize, m: &[f64; 72], rows: &mut [f64])
 
 pub fn fill_columns(radius: usize, rows: &[f64], columns: &mut [f32])
     requires { ⌜ (radius ≤ 7) × (length (now rows) ≡ 1125) × (length (now columns) ≡ 1125) ⌝ }
-    ensures { λ _. ⌜ now (columns .exit) ≡ filled (5 * samples radius) (columnAt (now (rows .entry))) (now (columns .entry)) ⌝ }
+    ensures { λ _. ⌜ now (columns .exit) ≡ overwritten (5 * samples radius) (columnAt (now (rows .entry))) (now (columns .entry)) ⌝ }
 {
     let n = 5 * basis::samples_of(radius);
     let mut i: usize = 0;

@@ -2,8 +2,8 @@
 -- `closest a b` is a / b rounded to a whole number, a tie to the even one; `grid f a c` is a / c rounded, in units of f's smallest value.
 use mathlib.Core.Path.{_≡_, refl, sym, ap, _∙_, subst}
 use mathlib.Core.Logic.{_⊎_, inl, inr}
-use Prim.Native.Nat.{ℕ, zero, suc, _+_, _-_, _*_, _/_, _%_, _^_, _≤_, _<_, compare, Ordering, Ordering·lt, Ordering·eq, Ordering·gt}
-use native.Mathlib.Nat.{mod-lt, div-add-mod', mul-pos, mul-assoc, mul-comm, mul-left-comm, suc-mul, le-of-eq}
+use Prim.Native.Nat.{ℕ, zero, suc, _+_, _-_, _*_, _/_, _%_, _^_, _≤_, _<_, compare, Ordering, Ordering·lt, Ordering·eq, Ordering·gt, compare·zero-suc, compare·suc-zero, compare·suc-suc}
+use native.Mathlib.Nat.{mod-lt, div-add-mod', mul-pos, mul-assoc, mul-comm, mul-left-comm, suc-mul, le-of-eq, lt-irrefl, not-suc-le-zero, le-of-suc-le-suc}
 use native.Mathlib.Omega.{arith}
 use mathlib.Core.Bool.{Bool, true, false, not}
 use lib.Dec.{T, isLe, isEq, leb→le, nleb→lt, eqb→eq}
@@ -33,6 +33,19 @@ compared-eq x y e = eqb→eq x y (subst (λ (o : Ordering). T (isEq o)) (sym e) 
 
 pub compared-gt : (x y : ℕ) → compare x y ≡ Ordering·gt → y < x
 compared-gt x y e = nleb→lt x y (subst (λ (o : Ordering). T (not (isLe o))) (sym e) tt)
+
+-- and what it is
+pub compare-lt : (x y : ℕ) → x < y → compare x y ≡ Ordering·lt
+compare-lt zero zero h = absurd (lt-irrefl 0 h)
+compare-lt zero (suc y) h = compare·zero-suc y
+compare-lt (suc x) zero h = absurd (not-suc-le-zero h)
+compare-lt (suc x) (suc y) h = compare·suc-suc x y ∙ compare-lt x y (le-of-suc-le-suc h)
+
+pub compare-gt : (x y : ℕ) → y < x → compare x y ≡ Ordering·gt
+compare-gt zero zero h = absurd (lt-irrefl 0 h)
+compare-gt zero (suc y) h = absurd (not-suc-le-zero h)
+compare-gt (suc x) zero h = compare·suc-zero x
+compare-gt (suc x) (suc y) h = compare·suc-suc x y ∙ compare-gt x y (le-of-suc-le-suc h)
 
 below-half : (p r b : ℕ) → r * 2 ≤ b → Near p (p + r) b
 below-half p r b h = record { under = omega arith; over = omega arith }

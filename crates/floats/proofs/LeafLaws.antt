@@ -1,7 +1,7 @@
 -- Laws of the leaves that need no rounding: the magnitude, the test for a finite value and the total order of magnitudes.
 use mathlib.Core.Path.{_≡_, refl, sym, ap, ap₂, _∙_, subst}
 use Prim.Native.Nat.{ℕ, zero, suc, _+_, _-_, _*_, _^_, _≤_, _<_, compare, Ordering, Ordering·lt, Ordering·eq, Ordering·gt}
-use native.Mathlib.Nat.{lt-irrefl, not-le-of-lt, le-of-lt, zero-mul, zero-add, mul-one, one-mul, sub-self, mul-pos, le-antisymm}
+use native.Mathlib.Nat.{lt-irrefl, zero-mul, zero-add, mul-one, one-mul, sub-self, mul-pos, le-antisymm}
 use native.Mathlib.Omega.{arith}
 use mathlib.Core.Bool.{Bool, true, false, not, _&&_, _||_, Bool·beq, cond, true≢false}
 use lib.IntN.{ℤ, pos}
@@ -17,7 +17,7 @@ use Rattle.floats.specs.declared.Order.{Order}
 use Rattle.floats.specs.declared.Order.the-variants.{Less, Equal, Greater}
 use Rattle.floats.specs.Magnitude.{magnitude}
 use Rattle.floats.specs.TotalOrder.{totalCmp, asOrder}
-use Rattle.floats.proofs.Half.{compared-lt, compared-eq, compared-gt}
+use Rattle.floats.proofs.Half.{compared-lt, compared-gt, compare-lt, compare-gt}
 use Rattle.floats.proofs.Value.{own-value, round-of-value}
 
 -- ---- magnitude
@@ -99,22 +99,6 @@ difference-finite f (inf false) = refl
 difference-finite f (fin s m e) = ap (λ (x : Float). eq x (fin false 0 (pos 0))) (self-sum f s (m * up e * down e) (down e * down e) (mul-pos (down-pos e) (down-pos e)))
 
 -- ---- the total order
-compare-lt : (p q : ℕ) → p < q → compare p q ≡ Ordering·lt
-compare-lt p q h = go (compare p q) refl
-  where
-    go : (o : Ordering) → compare p q ≡ o → o ≡ Ordering·lt
-    go Ordering·lt e = refl
-    go Ordering·eq e = absurd (lt-irrefl q (subst (λ (z : ℕ). z < q) (compared-eq p q e) h))
-    go Ordering·gt e = absurd (not-le-of-lt (compared-gt p q e) (le-of-lt h))
-
-compare-gt : (p q : ℕ) → q < p → compare p q ≡ Ordering·gt
-compare-gt p q h = go (compare p q) refl
-  where
-    go : (o : Ordering) → compare p q ≡ o → o ≡ Ordering·gt
-    go Ordering·lt e = absurd (not-le-of-lt (compared-lt p q e) (le-of-lt h))
-    go Ordering·eq e = absurd (lt-irrefl q (subst (λ (z : ℕ). q < z) (compared-eq p q e) h))
-    go Ordering·gt e = refl
-
 compare-eq : (p q : ℕ) → p ≡ q → compare p q ≡ Ordering·eq
 compare-eq p q h = go (compare p q) refl
   where

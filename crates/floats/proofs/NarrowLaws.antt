@@ -9,7 +9,7 @@ use mathlib.Core.Bool.{Bool, true, false, not, cond, true≢false}
 use lib.IntN.{ℤ, pos, negsuc}
 use lib.Dec.{T, leb, ltb, eqb, not-T, eqb→eq, lit≤, lt→ltb, le→leb, nltb→le}
 use lib.Pow.{pow-pos, pow-mono, pow-add}
-use lib.Arith.{digits-div, digits-mod, digits-lt, lt→nleb, le→nltb}
+use lib.Arith.{digits-mod, digits-lt, lt→nleb, le→nltb}
 use lib.Ieee.{Float, nan, inf, fin, Format, binary32, binary64, prec, emax, low, hid, ones, top, up, down, odd, round, units, nearest, ofBits, toBits, ofFields, neg, ne, isNan, nanBits, fits}
 use lib.Ieee.Bits.{is-false, is-true, cond-no, ofBits-toBits, nanBits-is, nanBits-above}
 use lib.Ieee.Fits.{down-pos, round-is}
@@ -21,12 +21,10 @@ use Rattle.floats.specs.Steps.{Narrowed}
 use Rattle.floats.proofs.BitLaws.{subnormal-value, normal-value}
 use Rattle.floats.proofs.Half.{Near, closest-near, compared-lt, compared-eq, compared-gt, parity}
 use Rattle.floats.proofs.Fractions.{neg-odd, neg-cond, neg-round}
+use Rattle.floats.proofs.PartLaws.{is-part}
 use Rattle.floats.proofs.Pattern.{round-shift, round-known, units-inf, closest-from, closest-upto, unit-shift, shift-below, shift-from}
 
 -- ---- n / 2h to the nearest whole number, a tie to the even one, by one division
-is-part : (x c q r : ℕ) → x ≡ q * c + r → r < c → x / c ≡ q
-is-part x c q r e h = ap (λ (z : ℕ). z / c) e ∙ digits-div q h
-
 step : (n h q r o : ℕ) → 0 < h → q * (h + h) + r ≡ n → r < h + h → o < 2
     → (c : Ordering) → compare (r * 2) (h + h) ≡ c → o ≡ q % 2 → nearest q c ≡ (n + (h - 1) + o) / (h + h)
 step n h q r o H e l b Ordering·lt c p = sym (is-part (n + (h - 1) + o) (h + h) q (r + (h - 1) + o) (go (q * (h + h)) e) (short (compared-lt (r * 2) (h + h) c)))

@@ -4,7 +4,7 @@ use mathlib.Core.Path.{_≡_, refl, sym, ap, _∙_, subst, subst₂}
 use Prim.Native.Nat.{ℕ, zero, suc, _+_, _*_, _≤_, _<_}
 use native.Mathlib.Nat.{le-refl, le-of-lt, lt-of-lt-of-le, zero-lt-suc, zero-mul, mul-pos, mul-right-comm, mul-le-mul-right, mul-lt-mul-of-pos-right, lt-of-mul-lt-mul-right}
 use native.Mathlib.Omega.{arith}
-use mathlib.Core.Bool.{Bool, true, false, not, _&&_, _||_, false≢true}
+use mathlib.Core.Bool.{Bool, true, false, not, _&&_, _||_, false≢true, and-eq-true-iff}
 use borrow.Author.Tests.{ltb-true, lt-ltb, le-ltb, ne-eqb, eqb-true}
 use lib.Dec.{eqb}
 use lib.Ieee.{Float, nan, inf, fin, up, down, below, level, lt, eq, le}
@@ -47,10 +47,6 @@ clash : (t u : Bool) → not t ≡ true → (t && u) ≡ true → ⊥
 clash true u h k = false≢true h
 clash false u h k = false≢true k
 
-and-true : (s t : Bool) → s ≡ true → t ≡ true → (s && t) ≡ true
-and-true true t h k = k
-and-true false t h k = h
-
 -- ---- the three laws
 pub lt-irrefl : (x : Float) → lt x x ≡ false
 unfolding lt
@@ -66,14 +62,14 @@ lt-trans nan y z h k = absurd (false≢true h)
 lt-trans (inf s) nan z h k = absurd (false≢true h)
 lt-trans (inf s) (inf t) nan h k = absurd (false≢true k)
 lt-trans (inf s) (inf t) (inf u) h k = absurd (both s t (not u) h k)
-lt-trans (inf s) (inf t) (fin u c r) h k = absurd (both s t true h (and-true t true k refl))
+lt-trans (inf s) (inf t) (fin u c r) h k = absurd (both s t true h (and-eq-true-iff t true .1 (k, refl)))
 lt-trans (inf s) (fin t b q) nan h k = absurd (false≢true k)
-lt-trans (inf s) (fin t b q) (inf u) h k = and-true s (not u) h k
+lt-trans (inf s) (fin t b q) (inf u) h k = and-eq-true-iff s (not u) .1 (h, k)
 lt-trans (inf s) (fin t b q) (fin u c r) h k = h
 lt-trans (fin s a p) nan z h k = absurd (false≢true h)
 lt-trans (fin s a p) (inf t) nan h k = absurd (false≢true k)
 lt-trans (fin s a p) (inf t) (inf u) h k = absurd (clash t (not u) h k)
-lt-trans (fin s a p) (inf t) (fin u c r) h k = absurd (clash t true h (and-true t true k refl))
+lt-trans (fin s a p) (inf t) (fin u c r) h k = absurd (clash t true h (and-eq-true-iff t true .1 (k, refl)))
 lt-trans (fin s a p) (fin t b q) nan h k = absurd (false≢true k)
 lt-trans (fin s a p) (fin t b q) (inf u) h k = k
 lt-trans (fin s a p) (fin t b q) (fin u c r) h k = below-trans s (a * up p) (down p) t (b * up q) (down q) u (c * up r) (down r) (down-pos p) (down-pos r) h k

@@ -58,7 +58,7 @@ of-whole f n = refl
 part-of : (a c : ℕ) → a / c * c + a % c ≡ a
 part-of a c = div-add-mod' a c
 
-is-part : (x c q r : ℕ) → x ≡ q * c + r → r < c → x / c ≡ q
+pub is-part : (x c q r : ℕ) → x ≡ q * c + r → r < c → x / c ≡ q
 is-part x c q r e h = ap (λ (z : ℕ). z / c) e ∙ digits-div q h
 
 ceiling-next : (a c : ℕ) → 0 < c → a / c * c < a → a / c + 1 ≡ ceiling a c

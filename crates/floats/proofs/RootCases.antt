@@ -3,7 +3,7 @@ use mathlib.Core.Path.{_≡_, refl, sym, ap, _∙_, subst}
 use Prim.Native.Nat.{ℕ, zero, suc, _+_, _-_, _*_, _/_, _^_, _≤_, _<_, zero-le}
 use native.Mathlib.Nat.{le-of-eq, lt-of-le-of-lt, not-le-of-lt, eq-zero-or-pos, zero-lt-suc, zero-mul, mul-one, mul-comm, add-mul, mul-pos, mul-right-comm, mul-le-mul-right, mul-lt-mul-of-pos-right, div-lt-iff-lt-mul}
 use native.Mathlib.Omega.{arith}
-use mathlib.Core.Bool.{Bool, true, false, not, _&&_, _||_, Bool·beq, true≢false}
+use mathlib.Core.Bool.{Bool, true, false, not, _&&_, _||_, Bool·beq, true≢false, and-eq-true-iff}
 use mathlib.Core.Logic.{inl, inr}
 use borrow.Author.Tests.{ltb-true, ltb-false, eqb-true}
 use lib.IntN.{ℤ, pos}
@@ -29,10 +29,6 @@ no e = absurd (true≢false (sym e))
 -- the size of a number that is no zero, as the tests compare it with 0's
 some : (m : ℕ) (e : ℤ) → 0 * down e < suc m * up e * 1
 some m e = subst (λ (z : ℕ). z < suc m * up e * 1) (sym (zero-mul (down e))) (mul-pos (mul-pos (zero-lt-suc m) (up-pos e)) (zero-lt-suc 0))
-
-both : (a b : Bool) → (a && b) ≡ true → a ≡ true
-both true b h = refl
-both false b h = h
 
 none : (s : Bool) (a b : ℕ) → a ≡ 0 → b ≡ 0 → (eqb a b && (Bool·beq s false || eqb a 0)) ≡ true
 none s a b p q = ap (λ (z : ℕ). eqb z b && (Bool·beq s false || eqb z 0)) p ∙ ap (λ (z : ℕ). eqb 0 z && (Bool·beq s false || true)) q ∙ either s
@@ -70,7 +66,7 @@ unfolding eq sqrt
 sqrt-zero f nan h = no h
 sqrt-zero f (inf s) h = no h
 sqrt-zero f (fin s zero e) h = refl
-sqrt-zero f (fin s (suc m) e) h = absurd (not-le-of-lt (some m e) (le-of-eq (eqb-true (suc m * up e * 1) (0 * down e) (both (eqb (suc m * up e * 1) (0 * down e)) (Bool·beq s false || eqb (suc m * up e * 1) 0) h))))
+sqrt-zero f (fin s (suc m) e) h = absurd (not-le-of-lt (some m e) (le-of-eq (eqb-true (suc m * up e * 1) (0 * down e) (and-eq-true-iff (eqb (suc m * up e * 1) (0 * down e)) (Bool·beq s false || eqb (suc m * up e * 1) 0) .0 h .0))))
 
 -- not 0 < x, and not x == 0
 pub sqrt-none : (f : Format) (x : Float) → lt +0 x ≡ false → eq x +0 ≡ false → nan ≡ sqrt f x

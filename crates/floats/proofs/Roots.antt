@@ -3,8 +3,8 @@
 -- There is never a tie (`no-tie`): the square of a middle is an odd number of more digits than the format keeps, times a power of two.
 use mathlib.Core.Path.{_≡_, refl, sym, ap, _∙_, subst}
 use mathlib.Core.Logic.{_⊎_, inl}
-use Prim.Native.Nat.{ℕ, zero, suc, _+_, _-_, _*_, _/_, _%_, _^_, _≤_, _<_, zero-le, compare, Ordering, Ordering·lt, Ordering·gt, compare·zero-suc, compare·suc-zero, compare·suc-suc}
-use native.Mathlib.Nat.{le-trans, le-refl, le-of-eq, le-antisymm, le-of-lt, lt-of-le-of-lt, lt-of-lt-of-le, lt-of-not-le, lt-irrefl, not-le-of-lt, le-of-suc-le-suc, lt-suc-self, not-suc-le-zero, zero-lt-suc, zero-add, mul-one, mul-add, mul-assoc, mul-comm, mul-left-comm, mul-right-comm, mul-suc, suc-mul, mul-pos, mul-le-mul, mul-le-mul-left, mul-le-mul-right, mul-lt-mul-of-pos-right, lt-of-mul-lt-mul-right, mul-div-cancel, le-div-iff-mul-le, div-lt-iff-lt-mul, div-mul-le-self, two-pow-succ, pow-suc, pow-succ', zero-mul, le-mul-of-pos-right, eq-of-mul-eq-mul-right, mul-mul-mul-comm, le-add-left, le-suc, one-mul, add-mul}
+use Prim.Native.Nat.{ℕ, zero, suc, _+_, _-_, _*_, _/_, _%_, _^_, _≤_, _<_, zero-le, compare, Ordering}
+use native.Mathlib.Nat.{le-trans, le-refl, le-of-eq, le-antisymm, le-of-lt, lt-of-le-of-lt, lt-of-lt-of-le, lt-of-not-le, not-le-of-lt, le-of-suc-le-suc, lt-suc-self, zero-lt-suc, zero-add, mul-one, mul-add, mul-assoc, mul-comm, mul-left-comm, mul-right-comm, mul-suc, suc-mul, mul-pos, mul-le-mul, mul-le-mul-left, mul-le-mul-right, mul-lt-mul-of-pos-right, lt-of-mul-lt-mul-right, mul-div-cancel, le-div-iff-mul-le, div-lt-iff-lt-mul, div-mul-le-self, two-pow-succ, pow-suc, pow-succ', zero-mul, le-mul-of-pos-right, eq-of-mul-eq-mul-right, mul-mul-mul-comm, le-add-left, le-suc, one-mul, add-mul}
 use native.Mathlib.Numerals.{add-one}
 use native.Mathlib.Omega.{arith}
 use mathlib.Core.Bool.{Bool, true, false, not, cond}
@@ -21,6 +21,7 @@ use lib.Ieee.Positive.{num, den, den-pos, positive, positive-finite, own-value, 
 use Rattle.floats.specs.Root.{rootFrom, root, nearerRoot, roundRoot, sqrt}
 use Rattle.floats.specs.Steps.{Rooted, nearestRoot}
 use Rattle.floats.specs.NearestRoot.{NearestRoot}
+use Rattle.floats.proofs.Half.{compare-lt, compare-gt}
 use Rattle.floats.proofs.Value.{fitting, unit}
 use Rattle.floats.proofs.Pattern.{size-drop, two-hid, units-fits, units-pattern}
 
@@ -80,18 +81,6 @@ pub record Cut (f : Format) (N k q : ℕ) : Type 0 where
 abbrev pub middles : ℕ → ℕ → ℕ
 middles q k = (2 * q + 1) * 2 ^ k
 
-compare-less : (a b : ℕ) → a < b → compare a b ≡ Ordering·lt
-compare-less zero zero h = absurd (lt-irrefl 0 h)
-compare-less zero (suc b) h = compare·zero-suc b
-compare-less (suc a) zero h = absurd (not-suc-le-zero h)
-compare-less (suc a) (suc b) h = compare·suc-suc a b ∙ compare-less a b (le-of-suc-le-suc h)
-
-compare-more : (a b : ℕ) → b < a → compare a b ≡ Ordering·gt
-compare-more zero zero h = absurd (lt-irrefl 0 h)
-compare-more zero (suc b) h = absurd (not-suc-le-zero h)
-compare-more (suc a) zero h = compare·suc-zero a
-compare-more (suc a) (suc b) h = compare·suc-suc a b ∙ compare-more a b (le-of-suc-le-suc h)
-
 -- `roundRoot` from its n on
 abbrev rest : Format → ℕ → ℕ → ℕ → Float
 rest f n den r = nearerRoot f n den (size r - prec f) (r / 2 ^ (size r - prec f))
@@ -138,10 +127,10 @@ module _ (f : Format) (num den N k q : ℕ) (D : 0 < den) (e : num * 2 ^ (low f 
       ∙ ap (λ (z : ℕ). units f false z k) o
 
   cut-down : N * 4 < middles q k * middles q k → roundRoot f num den ≡ units f false q k
-  cut-down h = cut-at q (ap (λ (o : Ordering). nearest q o) (compare-less (N * den * 4) (den * (middles q k * middles q k)) (times-less N (middles q k * middles q k) den D h)))
+  cut-down h = cut-at q (ap (λ (o : Ordering). nearest q o) (compare-lt (N * den * 4) (den * (middles q k * middles q k)) (times-less N (middles q k * middles q k) den D h)))
 
   cut-up : middles q k * middles q k < N * 4 → roundRoot f num den ≡ units f false (suc q) k
-  cut-up h = cut-at (suc q) (ap (λ (o : Ordering). nearest q o) (compare-more (N * den * 4) (den * (middles q k * middles q k)) (times-more N (middles q k * middles q k) den D h)))
+  cut-up h = cut-at (suc q) (ap (λ (o : Ordering). nearest q o) (compare-gt (N * den * 4) (den * (middles q k * middles q k)) (times-more N (middles q k * middles q k) den D h)))
 
 -- every root of a number that has twice the format's digits is cut so
 size-from : (f : Format) (r : ℕ) → hid f ≤ r → prec f - 1 + (size r - prec f) < size r

@@ -81,7 +81,7 @@ whole-of m u d j l a c e h D =
     let q : m * u * c * l ≡ m * j * c * d = simp (mul-assoc, mul-comm, mul-left-comm) (simp (mul-assoc, mul-comm, mul-left-comm) at (ap (λ (z : ℕ). m * c * z) e)) in
     eq-of-mul-eq-mul-right d D (a * l) (m * j * c) (p ∙ q)
 
-zero-of : (a d c : ℕ) → 0 < d → 0 * c ≡ a * d → a ≡ 0
+pub zero-of : (a d c : ℕ) → 0 < d → 0 * c ≡ a * d → a ≡ 0
 zero-of a d c D h = eq-of-mul-eq-mul-right d D a 0 (sym h ∙ zero-mul c ∙ sym (zero-mul d))
 
 pub round-of-value : (f : Format) (s : Bool) (a c : ℕ) (x : Float) → 0 < c → T (fits f x) → HasValue x s a c → round f s a c ≡ x

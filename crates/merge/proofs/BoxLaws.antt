@@ -11,8 +11,9 @@ use lib.ListN.{length, getD, drop, drop-of-length-le}
 use lib.Seq.{drop-cons}
 use lib.Ieee.{Float}
 use borrow.Author.Tests.{lt-ltb, ltb-true}
+use Rattle.shapes.specs.Numbers.{lesser, greater}
 use Rattle.merge.specs.Corners.{Corner, cornersOf}
-use Rattle.merge.specs.Meets.{Box, lesser, greater, boxFrom}
+use Rattle.merge.specs.Meets.{Box, boxFrom}
 use Rattle.merge.specs.Claims.{nowhere, at}
 use Rattle.merge.proofs.FlatLaws.{length-corners, corner-at}
 use Rattle.merge.proofs.LeastLaws.{same-bool}

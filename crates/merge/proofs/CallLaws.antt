@@ -11,6 +11,7 @@ use lib.Seq.{length-take-le, length-front}
 use lib.Ieee.{Float, binary32, mul, le}
 use lib.Ieee.Scale.{finite}
 use borrow.Author.Tests.{eq-eqb, ne-eqb, lt-ltb, le-ltb, ltb-false}
+use Rattle.shapes.specs.Numbers.{plusZero}
 use Rattle.merge.specs.declared.Merge.{Merge}
 use Rattle.merge.specs.declared.Merge.the-variants.{Merged}
 use Rattle.merge.specs.declared.Cells.{Cells}
@@ -18,7 +19,7 @@ use Rattle.merge.specs.declared.Extent.{Extent}
 use Rattle.merge.specs.Corners.{Corner, cornersOf}
 use Rattle.merge.specs.Meets.{Box, boxOf, finiteBox, inverse, along, cellAlong, gridOf, cellsAcross, cellsDown, neighbours, plainMeets, gridMeets}
 use Rattle.merge.specs.Fold.{merged}
-use Rattle.merge.specs.Call.{Way, badLength, tooMany, badScratch, gridTooBig, unmerged, scanned, gridded, zeroFloat, idle, mergingWay, wayOf, Done}
+use Rattle.merge.specs.Call.{Way, badLength, tooMany, badScratch, gridTooBig, unmerged, scanned, gridded, idle, mergingWay, wayOf, Done}
 use Rattle.merge.specs.Steps.{asBox, columnIn, rowIn, total, meetsIn, Roomy, Filled, Left}
 
 -- ---- the merge itself
@@ -144,13 +145,13 @@ module _ (list : List Float) (radius : Float) (heads links : ℕ) where
     full e = roomy h m s ∙ ap (λ (b : Bool). cond (b || idle radius) unmerged merging) (ne-eqb (length list) 0 e)
 
     pub way-infinite : (length list ≡ 0 → ⊥) → finite radius ≡ false → wayOf list radius heads links ≡ unmerged
-    way-infinite e f = full e ∙ ap (λ (b : Bool). cond (not b || le radius zeroFloat) unmerged merging) f
+    way-infinite e f = full e ∙ ap (λ (b : Bool). cond (not b || le radius plusZero) unmerged merging) f
 
-    pub way-idle : (length list ≡ 0 → ⊥) → finite radius ≡ true → le radius zeroFloat ≡ true → wayOf list radius heads links ≡ unmerged
-    way-idle e f g = full e ∙ ap (λ (b : Bool). cond (not b || le radius zeroFloat) unmerged merging) f ∙ ap (λ (b : Bool). cond b unmerged merging) g
+    pub way-idle : (length list ≡ 0 → ⊥) → finite radius ≡ true → le radius plusZero ≡ true → wayOf list radius heads links ≡ unmerged
+    way-idle e f g = full e ∙ ap (λ (b : Bool). cond (not b || le radius plusZero) unmerged merging) f ∙ ap (λ (b : Bool). cond b unmerged merging) g
 
-    pub way-merging : (length list ≡ 0 → ⊥) → finite radius ≡ true → le radius zeroFloat ≡ false → wayOf list radius heads links ≡ merging
-    way-merging e f g = full e ∙ ap (λ (b : Bool). cond (not b || le radius zeroFloat) unmerged merging) f ∙ ap (λ (b : Bool). cond b unmerged merging) g
+    pub way-merging : (length list ≡ 0 → ⊥) → finite radius ≡ true → le radius plusZero ≡ false → wayOf list radius heads links ≡ merging
+    way-merging e f g = full e ∙ ap (λ (b : Bool). cond (not b || le radius plusZero) unmerged merging) f ∙ ap (λ (b : Bool). cond b unmerged merging) g
 
 pub done-by :
     {way : Way} {list : List Float} {radius : Float} {heads links : List ℕ} {r : Merge} {list' : List Float} {heads' links' : List ℕ}

@@ -1,7 +1,7 @@
 -- The grid: cells and their numbers, the nine cells round a corner, and the chains as corners are put into cells.
 use mathlib.Core.Path.{_≡_, refl, sym, ap, _∙_, subst}
 use mathlib.Core.Logic.{⊎-elim}
-use mathlib.Core.Bool.{Bool, true, false, _&&_, _||_}
+use mathlib.Core.Bool.{Bool, true, false, _&&_, _||_, and-eq-true-iff, and-false, and-comm}
 use mathlib.Core.List.{List, [], _∷_, _++_, map}
 use Prim.Native.Nat.{ℕ, zero, suc, _+_, _-_, _*_, _/_, _%_, _≤_, _<_}
 use native.Mathlib.Nat.{not-suc-le-zero, le-of-suc-le-suc, le-trans, lt-of-lt-of-le, le-mul-of-pos-right, suc-mul, mul-comm, mul-le-mul-right, min-le-right, mul-add-div-right, div-eq-of-lt, mul-add-mod-self-right, mod-eq-of-lt, add-zero}
@@ -20,23 +20,10 @@ use Rattle.merge.specs.Meets.{near, touch}
 use Rattle.merge.specs.Claims.{nowhere, at}
 use Rattle.merge.specs.Steps.{within, least, top, Chains, Falling, inCell, Walked, Member, Unlinked, Joinable, Linked, columnIn, rowIn, cellIn, total, cellsOf, meetsIn, Roomy, Chained, columnAt, rowAt, inOneCell, inThreeCells, inNineCells}
 use Rattle.merge.proofs.FlatLaws.{length-corners}
-use Rattle.merge.proofs.LeastLaws.{both-true, either-true, or-left, or-right, same-bool, least-three, least-same, least-none}
+use Rattle.merge.proofs.LeastLaws.{either-true, or-left, or-right, same-bool, least-three, least-same, least-none}
 use Rattle.merge.proofs.ChainLaws.{top-le, top-none, top-hit, top-above, chain-falling, chains-more}
 
 -- ---- tests
-and-true : (a b : Bool) → a ≡ true → b ≡ true → (a && b) ≡ true
-and-true a b p q = ap (λ (t : Bool). t && b) p ∙ q
-
-and-false : (b : Bool) → (b && false) ≡ false
-and-false true = refl
-and-false false = refl
-
-and-comm : (a b : Bool) → (a && b) ≡ (b && a)
-and-comm true true = refl
-and-comm true false = refl
-and-comm false true = refl
-and-comm false false = refl
-
 or-and : (a b p : Bool) → ((a && p) || (b && p)) ≡ ((a || b) && p)
 or-and true b true = refl
 or-and true b false = and-false b
@@ -67,7 +54,7 @@ touch-three : (a b : ℕ) → oneOfThree a b ≡ touch a b
 touch-three a b = same-bool (oneOfThree a b) (touch a b) there back
   where
     near-by : a ≤ b + 1 → b ≤ a + 1 → touch a b ≡ true
-    near-by p q = and-true (leb a (b + 1)) (leb b (a + 1)) (le-leb a (b + 1) p) (le-leb b (a + 1) q)
+    near-by p q = and-eq-true-iff (leb a (b + 1)) (leb b (a + 1)) .1 ((le-leb a (b + 1) p), (le-leb b (a + 1) q))
 
     low : (eqb (b + 1) a || eqb (b + 1) (a + 1)) ≡ true → touch a b ≡ true
     low t =
@@ -88,7 +75,7 @@ touch-three a b = same-bool (oneOfThree a b) (touch a b) there back
     pick p q (no e) (no d) = or-right (eqb (b + 1) a || eqb (b + 1) (a + 1)) (eqb (b + 1) (a + 2)) (eq-eqb (b + 1) (a + 2) (omega arith))
 
     back : touch a b ≡ true → oneOfThree a b ≡ true
-    back t = let w = both-true (leb a (b + 1)) (leb b (a + 1)) t in pick (leb-true a (b + 1) (w .0)) (leb-true b (a + 1) (w .1)) (ℕ-discrete (b + 1) a) (ℕ-discrete b a)
+    back t = let w = and-eq-true-iff (leb a (b + 1)) (leb b (a + 1)) .0 t in pick (leb-true a (b + 1) (w .0)) (leb-true b (a + 1) (w .1)) (ℕ-discrete (b + 1) a) (ℕ-discrete b a)
 
 -- ---- cells and their numbers
 pub column-lt : (g : Cells) (v : Float) → 0 < g .across → columnIn g v < g .across
@@ -122,8 +109,8 @@ column-part w r a h = mul-add-mod-self-right r w a ∙ mod-eq-of-lt h
 same-cell : (w r a s b : ℕ) → a < w → b < w → eqb (r * w + a) (s * w + b) ≡ (eqb a b && eqb r s)
 same-cell w r a s b p q =
     same-bool (eqb (r * w + a) (s * w + b)) (eqb a b && eqb r s)
-    (λ t. let e = eqb-true (r * w + a) (s * w + b) t in and-true (eqb a b) (eqb r s) (eq-eqb a b (sym (column-part w r a p) ∙ ap (λ (k : ℕ). k % w) e ∙ column-part w s b q)) (eq-eqb r s (sym (row-part w r a p) ∙ ap (λ (k : ℕ). k / w) e ∙ row-part w s b q)))
-    (λ t. let u = both-true (eqb a b) (eqb r s) t in eq-eqb (r * w + a) (s * w + b) (ap (λ (k : ℕ). r * w + k) (eqb-true a b (u .0)) ∙ ap (λ (k : ℕ). k * w + b) (eqb-true r s (u .1))))
+    (λ t. let e = eqb-true (r * w + a) (s * w + b) t in and-eq-true-iff (eqb a b) (eqb r s) .1 ((eq-eqb a b (sym (column-part w r a p) ∙ ap (λ (k : ℕ). k % w) e ∙ column-part w s b q)), (eq-eqb r s (sym (row-part w r a p) ∙ ap (λ (k : ℕ). k / w) e ∙ row-part w s b q))))
+    (λ t. let u = and-eq-true-iff (eqb a b) (eqb r s) .0 t in eq-eqb (r * w + a) (s * w + b) (ap (λ (k : ℕ). r * w + k) (eqb-true a b (u .0)) ∙ ap (λ (k : ℕ). k * w + b) (eqb-true r s (u .1))))
 
 -- a number and one more than it
 one-more : (a b : ℕ) → 0 < b → eqb a (b - 1) ≡ eqb (a + 1) b

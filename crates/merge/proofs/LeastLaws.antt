@@ -1,7 +1,7 @@
 -- The least number that passes a test: what it is, and that it is found whatever parts of the numbers are gone through first.
 use mathlib.Core.Path.{_≡_, refl, sym, ap, _∙_, subst}
 use mathlib.Core.Logic.{_⊎_, inl, inr, ⊎-elim}
-use mathlib.Core.Bool.{Bool, true, false, _&&_, _||_, cond, false≢true}
+use mathlib.Core.Bool.{Bool, true, false, _&&_, _||_, cond, false≢true, and-eq-true-iff}
 use Prim.Native.Nat.{ℕ, zero, suc, _≤_, _<_}
 use native.Mathlib.Nat.{not-suc-le-zero, le-antisymm, le-refl, eq-or-lt-of-le, le-of-suc-le-suc, lt-of-not-le}
 use native.Mathlib.Decide.{decLe}
@@ -9,10 +9,6 @@ use native.Mathlib.Omega.{arith}
 use lib.Dec.{ltb}
 use borrow.Author.Tests.{ltb-true, ltb-false}
 use Rattle.merge.specs.Steps.{least}
-
-pub both-true : (a b : Bool) → (a && b) ≡ true → (a ≡ true) × (b ≡ true)
-both-true true b h = (refl, h)
-both-true false b h = absurd (false≢true h)
 
 pub either-true : (a b : Bool) → (a || b) ≡ true → (a ≡ true) ⊎ (b ≡ true)
 either-true true b h = inl refl
@@ -50,13 +46,13 @@ least-is test (suc n) best = go (test n && ltb n best) refl (λ b. least-is test
         → IsLeast test (suc n) best (least test n (cond b n best))
     go true e ih =
         let i = ih true in
-        let l : n < best = ltb-true n best (both-true (test n) (ltb n best) e .1) in
+        let l : n < best = ltb-true n best (and-eq-true-iff (test n) (ltb n best) .0 e .1) in
         let u = i .lower in
         record {
           lower = omega arith;
           below = λ j h t. ⊎-elim (λ q. subst (λ (k : ℕ). least test n n ≤ k) (sym q) u) (λ k. i .below j k t) (eq-or-lt-of-le (le-of-suc-le-suc h));
           found =
-              inr (⊎-elim (λ q. (omega arith, subst (λ (k : ℕ). test k ≡ true) (sym q) (both-true (test n) (ltb n best) e .0))) (λ w. (omega arith, w .1)) (i .found));
+              inr (⊎-elim (λ q. (omega arith, subst (λ (k : ℕ). test k ≡ true) (sym q) (and-eq-true-iff (test n) (ltb n best) .0 e .0))) (λ w. (omega arith, w .1)) (i .found));
         }
     go false e ih =
         let i = ih false in

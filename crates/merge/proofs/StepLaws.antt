@@ -8,9 +8,9 @@ use native.Mathlib.Omega.{arith}
 use lib.ListN.{length, getD, set, take, drop, replicate, drop-of-length-le}
 use lib.Seq.{length-take-le, getD-take, take-set-lt, drop-set-lt, take-suc-set, set-getD, drop-cons}
 use lib.Ieee.{Float, lt}
+use Rattle.shapes.specs.Numbers.{plusZero}
 use Rattle.merge.specs.Corners.{Corner, cornersOf, flat}
 use Rattle.merge.specs.Fold.{stronger, place, placeOf, mergeFrom, merged}
-use Rattle.merge.specs.Call.{zeroFloat}
 use Rattle.merge.specs.Claims.{nowhere, at}
 use Rattle.merge.specs.Steps.{least, Stepped, Passed, Filled}
 use Rattle.merge.proofs.FlatLaws.{length-corners, read, corner-at, take-flat}
@@ -97,7 +97,7 @@ pass-end meets i count l h = ap (mergeFrom meets (take count l)) (sym (drop-of-l
 -- the kept corners, then zeros
 pub fill-kept :
     {meets : Corner → Corner → Bool} {list list' list'' : List Float} {count : ℕ} → Passed meets list count list'
-    → length list' ≡ length list → list'' ≡ take (3 * count) list' ++ replicate (length list' - 3 * count) zeroFloat
+    → length list' ≡ length list → list'' ≡ take (3 * count) list' ++ replicate (length list' - 3 * count) plusZero
     → Filled list (merged meets (cornersOf list)) count list''
 fill-kept {meets} {list} {list'} {list''} {count} p same e =
     let t = p .there in
@@ -106,9 +106,9 @@ fill-kept {meets} {list} {list'} {list''} {count} p same e =
       counts = n;
       holds =
           e
-          ∙ ap (λ (l : List Float). l ++ replicate (length list' - 3 * count) zeroFloat) (take-flat list' count (omega arith) ∙ ap flat (p .kept))
-          ∙ ap (λ (k : ℕ). flat (merged meets (cornersOf list)) ++ replicate (k - 3 * count) zeroFloat) same
-          ∙ ap (λ (k : ℕ). flat (merged meets (cornersOf list)) ++ replicate (length list - 3 * k) zeroFloat) n;
+          ∙ ap (λ (l : List Float). l ++ replicate (length list' - 3 * count) plusZero) (take-flat list' count (omega arith) ∙ ap flat (p .kept))
+          ∙ ap (λ (k : ℕ). flat (merged meets (cornersOf list)) ++ replicate (k - 3 * count) plusZero) same
+          ∙ ap (λ (k : ℕ). flat (merged meets (cornersOf list)) ++ replicate (length list - 3 * k) plusZero) n;
     }
 
 -- ---- the same, with the floats as they are read

@@ -1,14 +1,14 @@
 -- The public call: document 01's tests in their order (`wayOf`), what each way answers, and what it leaves in the three lent buffers.
 -- No refusal writes. The plain scan and a list or radius that needs no merging leave heads and links as they were; a grid merge leaves both all zero.
 use mathlib.Core.Path.{_≡_}
-use mathlib.Core.Bool.{Bool, true, false, not, _||_, cond}
-use mathlib.Core.List.{List, [], _∷_, _++_}
+use mathlib.Core.Bool.{Bool, not, _||_, cond}
+use mathlib.Core.List.{List, _++_}
 use Prim.Native.Nat.{ℕ, _-_, _*_, _/_, _%_}
 use lib.Dec.{eqb, ltb}
-use lib.IntN.{pos}
 use lib.ListN.{length, replicate}
-use lib.Ieee.{Float, fin, binary32, mul, le}
+use lib.Ieee.{Float, binary32, mul, le}
 use lib.Ieee.Scale.{finite}
+use Rattle.shapes.specs.Numbers.{plusZero}
 use Rattle.merge.specs.declared.Merge.{Merge}
 use Rattle.merge.specs.declared.Merge.the-variants.{Merged, BadLength, TooMany, BadScratch, GridTooBig}
 use Rattle.merge.specs.Corners.{Corner, cornersOf, flat}
@@ -29,12 +29,9 @@ pub data Way : Type 0 where
   scanned : List Corner → Way
   gridded : List Corner → Way
 
-abbrev pub zeroFloat : Float
-zeroFloat = fin false 0 (pos 0)
-
 -- a radius that merges nothing: NaN, infinite or at most zero
 abbrev pub idle : Float → Bool
-idle radius = not (finite radius) || le radius zeroFloat
+idle radius = not (finite radius) || le radius plusZero
 
 unfoldable pub mergingWay : List Corner → Float → ℕ → Way
 mergingWay l radius heads =
@@ -64,7 +61,7 @@ answerOf list (gridded kept) = Merged (length kept)
 
 -- the kept corners, and +0.0 in the freed tail
 abbrev pub filled : List Float → List Corner → List Float
-filled list kept = flat kept ++ replicate (length list - 3 * length kept) zeroFloat
+filled list kept = flat kept ++ replicate (length list - 3 * length kept) plusZero
 
 abbrev pub listAfter : List Float → Way → List Float
 listAfter list badLength = list

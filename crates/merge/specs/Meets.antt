@@ -1,14 +1,14 @@
 -- Which corners meet. `near` is the test of both routines: dx² + dy² <= r² in binary32, one rounding an operation.
 -- The plain scan asks nothing else. The grid asks besides that the two lie in cells that touch: cells are squares with the radius for a side,
 -- laid from the least x and y on, and a corner beyond the last cell counts to the last.
-use mathlib.Core.Bool.{Bool, true, false, _&&_, cond}
+use mathlib.Core.Bool.{Bool, true, false, _&&_}
 use mathlib.Core.List.{List, [], _∷_}
-use Prim.Native.Nat.{ℕ, suc, _+_, _-_, _*_, min}
+use Prim.Native.Nat.{ℕ, _+_, _-_, min}
 use lib.Dec.{leb}
-use lib.IntN.{pos}
-use lib.Ieee.{Float, inf, fin, binary32, add, sub, mul, div, lt, le, toUnsigned}
+use lib.Ieee.{Float, inf, binary32, add, sub, mul, div, le, toUnsigned}
 use lib.Ieee.Scale.{finite}
 use Rattle.floats.specs.Whole.{floor}
+use Rattle.shapes.specs.Numbers.{one, lesser, greater}
 use Rattle.merge.specs.Corners.{Corner}
 
 -- a corner that comes, and one that is kept
@@ -24,12 +24,6 @@ pub record Box : Type 0 where
   pub minY : Float
   pub maxX : Float
   pub maxY : Float
-
-abbrev pub lesser : Float → Float → Float
-lesser a b = cond (lt a b) a b
-
-abbrev pub greater : Float → Float → Float
-greater a b = cond (lt b a) a b
 
 abbrev pub noBox : Box
 noBox = record { minX = inf false; minY = inf false; maxX = inf true; maxY = inf true }
@@ -49,9 +43,6 @@ abbrev pub finiteBox : Box → Bool
 finiteBox b = finite (b .minX) && finite (b .minY) && finite (b .maxX) && finite (b .maxY)
 
 -- ---- the cells: how many there are along an axis, and the one that a coordinate lies in
-abbrev pub one : Float
-one = fin false 1 (pos 0)
-
 abbrev pub inverse : Float → Float
 inverse radius = div binary32 one radius
 

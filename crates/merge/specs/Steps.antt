@@ -8,6 +8,7 @@ use Prim.Native.Nat.{ℕ, zero, suc, _+_, _-_, _*_, _/_, _≤_, _<_, min}
 use lib.Dec.{eqb, ltb}
 use lib.ListN.{length, getD, set, take, drop}
 use lib.Ieee.{Float, binary32, sub, mul, toUnsigned}
+use Rattle.shapes.specs.Numbers.{plusZero}
 use Rattle.merge.specs.declared.Merge.{Merge}
 use Rattle.merge.specs.declared.Disc.{Disc}
 use Rattle.merge.specs.declared.Cells.{Cells}
@@ -15,7 +16,7 @@ use Rattle.merge.specs.declared.Extent.{Extent}
 use Rattle.merge.specs.Corners.{Corner, cornersOf}
 use Rattle.merge.specs.Meets.{near, touch, Box}
 use Rattle.merge.specs.Fold.{place, merged}
-use Rattle.merge.specs.Call.{Way, answerOf, listAfter, scratchAfter, filled, zeroFloat}
+use Rattle.merge.specs.Call.{Way, answerOf, listAfter, scratchAfter, filled}
 use Rattle.merge.specs.Claims.{at}
 
 abbrev pub corner : Float → Float → Float → Corner
@@ -23,7 +24,7 @@ corner a b s = record { x = a; y = b; strength = s }
 
 -- ---- whom a place meets; the strength does not matter there
 abbrev pub point : Float → Float → Corner
-point a b = corner a b zeroFloat
+point a b = corner a b plusZero
 
 -- whether corner j of a flat list lies in a disc
 unfoldable pub within : Disc → List Float → ℕ → Bool

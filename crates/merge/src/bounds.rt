@@ -2,8 +2,9 @@
 use crate::Extent;
 ghost use mathlib.Core.Path.{_≡_};
 ghost use Prim.Native.Nat.{_+_};
+ghost use Rattle.shapes.specs.Numbers.{lesser, greater};
 ghost use Rattle.merge.specs.Corners.{cornersOf};
-ghost use Rattle.merge.specs.Meets.{lesser, greater, boxOf, finiteBox, along};
+ghost use Rattle.merge.specs.Meets.{boxOf, finiteBox, along};
 ghost use Rattle.merge.specs.Steps.{asBox};
 
 pub fn of(corners: &[f32]) -> Extent

@@ -4,8 +4,8 @@ ghost use mathlib.Core.Path.{_≡_};
 ghost use mathlib.Core.List.{_++_};
 ghost use Prim.Native.Nat.{_+_, _-_, _*_, _<_, _≤_};
 ghost use lib.ListN.{length, set, take, replicate};
+ghost use Rattle.shapes.specs.Numbers.{plusZero};
 ghost use Rattle.merge.specs.Corners.{cornersOf};
-ghost use Rattle.merge.specs.Call.{zeroFloat};
 ghost use Rattle.merge.specs.Steps.{corner, within};
 
 // Whether corner j lies in the disc.
@@ -31,7 +31,7 @@ pub fn put(corners: &mut [f32], j: usize, x: f32, y: f32, strength: f32)
 // Fills the list with +0.0 from a place on.
 pub fn zero_from(corners: &mut [f32], from: usize)
     requires { ⌜ from ≤ length (now corners) ⌝ }
-    ensures { λ _. ⌜ now (corners .exit) ≡ take from (now (corners .entry)) ++ replicate (length (now (corners .entry)) - from) zeroFloat ⌝ }
+    ensures { λ _. ⌜ now (corners .exit) ≡ take from (now (corners .entry)) ++ replicate (length (now (corners .entry)) - from) plusZero ⌝ }
 {
     let mut i = from;
     while i < corners.len() {

@@ -1,17 +1,19 @@
 -- Records to numbers, and numbers to text: a record is three words, a word a bit pattern; a corner's line is its three patterns in
 -- eight upper-case hex digits each, with single spaces between, and a line feed.
-use mathlib.Core.Bool.{Bool, cond}
-use mathlib.Core.List.{List, [], _∷_, _++_}
-use Prim.Native.Nat.{ℕ, zero, suc, _+_, _*_, _/_, _%_, _^_}
+use mathlib.Core.Bool.{cond}
+use mathlib.Core.List.{List, [], _∷_}
+use Prim.Native.Nat.{ℕ, _+_, _*_, _/_, _%_}
 use lib.Dec.{ltb}
 use lib.Ieee.{Float, binary32, ofBits}
+use Rattle.shapes.specs.Lists.{tabulated}
 use Rattle.words.specs.Words.{wordAt}
 
 -- the first n numbers of a file
-unfoldable pub numbers : ℕ → List ℕ → List Float
-unfolding wordAt
-numbers zero bytes = []
-numbers (suc n) bytes = numbers n bytes ++ (ofBits binary32 (wordAt bytes (4 * n)) ∷ [])
+abbrev pub numberAt : List ℕ → ℕ → Float
+numberAt bytes i = ofBits binary32 (wordAt bytes (4 * i))
+
+abbrev pub numbers : ℕ → List ℕ → List Float
+numbers n bytes = tabulated n (numberAt bytes)
 
 -- '0' to '9' and 'A' to 'F'
 abbrev pub hexDigit : ℕ → ℕ

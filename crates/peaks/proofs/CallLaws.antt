@@ -1,6 +1,6 @@
 -- The public call's tests one after the other, and what each way leaves behind.
 use mathlib.Core.Path.{_≡_, refl, sym, ap, _∙_, subst}
-use mathlib.Core.Bool.{Bool, true, false, _&&_, not, cond}
+use mathlib.Core.Bool.{Bool, true, false, _&&_, not, cond, and-false}
 use mathlib.Core.List.{List}
 use Prim.Native.Nat.{ℕ, _/_, _%_, _≤_, _<_}
 use lib.Dec.{T, leb, ltb, eqb}
@@ -15,7 +15,7 @@ use Rattle.peaks.specs.declared.Peaks.the-variants.{Found, BadImage, Bad
 use Rattle.peaks.specs.Peak.{Scan}
 use Rattle.peaks.specs.Call.{Way, refused, found, peaksOf, radiiFit, wayOf, answerOf, outAfter, Done}
 use Rattle.peaks.specs.Steps.{Sound, filled}
-use Rattle.peaks.proofs.CountLaws.{and-false, first-of, second-of}
+use Rattle.peaks.proofs.CountLaws.{first-of, second-of}
 
 -- ---- the test of the radii
 abbrev five : Bool → Bool → Bool → Bool → Bool → Bool

@@ -1,7 +1,7 @@
 -- The rule of one pixel, test by test, and the first peak of a row.
 use mathlib.Core.Path.{_≡_, sym, ap, _∙_, subst}
 use mathlib.Core.Logic.{_⊎_, inl, inr, ⊎-elim}
-use mathlib.Core.Bool.{Bool, true, false, _&&_}
+use mathlib.Core.Bool.{Bool, true, false, _&&_, and-false}
 use Prim.Native.Nat.{ℕ, zero, suc, _+_, _*_, _≤_, _<_, zero-le, suc-le-suc}
 use native.Mathlib.Nat.{eq-or-lt-of-le}
 use native.Mathlib.Omega.{arith}
@@ -11,7 +11,7 @@ use lib.Ieee.{Float, nan, lt}
 use borrow.Author.Tests.{lt-leb, le-leb, lt-ltb, le-ltb}
 use Rattle.peaks.specs.Peak.{Scan, valueAt, border, inside, least, highest, positives, isPeak}
 use Rattle.peaks.specs.Steps.{Within, Bordered, FirstIn, InRow}
-use Rattle.peaks.proofs.CountLaws.{and-false, both}
+use Rattle.peaks.proofs.CountLaws.{both}
 
 pub lt-or-le : (a b : ℕ) → (a < b) ⊎ (b ≤ a)
 lt-or-le a zero = inr zero-le

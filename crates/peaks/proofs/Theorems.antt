@@ -1,6 +1,6 @@
 -- What holds of every peak of every response: two of them never lie in each other's window, and each exceeds zero and the threshold.
 use mathlib.Core.Path.{_≡_, refl, sym, ap, _∙_, subst}
-use mathlib.Core.Logic.{_⊎_, ⊎-elim}
+use mathlib.Core.Logic.{⊎-elim}
 use mathlib.Core.Bool.{Bool, true, false, _&&_, _||_, not, cond, false≢true}
 use Prim.Native.Nat.{ℕ, _+_, _-_, _*_, _/_, _%_, _≤_, _<_}
 use native.Mathlib.Nat.{add-mul, suc-mul, mul-le-mul-right, zero-mul, mul-pos, eq-or-lt-of-le}
@@ -12,7 +12,8 @@ use lib.Ieee.Fits.{down-pos}
 use lib.Ieee.Scale.{finite}
 use borrow.Author.Tests.{ne-eqb, ltb-true, ltb-false, lt-ltb}
 use Rattle.floats.proofs.OrderLaws.{lt-trans, lt-asym}
-use Rattle.peaks.specs.Peak.{Scan, zeroFloat, valueAt, least, side, cells, middle, neighbour, beats, inside, highest, positives, isPeak}
+use Rattle.shapes.specs.Numbers.{plusZero}
+use Rattle.peaks.specs.Peak.{Scan, valueAt, least, side, cells, middle, neighbour, beats, inside, highest, positives, isPeak}
 use Rattle.peaks.proofs.CountLaws.{first-of, second-of, every-at}
 use Rattle.peaks.proofs.PeakLaws.{lt-or-le}
 use Rattle.peaks.proofs.WindowLaws.{beats-before, beats-after, middle-is}
@@ -122,7 +123,7 @@ fractions false false a c p r l h k =
     let m : 0 < c * p = mul-pos (let n = ltb-true (0 * r) (c * 1) k in omega arith) l in
     lt-ltb (a * r) (c * p) (subst (λ (q : ℕ). q < c * p) (sym (ap (λ (q : ℕ). q * r) (let e : a ≡ 0 = omega (arith, ltb-false (0 * p) (a * 1) h) in e) ∙ zero-mul r)) m)
 
-below-positive : (t v : Float) → (t ≡ nan → ⊥) → lt zeroFloat t ≡ false → lt zeroFloat v ≡ true → lt t v ≡ true
+below-positive : (t v : Float) → (t ≡ nan → ⊥) → lt plusZero t ≡ false → lt plusZero v ≡ true → lt t v ≡ true
 unfolding lt
 below-positive nan v e h k = absurd (e refl)
 below-positive (inf true) nan e h k = absurd (false≢true k)
@@ -133,18 +134,18 @@ below-positive (fin z a p) nan e h k = absurd (false≢true k)
 below-positive (fin z a p) (inf u) e h k = k
 below-positive (fin z a p) (fin u c r) e h k = fractions z u (a * up p) (c * up r) (down p) (down r) (down-pos p) h k
 
-pub above-zero : (s : Scan) (x y : ℕ) → isPeak s x y ≡ true → lt zeroFloat (valueAt s x y) ≡ true
-above-zero s x y peak = go (lt zeroFloat (s .threshold)) refl
+pub above-zero : (s : Scan) (x y : ℕ) → isPeak s x y ≡ true → lt plusZero (valueAt s x y) ≡ true
+above-zero s x y peak = go (lt plusZero (s .threshold)) refl
   where
-    go : (z : Bool) → lt zeroFloat (s .threshold) ≡ z → lt zeroFloat (valueAt s x y) ≡ true
-    go true e = lt-trans zeroFloat (s .threshold) (valueAt s x y) e (sym (ap (λ (z : Bool). lt (cond z (s .threshold) zeroFloat) (valueAt s x y)) e) ∙ is-above s x y peak)
-    go false e = sym (ap (λ (z : Bool). lt (cond z (s .threshold) zeroFloat) (valueAt s x y)) e) ∙ is-above s x y peak
+    go : (z : Bool) → lt plusZero (s .threshold) ≡ z → lt plusZero (valueAt s x y) ≡ true
+    go true e = lt-trans plusZero (s .threshold) (valueAt s x y) e (sym (ap (λ (z : Bool). lt (cond z (s .threshold) plusZero) (valueAt s x y)) e) ∙ is-above s x y peak)
+    go false e = sym (ap (λ (z : Bool). lt (cond z (s .threshold) plusZero) (valueAt s x y)) e) ∙ is-above s x y peak
 
 pub above-threshold : (s : Scan) (x y : ℕ) → (s .threshold ≡ nan → ⊥) → isPeak s x y ≡ true → lt (s .threshold) (valueAt s x y) ≡ true
-above-threshold s x y number peak = go (lt zeroFloat (s .threshold)) refl
+above-threshold s x y number peak = go (lt plusZero (s .threshold)) refl
   where
-    go : (z : Bool) → lt zeroFloat (s .threshold) ≡ z → lt (s .threshold) (valueAt s x y) ≡ true
-    go true e = sym (ap (λ (z : Bool). lt (cond z (s .threshold) zeroFloat) (valueAt s x y)) e) ∙ is-above s x y peak
+    go : (z : Bool) → lt plusZero (s .threshold) ≡ z → lt (s .threshold) (valueAt s x y) ≡ true
+    go true e = sym (ap (λ (z : Bool). lt (cond z (s .threshold) plusZero) (valueAt s x y)) e) ∙ is-above s x y peak
     go false e = below-positive (s .threshold) (valueAt s x y) number e (above-zero s x y peak)
 
 pub above-finite : (s : Scan) (x y : ℕ) → finite (s .threshold) ≡ true → isPeak s x y ≡ true → lt (s .threshold) (valueAt s x y) ≡ true

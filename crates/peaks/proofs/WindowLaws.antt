@@ -10,7 +10,8 @@ use lib.ListN.{getD}
 use lib.Ieee.{Float, nan, lt}
 use borrow.Author.Tests.{eq-eqb, ne-eqb}
 use Rattle.floats.proofs.OrderLaws.{lt-asym}
-use Rattle.peaks.specs.Peak.{Scan, zeroFloat, valueAt, side, cells, middle, neighbour, every, count, beats, highest, positives}
+use Rattle.shapes.specs.Numbers.{plusZero}
+use Rattle.peaks.specs.Peak.{Scan, valueAt, side, cells, middle, neighbour, every, count, beats, highest, positives}
 use Rattle.peaks.specs.Steps.{runAt, blockAt}
 use Rattle.peaks.proofs.CountLaws.{every-cut, every-same, every-miss, count-cut, count-same, count-most}
 
@@ -198,27 +199,27 @@ module _ (s : Scan) (x y : ℕ) (low : s .window ≤ x) (high : s .window ≤ y)
 
   -- ---- the positive values of the window are those of the four pieces
   abbrev counted : ℕ → Bool
-  counted j = not (eqb j (middle s)) && lt zeroFloat (neighbour s x y j)
+  counted j = not (eqb j (middle s)) && lt plusZero (neighbour s x y j)
 
-  other : (j : ℕ) (w : Float) → (j ≡ rows + n → ⊥) → neighbour s x y j ≡ w → counted j ≡ lt zeroFloat w
+  other : (j : ℕ) (w : Float) → (j ≡ rows + n → ⊥) → neighbour s x y j ≡ w → counted j ≡ lt plusZero w
   other j w h e =
-      ap (λ (z : Bool). not z && lt zeroFloat (neighbour s x y j)) (ne-eqb j (middle s) (λ q. h (q ∙ middle-is s))) ∙ ap (λ (z : Float). lt zeroFloat z) e
+      ap (λ (z : Bool). not z && lt plusZero (neighbour s x y j)) (ne-eqb j (middle s) (λ q. h (q ∙ middle-is s))) ∙ ap (λ (z : Float). lt plusZero z) e
 
   itself-not : count 1 (λ j. counted (rows + (n + j))) ≡ 0
   unfolding count
-  itself-not = ap (λ (z : Bool). 0 + cond {A = ℕ} (not z && lt zeroFloat (neighbour s x y (rows + (n + 0)))) 1 0) (eq-eqb (rows + (n + 0)) (middle s) (omega (arith, middle-is s)))
+  itself-not = ap (λ (z : Bool). 0 + cond {A = ℕ} (not z && lt plusZero (neighbour s x y (rows + (n + 0)))) 1 0) (eq-eqb (rows + (n + 0)) (middle s) (omega (arith, middle-is s)))
 
   abbrev countAbove : ℕ
-  countAbove = count rows (λ j. lt zeroFloat (blockAt (s .values) corner (s .width) (side s) j))
+  countAbove = count rows (λ j. lt plusZero (blockAt (s .values) corner (s .width) (side s) j))
 
   abbrev countLeft : ℕ
-  countLeft = count n (λ i. lt zeroFloat (runAt (s .values) (at - n) i))
+  countLeft = count n (λ i. lt plusZero (runAt (s .values) (at - n) i))
 
   abbrev countRight : ℕ
-  countRight = count n (λ i. lt zeroFloat (runAt (s .values) (at + 1) i))
+  countRight = count n (λ i. lt plusZero (runAt (s .values) (at + 1) i))
 
   abbrev countBelow : ℕ
-  countBelow = count rows (λ j. lt zeroFloat (blockAt (s .values) (at + s .width - n) (s .width) (side s) j))
+  countBelow = count rows (λ j. lt plusZero (blockAt (s .values) (at + s .width - n) (s .width) (side s) j))
 
   positives-is : positives s x y ≡ countAbove + countLeft + countRight + countBelow
   unfolding positives
@@ -227,11 +228,11 @@ module _ (s : Scan) (x y : ℕ) (low : s .window ≤ x) (high : s .window ≤ y)
       ∙ ap (λ (z : ℕ). count rows counted + z) (count-cut (λ j. counted (rows + j)) n (1 + (n + rows)))
       ∙ ap (λ (z : ℕ). count rows counted + (count n (λ j. counted (rows + j)) + z)) (count-cut (λ j. counted (rows + (n + j))) 1 (n + rows))
       ∙ ap (λ (z : ℕ). count rows counted + (count n (λ j. counted (rows + j)) + (count 1 (λ j. counted (rows + (n + j))) + z))) (count-cut (λ j. counted (rows + (n + (1 + j)))) n rows)
-      ∙ sums (count-same rows counted (λ j. lt zeroFloat (blockAt (s .values) corner (s .width) (side s) j)) (λ j h. other j (blockAt (s .values) corner (s .width) (side s) j) (λ e. omega arith) (above j)))
-      (count-same n (λ j. counted (rows + j)) (λ i. lt zeroFloat (runAt (s .values) (at - n) i)) (λ i h. other (rows + i) (runAt (s .values) (at - n) i) (λ e. omega arith) (left i h)))
+      ∙ sums (count-same rows counted (λ j. lt plusZero (blockAt (s .values) corner (s .width) (side s) j)) (λ j h. other j (blockAt (s .values) corner (s .width) (side s) j) (λ e. omega arith) (above j)))
+      (count-same n (λ j. counted (rows + j)) (λ i. lt plusZero (runAt (s .values) (at - n) i)) (λ i h. other (rows + i) (runAt (s .values) (at - n) i) (λ e. omega arith) (left i h)))
       itself-not
-      (count-same n (λ j. counted (rows + (n + (1 + j)))) (λ i. lt zeroFloat (runAt (s .values) (at + 1) i)) (λ i h. other (rows + (n + (1 + i))) (runAt (s .values) (at + 1) i) (λ e. omega arith) (right i h)))
-      (count-same rows (λ j. counted (rows + (n + (1 + (n + j))))) (λ j. lt zeroFloat (blockAt (s .values) (at + s .width - n) (s .width) (side s) j)) (λ j h. other (rows + (n + (1 + (n + j)))) (blockAt (s .values) (at + s .width - n) (s .width) (side s) j) (λ e. omega arith) (below j)))
+      (count-same n (λ j. counted (rows + (n + (1 + j)))) (λ i. lt plusZero (runAt (s .values) (at + 1) i)) (λ i h. other (rows + (n + (1 + i))) (runAt (s .values) (at + 1) i) (λ e. omega arith) (right i h)))
+      (count-same rows (λ j. counted (rows + (n + (1 + (n + j))))) (λ j. lt plusZero (blockAt (s .values) (at + s .width - n) (s .width) (side s) j)) (λ j h. other (rows + (n + (1 + (n + j)))) (blockAt (s .values) (at + s .width - n) (s .width) (side s) j) (λ e. omega arith) (below j)))
     where
       sums : {a b c d e a' b' d' e' : ℕ} → a ≡ a' → b ≡ b' → c ≡ 0 → d ≡ d' → e ≡ e' → a + (b + (c + (d + e))) ≡ a' + b' + d' + e'
       sums p q r t u = omega arith
@@ -239,7 +240,7 @@ module _ (s : Scan) (x y : ℕ) (low : s .window ≤ x) (high : s .window ≤ y)
   -- counts that are those of the pieces, one after the other: how far they go, and how large they are
   module _ {l r : ℕ} (small : n ≤ 8) (f : l ≡ countLeft) (g : r ≡ countRight) where
     beside-most : l + r ≤ 16
-    beside-most = omega (arith, f, g, count-most n (λ i. lt zeroFloat (runAt (s .values) (at - n) i)), count-most n (λ i. lt zeroFloat (runAt (s .values) (at + 1) i)))
+    beside-most = omega (arith, f, g, count-most n (λ i. lt plusZero (runAt (s .values) (at - n) i)), count-most n (λ i. lt plusZero (runAt (s .values) (at + 1) i)))
 
     rows-most : rows ≤ 136
     rows-most = mul-le-mul {n₂ = 8} {m₂ = 17} small (let m : side s ≤ 17 = omega arith in m)
@@ -248,8 +249,8 @@ module _ (s : Scan) (x y : ℕ) (low : s .window ≤ x) (high : s .window ≤ y)
     positives-beside = (omega (arith, f, g, positives-is), beside-most)
 
     pub positives-above : {a : ℕ} → a ≡ countAbove → (l + r + a ≤ positives s x y) × (l + r + a ≤ 152)
-    positives-above {a} e = (omega (arith, f, g, positives-is), omega (arith, beside-most, rows-most, count-most rows (λ j. lt zeroFloat (blockAt (s .values) corner (s .width) (side s) j))))
+    positives-above {a} e = (omega (arith, f, g, positives-is), omega (arith, beside-most, rows-most, count-most rows (λ j. lt plusZero (blockAt (s .values) corner (s .width) (side s) j))))
 
     pub positives-all : {a b : ℕ} → a ≡ countAbove → b ≡ countBelow → (l + r + a + b ≡ positives s x y) × (l + r + a + b ≤ 288)
     positives-all {a} {b} e h =
-        (omega (arith, f, g, positives-is), omega (arith, positives-above e .1, rows-most, count-most rows (λ j. lt zeroFloat (blockAt (s .values) (at + s .width - n) (s .width) (side s) j))))
+        (omega (arith, f, g, positives-is), omega (arith, positives-above e .1, rows-most, count-most rows (λ j. lt plusZero (blockAt (s .values) (at + s .width - n) (s .width) (side s) j))))

@@ -1,12 +1,11 @@
 -- The rule by which a pixel of a response is a peak: it is inside the border, its value exceeds max(threshold, 0), it beats every other value of its
 -- square window, and enough of those are positive.
-use mathlib.Core.Bool.{Bool, true, false, _&&_, _||_, not, cond}
+use mathlib.Core.Bool.{Bool, true, _&&_, _||_, not, cond}
 use mathlib.Core.List.{List}
 use Prim.Native.Nat.{ℕ, zero, suc, _+_, _-_, _*_, _/_, _%_}
 use lib.Dec.{leb, ltb, eqb}
-use lib.IntN.{pos}
-use lib.ListN.{getD}
-use lib.Ieee.{Float, nan, fin, lt}
+use lib.Ieee.{Float, lt}
+use Rattle.shapes.specs.Numbers.{plusZero, entry}
 
 -- a response, row after row, and the settings
 pub record Scan : Type 0 where
@@ -19,11 +18,8 @@ pub record Scan : Type 0 where
   pub threshold : Float
   pub cluster : ℕ
 
-abbrev pub zeroFloat : Float
-zeroFloat = fin false 0 (pos 0)
-
 unfoldable pub valueAt : Scan → ℕ → ℕ → Float
-valueAt s x y = getD (s .values) (y * s .width + x) nan
+valueAt s x y = entry (s .values) (y * s .width + x)
 
 -- ---- inside the border, which leaves room for the ring, the window and the refiner's patch
 abbrev pub border : Scan → ℕ
@@ -34,7 +30,7 @@ inside s x y = leb (border s) x && ltb (x + border s) (s .width) && leb (border 
 
 -- max(threshold, 0)
 abbrev pub least : Scan → Float
-least s = cond (lt zeroFloat (s .threshold)) (s .threshold) zeroFloat
+least s = cond (lt plusZero (s .threshold)) (s .threshold) plusZero
 
 -- ---- the window: its pixels by number, row after row; the pixel itself is the middle one
 abbrev pub side : Scan → ℕ
@@ -71,7 +67,7 @@ highest s x y = every (cells s) (λ j. eqb j (middle s) || beats s j (valueAt s 
 -- how many other values of the window are positive
 unfoldable pub positives : Scan → ℕ → ℕ → ℕ
 unfolding count neighbour
-positives s x y = count (cells s) (λ j. not (eqb j (middle s)) && lt zeroFloat (neighbour s x y j))
+positives s x y = count (cells s) (λ j. not (eqb j (middle s)) && lt plusZero (neighbour s x y j))
 
 unfoldable pub isPeak : Scan → ℕ → ℕ → Bool
 unfolding inside highest positives

@@ -4,7 +4,8 @@ use mathlib.Core.Bool.{true, false}
 use mathlib.Core.List.{List, _++_}
 use Prim.Native.Nat.{ℕ, _+_, _*_, _/_, _%_, _≤_, _<_}
 use lib.ListN.{length, getD, set, take, drop}
-use lib.Ieee.{Float, nan, lt}
+use lib.Ieee.{Float, lt}
+use Rattle.shapes.specs.Numbers.{entry}
 use Rattle.peaks.specs.declared.Rule.{Rule}
 use Rattle.peaks.specs.Peak.{Scan, border, every, least, inside, isPeak}
 use Rattle.peaks.specs.Call.{chosen, peakAt, peaksOf, recordsOf}
@@ -35,10 +36,10 @@ pub record Sound (s : Scan) : Type 0 where
 
 -- ---- runs of a row, and blocks of n rows of `side` values each, `width` apart
 abbrev pub runAt : List Float → ℕ → ℕ → Float
-runAt values start i = getD values (start + i) nan
+runAt values start i = entry values (start + i)
 
 abbrev pub blockAt : List Float → ℕ → ℕ → ℕ → ℕ → Float
-blockAt values start width side j = getD values (start + j / side * width + j % side) nan
+blockAt values start width side j = entry values (start + j / side * width + j % side)
 
 abbrev pub BlockFits : List Float → ℕ → ℕ → ℕ → ℕ → Type 0
 BlockFits values start width side n = (r : ℕ) → r < n → start + r * width + side ≤ length values
@@ -56,11 +57,11 @@ pub record Low (values : List Float) (floor : Float) (base x r : ℕ) : Type 0 w
 
 -- the pixel (x, y) beats all on its right
 abbrev pub Right : Scan → ℕ → ℕ → Type 0
-Right s x y = every (s .window) (λ i. lt (runAt (s .values) (y * s .width + x + 1) i) (getD (s .values) (y * s .width + x) nan)) ≡ true
+Right s x y = every (s .window) (λ i. lt (runAt (s .values) (y * s .width + x + 1) i) (entry (s .values) (y * s .width + x))) ≡ true
 
 -- it beats the first r values on its right, of as many as the window has
 abbrev pub Ahead : Scan → ℕ → ℕ → ℕ → Type 0
-Ahead s x y r = Beaten (s .values) (y * s .width + x + 1) (s .window) (getD (s .values) (y * s .width + x) nan) r
+Ahead s x y r = Beaten (s .values) (y * s .width + x + 1) (s .window) (entry (s .values) (y * s .width + x)) r
 
 -- the window of (x, y) lies in the response
 pub record Framed (s : Scan) (x y : ℕ) : Type 0 where

@@ -9,13 +9,14 @@ ghost use Prim.Native.Nat.{_+_, _-_, _*_, _≤_, _<_};
 ghost use lib.IntN.{pos};
 ghost use lib.ListN.{length, take, drop};
 ghost use lib.Ieee.{Float, lt, ofInt, binary32};
-ghost use Rattle.peaks.specs.Peak.{zeroFloat, border, isPeak};
+ghost use Rattle.shapes.specs.Numbers.{plusZero};
+ghost use Rattle.peaks.specs.Peak.{border, isPeak};
 ghost use Rattle.peaks.specs.Call.{peaksOf, recordsOf};
 ghost use Rattle.peaks.specs.Steps.{scanOf, Sound, Bordered, Within, Ahead, Low, FirstIn, InRow, Next, Stands, Listed, Noteworthy, Tallied, recorded, Written, filled, Recorded};
 
 // max(threshold, 0).
 fn floor_of(threshold: f32) -> f32
-    ensures { λ r. ⌜ r ≡ cond (lt zeroFloat threshold) threshold zeroFloat ⌝ }
+    ensures { λ r. ⌜ r ≡ cond (lt plusZero threshold) threshold plusZero ⌝ }
 {
     if 0.0 < threshold { threshold } else { 0.0 }
 }

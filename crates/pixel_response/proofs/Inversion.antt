@@ -1,8 +1,9 @@
 -- N does not change where every sample p becomes m - p (an inverted board), nor where one number is added to all 21 samples.
-use mathlib.Core.Path.{_≡_, refl, sym, ap, _∙_}
+use mathlib.Core.Path.{_≡_, ap, _∙_}
 use Prim.Native.Nat.{ℕ, zero, suc, _+_, _-_, _*_, _≤_, _<_}
 use native.Mathlib.Omega.{arith}
 use Rattle.pixel_response.proofs.SumLaws.{total-le}
+use Rattle.pixel_response.proofs.PixelLaws.{total-cong}
 use Rattle.pixel_response.specs.Samples.{total, apart, squareSum, edgeSum, ringSum, crossSum, gain, loss}
 
 -- ---- one distance
@@ -14,12 +15,7 @@ apart-shifted : (t a b : ℕ) → apart (a + t) (b + t) ≡ apart a b
 unfolding apart
 apart-shifted t a b = omega arith
 
--- ---- sums of functions that agree, of samples inverted, and of samples moved
-total-same : (n : ℕ) (f g : ℕ → ℕ) → ((k : ℕ) → k < n → f k ≡ g k) → total n f ≡ total n g
-unfolding total
-total-same zero f g e = refl
-total-same (suc n) f g e = ap (λ (z : ℕ). z + f n) (total-same n f g (λ k l. e k (omega arith))) ∙ ap (λ (z : ℕ). total n g + z) (e n (omega arith))
-
+-- ---- sums of samples inverted, and of samples moved
 abbrev pub Most : ℕ → ℕ → (ℕ → ℕ) → Type 0
 Most m n s = (k : ℕ) → k < n → s k ≤ m
 
@@ -49,7 +45,7 @@ module _ (m : ℕ) (s c : ℕ → ℕ) (ring : Most m 16 s) (cross : Most m 5 c)
   square-inverted : squareSum (inverted s) ≡ squareSum s
   unfolding squareSum
   square-inverted =
-      total-same 4 (λ k. apart (inverted s k + inverted s (k + 8)) (inverted s (k + 4) + inverted s (k + 12))) (λ k. apart (s k + s (k + 8)) (s (k + 4) + s (k + 12)))
+      total-cong 4 (λ k. apart (inverted s k + inverted s (k + 8)) (inverted s (k + 4) + inverted s (k + 12))) (λ k. apart (s k + s (k + 8)) (s (k + 4) + s (k + 12)))
       (λ k l. pair (s k) (s (k + 8)) (s (k + 4)) (s (k + 12)) (ring k (omega arith)) (ring (k + 8) (omega arith)) (ring (k + 4) (omega arith)) (ring (k + 12) (omega arith)))
     where
       both : (a b : ℕ) → a ≤ m → b ≤ m → m - a + (m - b) ≡ 2 * m - (a + b)
@@ -62,7 +58,7 @@ module _ (m : ℕ) (s c : ℕ → ℕ) (ring : Most m 16 s) (cross : Most m 5 c)
   edge-inverted : edgeSum (inverted s) ≡ edgeSum s
   unfolding edgeSum
   edge-inverted =
-      total-same 8 (λ k. apart (inverted s k) (inverted s (k + 8))) (λ k. apart (s k) (s (k + 8))) (λ k l. apart-inverted m (s k) (s (k + 8)) (ring k (omega arith)) (ring (k + 8) (omega arith)))
+      total-cong 8 (λ k. apart (inverted s k) (inverted s (k + 8))) (λ k. apart (s k) (s (k + 8))) (λ k l. apart-inverted m (s k) (s (k + 8)) (ring k (omega arith)) (ring (k + 8) (omega arith)))
 
   mean-inverted : apart (5 * ringSum (inverted s)) (16 * crossSum (inverted c)) ≡ apart (5 * ringSum s) (16 * crossSum c)
   unfolding ringSum crossSum
@@ -101,7 +97,7 @@ module _ (t : ℕ) (s c : ℕ → ℕ) where
   square-shifted : squareSum (shifted s) ≡ squareSum s
   unfolding squareSum
   square-shifted =
-      total-same 4 (λ k. apart (shifted s k + shifted s (k + 8)) (shifted s (k + 4) + shifted s (k + 12))) (λ k. apart (s k + s (k + 8)) (s (k + 4) + s (k + 12)))
+      total-cong 4 (λ k. apart (shifted s k + shifted s (k + 8)) (shifted s (k + 4) + shifted s (k + 12))) (λ k. apart (s k + s (k + 8)) (s (k + 4) + s (k + 12)))
       (λ k l. pair (s k) (s (k + 8)) (s (k + 4)) (s (k + 12)))
     where
       both : (a b : ℕ) → a + t + (b + t) ≡ a + b + 2 * t
@@ -112,7 +108,7 @@ module _ (t : ℕ) (s c : ℕ → ℕ) where
 
   edge-shifted : edgeSum (shifted s) ≡ edgeSum s
   unfolding edgeSum
-  edge-shifted = total-same 8 (λ k. apart (shifted s k) (shifted s (k + 8))) (λ k. apart (s k) (s (k + 8))) (λ k l. apart-shifted t (s k) (s (k + 8)))
+  edge-shifted = total-cong 8 (λ k. apart (shifted s k) (shifted s (k + 8))) (λ k. apart (s k) (s (k + 8))) (λ k l. apart-shifted t (s k) (s (k + 8)))
 
   mean-shifted : apart (5 * ringSum (shifted s)) (16 * crossSum (shifted c)) ≡ apart (5 * ringSum s) (16 * crossSum c)
   unfolding ringSum crossSum

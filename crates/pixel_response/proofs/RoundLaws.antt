@@ -14,7 +14,7 @@ use lib.Ieee.Fits.{down-pos, two, two-le-pos, reach}
 use lib.Ieee.Order.{drop, kept}
 use lib.Ieee.Exact.{HasValue, round-exact}
 use lib.Ieee.Scale.{grid, overflow, round-same}
-use Rattle.floats.proofs.Value.{unit, fitting}
+use Rattle.floats.proofs.Value.{unit, fitting, zero-of}
 use Rattle.floats.proofs.Half.{Near, grid-near, round-val}
 use Rattle.floats.proofs.Pattern.{closest-upto}
 use Rattle.floats.proofs.Fractions.{sub-value}
@@ -294,9 +294,6 @@ module _ (f : Format) (u j e : ℕ) (split : low f ≡ u + j) (room : prec f + e
       }
 
 -- ---- a multiplication by a power of two is exact
-zero-of : (a d c : ℕ) → 0 < d → 0 * c ≡ a * d → a ≡ 0
-zero-of a d c D h = eq-of-mul-eq-mul-right d D a 0 (sym h ∙ zero-mul c ∙ sym (zero-mul d))
-
 whole-of : (m u d j l a c t : ℕ) → u * l ≡ j * d → m * u * c ≡ a * d → 0 < d → a * t * l ≡ m * (j * t) * c
 whole-of m u d j l a c t e h D =
     let p : a * t * l * d ≡ m * u * c * (l * t) = simp (mul-assoc, mul-comm, mul-left-comm) (simp (mul-assoc, mul-comm, mul-left-comm) at (ap (λ (z : ℕ). z * (l * t)) (sym h))) in

@@ -4,6 +4,7 @@ use native.Mathlib.Nat.{le-of-lt, lt-suc-self, lt-trans, suc-mul}
 use native.Mathlib.Omega.{arith}
 use Rattle.pixel_response.specs.Samples.{total, apart, squareSum, edgeSum, ringSum, crossSum}
 use Rattle.pixel_response.specs.Near.{Under}
+use Rattle.pixel_response.proofs.PixelLaws.{apart-most}
 
 pub record Bounded (P sr dr ring cross : ℕ) : Type 0 where
   pub by-square : sr ≤ 8 * P
@@ -26,10 +27,6 @@ total-under (suc n) f P h =
     let rest = total-under n f P (λ k l. h k (lt-trans l (lt-suc-self n))) in
     omega (arith, suc-mul n P, h n (lt-suc-self n))
 
-pub apart-le : (a b most : ℕ) → a ≤ most → b ≤ most → apart a b ≤ most
-unfolding apart
-apart-le a b most h k = omega arith
-
 -- ---- of samples below P
 module _ (P : ℕ) (s : ℕ → ℕ) (h : Under P 16 s) where
   two-under : (i j : ℕ) → i < 16 → j < 16 → s i + s j ≤ 2 * P
@@ -39,12 +36,12 @@ module _ (P : ℕ) (s : ℕ → ℕ) (h : Under P 16 s) where
   unfolding squareSum
   square-le =
       let t = total-le 4 (λ k. apart (s k + s (k + 8)) (s (k + 4) + s (k + 12))) (2 * P)
-      (λ k l. apart-le (s k + s (k + 8)) (s (k + 4) + s (k + 12)) (2 * P) (two-under k (k + 8) (omega arith) (omega arith)) (two-under (k + 4) (k + 12) (omega arith) (omega arith))) in
+      (λ k l. apart-most (s k + s (k + 8)) (s (k + 4) + s (k + 12)) (2 * P) (two-under k (k + 8) (omega arith) (omega arith)) (two-under (k + 4) (k + 12) (omega arith) (omega arith))) in
       omega arith
 
   pub edge-le : edgeSum s ≤ 8 * P
   unfolding edgeSum
-  edge-le = total-le 8 (λ k. apart (s k) (s (k + 8))) P (λ k l. apart-le (s k) (s (k + 8)) P (le-of-lt (h k (omega arith))) (le-of-lt (h (k + 8) (omega arith))))
+  edge-le = total-le 8 (λ k. apart (s k) (s (k + 8))) P (λ k l. apart-most (s k) (s (k + 8)) P (le-of-lt (h k (omega arith))) (le-of-lt (h (k + 8) (omega arith))))
 
   pub ring-under : ringSum s + 16 ≤ 16 * P
   unfolding ringSum

@@ -13,12 +13,15 @@ use lib.ListN.{length, getD, length-append, List·getD-append}
 use lib.Seq.{ext-getD, getD-at}
 use lib.Ieee.{Float}
 use borrow.Author.Tests.{le-leb, lt-leb, leb-false, eqb-true, eq-eqb, ne-eqb}
+use Rattle.shapes.specs.Numbers.{plusZero}
+use Rattle.shapes.specs.Lists.{tabulated}
+use Rattle.shapes.proofs.ListLaws.{length-tabulated, getD-tabulated}
 use Rattle.imageview.specs.Image.{Image, isImage, pixel}
 use Rattle.response.specs.declared.Response.{Response}
 use Rattle.response.specs.declared.Response.the-variants.{Written, Refused}
 use Rattle.refusals.specs.declared.Refusal.{Refusal}
 use Rattle.refusals.specs.declared.Refusal.the-variants.{BadImage, BadRadius, BadRing, EmptyRoi, BadOut}
-use Rattle.response.specs.Region.{Region, clamped, isEmpty, widthOf, heightOf, moved, ringSample, crossSample, ringFits, ringWithin, writtenAt, tabulated, written, zeroFloat}
+use Rattle.response.specs.Region.{Region, clamped, isEmpty, widthOf, heightOf, moved, ringSample, crossSample, ringFits, ringWithin, writtenAt, written}
 use Rattle.response.specs.Call.{Way, refused, wrote, wayOf, answerOf, outAfter, Done}
 use Rattle.pixel_response.specs.Steps.{Wrote}
 use Rattle.response.specs.Starts.{Offsets, startOf, startedAt}
@@ -113,7 +116,7 @@ module _ {img : Image} {r : Region} {a b c d w h : ℕ} (k : Cornered img r a b 
           kept = λ t. refl;
         }
 
-    pub fit : (out' : List Float) → length out ≡ w * h → Wrote zeroFloat (length out) 0 (λ i. shiftedAt img offsets radius (a + i % w) (b + i / w)) out out' → Clamped img offsets radius r out (Written w h) out'
+    pub fit : (out' : List Float) → length out ≡ w * h → Wrote plusZero (length out) 0 (λ i. shiftedAt img offsets radius (a + i % w) (b + i / w)) out out' → Clamped img offsets radius r out (Written w h) out'
     fit out' q v =
         let e : sizeFits img r (length out) ≡ true = eq-eqb (length out) (widthOf (clamped img r) * heightOf (clamped img r)) (q ∙ size-is) in
         record {
@@ -121,8 +124,8 @@ module _ {img : Image} {r : Region} {a b c d w h : ℕ} (k : Cornered img r a b 
               ap (λ (z : ℕ). Written z h) width-is ∙ ap (λ (z : ℕ). Written (widthOf (clamped img r)) z) height-is
               ∙ sym (ap (λ (z : Bool). cond z (Written (widthOf (clamped img r)) (heightOf (clamped img r))) (Refused BadOut)) e);
           full = λ t.
-              subst (λ (z : ℕ). Wrote zeroFloat (length out) 0 (λ i. shiftedAt img offsets radius (clamped img r .x0 + i % z) (clamped img r .y0 + i / z)) out out') width-is
-              (subst (λ (z : Region). Wrote zeroFloat (length out) 0 (λ i. shiftedAt img offsets radius (z .x0 + i % w) (z .y0 + i / w)) out out') is-clamped v);
+              subst (λ (z : ℕ). Wrote plusZero (length out) 0 (λ i. shiftedAt img offsets radius (clamped img r .x0 + i % z) (clamped img r .y0 + i / z)) out out') width-is
+              (subst (λ (z : Region). Wrote plusZero (length out) 0 (λ i. shiftedAt img offsets radius (z .x0 + i % w) (z .y0 + i / w)) out out') is-clamped v);
           kept = λ t. absurd (false-true (sym t ∙ e));
         }
 
@@ -161,34 +164,20 @@ module _ (img : Image) (ring : List ℤ) (offsets : List ℕ) (radius : ℕ) (o 
   shifted-is : (x y : ℕ) → shiftedAt img offsets radius x y ≡ writtenAt img ring radius x y
   unfolding writtenAt startedAt
   shifted-is x y =
-      ap (λ (v : Float). cond (ringFits img radius x y) v zeroFloat)
+      ap (λ (v : Float). cond (ringFits img radius x y) v plusZero)
       (response-cong (λ k. getD (img .samples) (startOf offsets (img .width) x y k) 0) (λ k. getD (img .samples) (startOf offsets (img .width) x y (k + 16)) 0) (ringSample img ring x y) (crossSample img x y)
       (ring-sample x y) (cross-sample x y))
 
 -- ---- the list that is written
-length-tabulated : (n : ℕ) (f : ℕ → Float) → length (tabulated n f) ≡ n
-unfolding tabulated
-length-tabulated zero f = refl
-length-tabulated (suc n) f = length-append (tabulated n f) (f n ∷ []) ∙ add-one (length (tabulated n f)) ∙ ap suc (length-tabulated n f)
-
-pub getD-tabulated : (n : ℕ) (f : ℕ → Float) (i : ℕ) → i < n → getD (tabulated n f) i zeroFloat ≡ f i
-unfolding tabulated
-getD-tabulated zero f i h = absurd (let z : ⊥ = omega arith in z)
-getD-tabulated (suc n) f i h =
-    ⊎-elim
-    (λ e. ap (λ (k : ℕ). getD (tabulated n f ++ (f n ∷ [])) k zeroFloat) e ∙ getD-at (tabulated n f) (f n) [] zeroFloat n (length-tabulated n f) ∙ ap f (sym e))
-    (λ l. List·getD-append (tabulated n f) (f n ∷ []) zeroFloat i (subst (λ (k : ℕ). i < k) (sym (length-tabulated n f)) l) ∙ getD-tabulated n f i l)
-    (eq-or-lt-of-le (le-of-suc-le-suc h))
-
-listed-is : (n : ℕ) (f g : ℕ → Float) (out out' : List Float) → length out ≡ n → Wrote zeroFloat (length out) 0 f out out' → ((i : ℕ) → f i ≡ g i) → out' ≡ tabulated n g
+listed-is : (n : ℕ) (f g : ℕ → Float) (out out' : List Float) → length out ≡ n → Wrote plusZero (length out) 0 f out out' → ((i : ℕ) → f i ≡ g i) → out' ≡ tabulated n g
 listed-is n f g out out' e w p =
-    ext-getD zeroFloat out' (tabulated n g) (w .same ∙ e ∙ sym (length-tabulated n g))
+    ext-getD plusZero out' (tabulated n g) (w .same ∙ e ∙ sym (length-tabulated n g))
     (λ i h.
     let l : i < length out = subst (λ (k : ℕ). i < k) (w .same) h in
-    ap (λ (k : ℕ). getD out' k zeroFloat) (sym (zero-add i)) ∙ w .here i l ∙ p i ∙ sym (getD-tabulated n g i (subst (λ (k : ℕ). i < k) e l)))
+    ap (λ (k : ℕ). getD out' k plusZero) (sym (zero-add i)) ∙ w .here i l ∙ p i ∙ sym (getD-tabulated n g i plusZero (subst (λ (k : ℕ). i < k) e l)))
 
 written-is : (img : Image) (ring : List ℤ) (offsets : List ℕ) (radius : ℕ) (c : Region) (out out' : List Float) → Offsets ring offsets → radius ≤ 10 → ringWithin radius ring ≡ true → length out ≡ widthOf c * heightOf c
-    → Wrote zeroFloat (length out) 0 (λ i. shiftedAt img offsets radius (c .x0 + i % widthOf c) (c .y0 + i / widthOf c)) out out' → out' ≡ written img ring radius c
+    → Wrote plusZero (length out) 0 (λ i. shiftedAt img offsets radius (c .x0 + i % widthOf c) (c .y0 + i / widthOf c)) out out' → out' ≡ written img ring radius c
 unfolding written
 written-is img ring offsets radius c out out' o high w e v =
     listed-is (widthOf c * heightOf c) (λ i. shiftedAt img offsets radius (c .x0 + i % widthOf c) (c .y0 + i / widthOf c)) (λ i. writtenAt img ring radius (c .x0 + i % widthOf c) (c .y0 + i / widthOf c)) out out' e v

@@ -12,9 +12,10 @@ use lib.Dec.{leb, ltb}
 use lib.ListN.{length, getD, take, drop, replicate}
 use lib.Ieee.{Float}
 use borrow.Author.Tests.{lt-ltb, le-ltb, le-leb, lt-leb}
+use Rattle.shapes.specs.Numbers.{plusZero}
 use Rattle.imageview.specs.Image.{Image}
 use Rattle.imageview.proofs.ImageLaws.{index}
-use Rattle.response.specs.Region.{zeroFloat, ringFits}
+use Rattle.response.specs.Region.{ringFits}
 use Rattle.pixel_response.specs.Steps.{Wrote}
 use Rattle.response.specs.Starts.{sampleOf, valueAt, Reach, startOf, Startable, startedAt, Started}
 use Rattle.response.specs.Frame.{insideAt, shiftedAt, From, To, Framed}
@@ -56,43 +57,43 @@ right a b true q e = sym (ap (λ (z : Bool). cond z a b) e)
 right a b false q e = refl
 
 module _ (img offsets : List ℕ) (width x0 y from to : ℕ) where
-  inside-ahead : (i : ℕ) → i < from → zeroFloat ≡ insideAt img offsets width x0 y from to i
-  inside-ahead i h = left (startedAt img offsets width (x0 + i) y) zeroFloat (leb from i) (ltb i to) (lt-leb from i h)
+  inside-ahead : (i : ℕ) → i < from → plusZero ≡ insideAt img offsets width x0 y from to i
+  inside-ahead i h = left (startedAt img offsets width (x0 + i) y) plusZero (leb from i) (ltb i to) (lt-leb from i h)
 
   inside-on : (i : ℕ) → from ≤ i → i < to → startedAt img offsets width (x0 + i) y ≡ insideAt img offsets width x0 y from to i
-  inside-on i h l = picked (startedAt img offsets width (x0 + i) y) zeroFloat (leb from i) (ltb i to) (le-leb from i h) (lt-ltb i to l)
+  inside-on i h l = picked (startedAt img offsets width (x0 + i) y) plusZero (leb from i) (ltb i to) (le-leb from i h) (lt-ltb i to l)
 
-  inside-past : (i : ℕ) → to ≤ i → zeroFloat ≡ insideAt img offsets width x0 y from to i
-  inside-past i h = right (startedAt img offsets width (x0 + i) y) zeroFloat (leb from i) (ltb i to) (le-ltb i to h)
+  inside-past : (i : ℕ) → to ≤ i → plusZero ≡ insideAt img offsets width x0 y from to i
+  inside-past i h = right (startedAt img offsets width (x0 + i) y) plusZero (leb from i) (ltb i to) (le-ltb i to h)
 
   abbrev row : ℕ → Float
   row = insideAt img offsets width x0 y from to
 
-  pub row-left : (a c : List Float) → from ≤ length a → Wrote zeroFloat (length (take (from - 0) (drop 0 a))) 0 (λ i. zeroFloat) (take (from - 0) (drop 0 a)) c
-      → Wrote zeroFloat from 0 row a (take 0 a ++ (c ++ drop (from - 0) (drop 0 a)))
+  pub row-left : (a c : List Float) → from ≤ length a → Wrote plusZero (length (take (from - 0) (drop 0 a))) 0 (λ i. plusZero) (take (from - 0) (drop 0 a)) c
+      → Wrote plusZero from 0 row a (take 0 a ++ (c ++ drop (from - 0) (drop 0 a)))
   row-left a c h w =
-      wrote-next zeroFloat 0 from row a a c (omega arith) h (wrote-none zeroFloat 0 row a)
-      (wrote-cong zeroFloat (length (take (from - 0) (drop 0 a))) 0 (λ i. zeroFloat) (λ i. row (0 + i)) (take (from - 0) (drop 0 a)) c
-      (λ i l. inside-ahead (0 + i) (omega (arith, part-count zeroFloat 0 from a (omega arith) h))) w)
+      wrote-next plusZero 0 from row a a c (omega arith) h (wrote-none plusZero 0 row a)
+      (wrote-cong plusZero (length (take (from - 0) (drop 0 a))) 0 (λ i. plusZero) (λ i. row (0 + i)) (take (from - 0) (drop 0 a)) c
+      (λ i l. inside-ahead (0 + i) (omega (arith, part-count plusZero 0 from a (omega arith) h))) w)
 
   pub row-middle : (a b e : List Float) (starts : List ℕ) → ((k : ℕ) → k < 42 → (10 ≤ x0 + from + getD offsets k 0) × (10 ≤ y + getD offsets k 0)) → from ≤ to → to ≤ length a
-      → Wrote 0 21 0 (startOf offsets width (x0 + from) y) (replicate 21 0) starts → Wrote zeroFloat from 0 row a b
-      → Wrote zeroFloat (length (take (to - from) (drop from b))) 0 (valueAt img starts) (take (to - from) (drop from b)) e
-      → Wrote zeroFloat to 0 row a (take from b ++ (e ++ drop (to - from) (drop from b)))
+      → Wrote 0 21 0 (startOf offsets width (x0 + from) y) (replicate 21 0) starts → Wrote plusZero from 0 row a b
+      → Wrote plusZero (length (take (to - from) (drop from b))) 0 (valueAt img starts) (take (to - from) (drop from b)) e
+      → Wrote plusZero to 0 row a (take from b ++ (e ++ drop (to - from) (drop from b)))
   row-middle a b e starts clear low high s v w =
       let h : to ≤ length b = omega (arith, v .same) in
-      wrote-next zeroFloat from to row a b e low h v
-      (wrote-cong zeroFloat (length (take (to - from) (drop from b))) 0 (valueAt img starts) (λ i. row (from + i)) (take (to - from) (drop from b)) e
+      wrote-next plusZero from to row a b e low h v
+      (wrote-cong plusZero (length (take (to - from) (drop from b))) 0 (valueAt img starts) (λ i. row (from + i)) (take (to - from) (drop from b)) e
       (λ i l.
       started img offsets width (x0 + from) y starts s clear i ∙ ap (λ (x : ℕ). startedAt img offsets width x y) (add-assoc x0 from i)
-      ∙ inside-on (from + i) (omega arith) (omega (arith, part-count zeroFloat from to b low h)))
+      ∙ inside-on (from + i) (omega arith) (omega (arith, part-count plusZero from to b low h)))
       w)
 
-  pub row-right : (a d g : List Float) → to ≤ length a → Wrote zeroFloat to 0 row a d → Wrote zeroFloat (length (take (length a - to) (drop to d))) 0 (λ i. zeroFloat) (take (length a - to) (drop to d)) g
-      → Wrote zeroFloat (length a) 0 row a (take to d ++ (g ++ drop (length a - to) (drop to d)))
+  pub row-right : (a d g : List Float) → to ≤ length a → Wrote plusZero to 0 row a d → Wrote plusZero (length (take (length a - to) (drop to d))) 0 (λ i. plusZero) (take (length a - to) (drop to d)) g
+      → Wrote plusZero (length a) 0 row a (take to d ++ (g ++ drop (length a - to) (drop to d)))
   row-right a d g h v w =
-      wrote-next zeroFloat to (length a) row a d g h (omega (arith, v .same)) v
-      (wrote-cong zeroFloat (length (take (length a - to) (drop to d))) 0 (λ i. zeroFloat) (λ i. row (to + i)) (take (length a - to) (drop to d)) g (λ i l. inside-past (to + i) (omega arith)) w)
+      wrote-next plusZero to (length a) row a d g h (omega (arith, v .same)) v
+      (wrote-cong plusZero (length (take (length a - to) (drop to d))) 0 (λ i. plusZero) (λ i. row (to + i)) (take (length a - to) (drop to d)) g (λ i l. inside-past (to + i) (omega arith)) w)
 
 -- ---- what a row is, by where it lies
 miss-third : {A : Type 0} (v z : A) (a b c d : Bool) → c ≡ false → z ≡ cond (a && b && c && d) v z
@@ -118,30 +119,30 @@ module _ (img : Image) (offsets : List ℕ) (radius x0 y : ℕ) where
   abbrev value : ℕ → Float
   value i = startedAt (img .samples) offsets (img .width) (x0 + i) y
 
-  pub row-above : y < radius → (i : ℕ) → zeroFloat ≡ wanted i
+  pub row-above : y < radius → (i : ℕ) → plusZero ≡ wanted i
   unfolding ringFits
-  row-above h i = miss-third (value i) zeroFloat (leb radius (x0 + i)) (ltb (x0 + i + radius) (img .width)) (leb radius y) (ltb (y + radius) (img .height)) (lt-leb radius y h)
+  row-above h i = miss-third (value i) plusZero (leb radius (x0 + i)) (ltb (x0 + i + radius) (img .width)) (leb radius y) (ltb (y + radius) (img .height)) (lt-leb radius y h)
 
-  pub row-below : img .height ≤ y + radius → (i : ℕ) → zeroFloat ≡ wanted i
+  pub row-below : img .height ≤ y + radius → (i : ℕ) → plusZero ≡ wanted i
   unfolding ringFits
-  row-below h i = right (value i) zeroFloat (leb radius (x0 + i) && ltb (x0 + i + radius) (img .width) && leb radius y) (ltb (y + radius) (img .height)) (le-ltb (y + radius) (img .height) h)
+  row-below h i = right (value i) plusZero (leb radius (x0 + i) && ltb (x0 + i + radius) (img .width) && leb radius y) (ltb (y + radius) (img .height)) (le-ltb (y + radius) (img .height) h)
 
-  column-ahead : (i : ℕ) → x0 + i < radius → zeroFloat ≡ wanted i
+  column-ahead : (i : ℕ) → x0 + i < radius → plusZero ≡ wanted i
   unfolding ringFits
-  column-ahead i h = miss-first (value i) zeroFloat (leb radius (x0 + i)) (ltb (x0 + i + radius) (img .width)) (leb radius y) (ltb (y + radius) (img .height)) (lt-leb radius (x0 + i) h)
+  column-ahead i h = miss-first (value i) plusZero (leb radius (x0 + i)) (ltb (x0 + i + radius) (img .width)) (leb radius y) (ltb (y + radius) (img .height)) (lt-leb radius (x0 + i) h)
 
-  column-past : (i : ℕ) → img .width ≤ x0 + i + radius → zeroFloat ≡ wanted i
+  column-past : (i : ℕ) → img .width ≤ x0 + i + radius → plusZero ≡ wanted i
   unfolding ringFits
-  column-past i h = miss-second (value i) zeroFloat (leb radius (x0 + i)) (ltb (x0 + i + radius) (img .width)) (leb radius y) (ltb (y + radius) (img .height)) (le-ltb (x0 + i + radius) (img .width) h)
+  column-past i h = miss-second (value i) plusZero (leb radius (x0 + i)) (ltb (x0 + i + radius) (img .width)) (leb radius y) (ltb (y + radius) (img .height)) (le-ltb (x0 + i + radius) (img .width) h)
 
   fits-at : (i : ℕ) → radius ≤ x0 + i → x0 + i + radius < img .width → radius ≤ y → y + radius < img .height → value i ≡ wanted i
   unfolding ringFits
   fits-at i a b c d =
-      hit (value i) zeroFloat (leb radius (x0 + i)) (ltb (x0 + i + radius) (img .width)) (leb radius y) (ltb (y + radius) (img .height))
+      hit (value i) plusZero (leb radius (x0 + i)) (ltb (x0 + i + radius) (img .width)) (leb radius y) (ltb (y + radius) (img .height))
       (le-leb radius (x0 + i) a) (lt-ltb (x0 + i + radius) (img .width) b) (le-leb radius y c) (lt-ltb (y + radius) (img .height) d)
 
   module _ (w from to : ℕ) (f : From x0 w radius from) (t : To x0 w (img .width) radius from to) where
-    pub row-narrow : to ≤ from → (i : ℕ) → i < w → zeroFloat ≡ wanted i
+    pub row-narrow : to ≤ from → (i : ℕ) → i < w → plusZero ≡ wanted i
     row-narrow h i l = ⊎-elim (λ p. column-ahead i (f .ahead i p)) (λ p. column-past i (t .past i (omega arith) l)) (lt-or-le i from)
 
     pub row-is : radius ≤ y → y + radius < img .height → (i : ℕ) → i < w → insideAt (img .samples) offsets (img .width) x0 y from to i ≡ wanted i
@@ -190,18 +191,18 @@ row-end r h w l = subst (λ (z : ℕ). z ≤ w * h) (suc-mul r w) (subst (λ (z 
 next-row : (r w : ℕ) → r * w + w ≡ (r + 1) * w
 next-row r w = sym (ap (λ (z : ℕ). z * w) (add-one r) ∙ suc-mul r w)
 
-pub row-more : (f : ℕ → ℕ → Float) (r w : ℕ) (xs ys zs : List Float) → r * w + w ≤ length ys → Wrote zeroFloat (r * w) 0 (λ i. f (i % w) (i / w)) xs ys
-    → Wrote zeroFloat (length (take (r * w + w - r * w) (drop (r * w) ys))) 0 (λ i. f i r) (take (r * w + w - r * w) (drop (r * w) ys)) zs
-    → Wrote zeroFloat ((r + 1) * w) 0 (λ i. f (i % w) (i / w)) xs (take (r * w) ys ++ (zs ++ drop (r * w + w - r * w) (drop (r * w) ys)))
+pub row-more : (f : ℕ → ℕ → Float) (r w : ℕ) (xs ys zs : List Float) → r * w + w ≤ length ys → Wrote plusZero (r * w) 0 (λ i. f (i % w) (i / w)) xs ys
+    → Wrote plusZero (length (take (r * w + w - r * w) (drop (r * w) ys))) 0 (λ i. f i r) (take (r * w + w - r * w) (drop (r * w) ys)) zs
+    → Wrote plusZero ((r + 1) * w) 0 (λ i. f (i % w) (i / w)) xs (take (r * w) ys ++ (zs ++ drop (r * w + w - r * w) (drop (r * w) ys)))
 row-more f r w xs ys zs h v u =
     let m = r * w in
-    subst (λ (n : ℕ). Wrote zeroFloat n 0 (λ i. f (i % w) (i / w)) xs (take m ys ++ (zs ++ drop (m + w - m) (drop m ys)))) (next-row r w)
-    (wrote-next zeroFloat m (m + w) (λ i. f (i % w) (i / w)) xs ys zs (omega arith) h v
-    (wrote-cong zeroFloat (length (take (m + w - m) (drop m ys))) 0 (λ i. f i r) (λ i. f ((m + i) % w) ((m + i) / w)) (take (m + w - m) (drop m ys)) zs
-    (λ i l. grid f r w i (omega (arith, l, part-count zeroFloat m (m + w) ys (omega arith) h))) u))
+    subst (λ (n : ℕ). Wrote plusZero n 0 (λ i. f (i % w) (i / w)) xs (take m ys ++ (zs ++ drop (m + w - m) (drop m ys)))) (next-row r w)
+    (wrote-next plusZero m (m + w) (λ i. f (i % w) (i / w)) xs ys zs (omega arith) h v
+    (wrote-cong plusZero (length (take (m + w - m) (drop m ys))) 0 (λ i. f i r) (λ i. f ((m + i) % w) ((m + i) / w)) (take (m + w - m) (drop m ys)) zs
+    (λ i l. grid f r w i (omega (arith, l, part-count plusZero m (m + w) ys (omega arith) h))) u))
 
-pub no-rows : (f : ℕ → Float) (w : ℕ) (l : List Float) → Wrote zeroFloat (0 * w) 0 f l l
-no-rows f w l = subst (λ (n : ℕ). Wrote zeroFloat n 0 f l l) (sym (zero-mul w)) (wrote-none zeroFloat 0 f l)
+pub no-rows : (f : ℕ → Float) (w : ℕ) (l : List Float) → Wrote plusZero (0 * w) 0 f l l
+no-rows f w l = subst (λ (n : ℕ). Wrote plusZero n 0 f l l) (sym (zero-mul w)) (wrote-none plusZero 0 f l)
 
-pub all-rows : (f : ℕ → Float) (r w h : ℕ) (l m : List Float) → r ≡ h → length l ≡ w * h → Wrote zeroFloat (r * w) 0 f l m → Wrote zeroFloat (length l) 0 f l m
-all-rows f r w h l m e c v = subst (λ (n : ℕ). Wrote zeroFloat n 0 f l m) (ap (λ (z : ℕ). z * w) e ∙ mul-comm h w ∙ sym c) v
+pub all-rows : (f : ℕ → Float) (r w h : ℕ) (l m : List Float) → r ≡ h → length l ≡ w * h → Wrote plusZero (r * w) 0 f l m → Wrote plusZero (length l) 0 f l m
+all-rows f r w h l m e c v = subst (λ (n : ℕ). Wrote plusZero n 0 f l m) (ap (λ (z : ℕ). z * w) e ∙ mul-comm h w ∙ sym c) v

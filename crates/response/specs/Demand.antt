@@ -7,10 +7,11 @@ use lib.Dec.{T}
 use lib.IntN.{ℤ}
 use lib.ListN.{getD}
 use lib.Ieee.{Float, lt}
+use Rattle.shapes.specs.Numbers.{plusZero}
 use Rattle.imageview.specs.Image.{Image}
 use Rattle.pixel_response.specs.Samples.{gain, loss}
 use Rattle.pixel_response.specs.Near.{Near}
-use Rattle.response.specs.Region.{Region, widthOf, heightOf, ringFits, ringSample, crossSample, zeroFloat}
+use Rattle.response.specs.Region.{Region, widthOf, heightOf, ringFits, ringSample, crossSample}
 
 abbrev pub Bytes : Image → Type 0
 Bytes img = (k : ℕ) → getD (img .samples) k 0 < 256
@@ -33,6 +34,6 @@ lossAt img ring r i = loss (ringSample img ring (columnAt r i) (rowAt r i)) (cro
 
 -- Demand 3 of a buffer: every element whose ring fits stands for its pixel's N, and of two the one with the larger N is the larger.
 pub record DemandThree (img : Image) (ring : List ℤ) (radius : ℕ) (r : Region) (out : List Float) : Type 0 where
-  pub stands : (i : ℕ) → fitsAt img radius r i → Near 256 (getD out i zeroFloat) (gainAt img ring r i) (lossAt img ring r i)
+  pub stands : (i : ℕ) → fitsAt img radius r i → Near 256 (getD out i plusZero) (gainAt img ring r i) (lossAt img ring r i)
   pub orders : (i j : ℕ) → fitsAt img radius r i → fitsAt img radius r j
-      → gainAt img ring r i + lossAt img ring r j < gainAt img ring r j + lossAt img ring r i → lt (getD out i zeroFloat) (getD out j zeroFloat) ≡ true
+      → gainAt img ring r i + lossAt img ring r j < gainAt img ring r j + lossAt img ring r i → lt (getD out i plusZero) (getD out j plusZero) ≡ true

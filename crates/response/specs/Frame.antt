@@ -6,21 +6,22 @@ use Prim.Native.Nat.{ℕ, _+_, _*_, _/_, _%_, _≤_, _<_}
 use lib.Dec.{leb, ltb, eqb}
 use lib.ListN.{length}
 use lib.Ieee.{Float}
+use Rattle.shapes.specs.Numbers.{plusZero}
 use Rattle.imageview.specs.Image.{Image, stride}
 use Rattle.imageview.specs.Steps.{Tested}
 use Rattle.refusals.specs.declared.Refusal.the-variants.{BadOut}
 use Rattle.response.specs.declared.Response.{Response}
 use Rattle.response.specs.declared.Response.the-variants.{Written, Refused}
-use Rattle.response.specs.Region.{Region, ringFits, clamped, widthOf, heightOf, zeroFloat}
+use Rattle.response.specs.Region.{Region, ringFits, clamped, widthOf, heightOf}
 use Rattle.pixel_response.specs.Steps.{Wrote}
 use Rattle.response.specs.Starts.{Around, startedAt}
 
 -- a row in which the ring fits from column `from` on, up to `to`
 abbrev pub insideAt : List ℕ → List ℕ → ℕ → ℕ → ℕ → ℕ → ℕ → ℕ → Float
-insideAt img offsets stride x0 y from to i = cond (leb from i && ltb i to) (startedAt img offsets stride (x0 + i) y) zeroFloat
+insideAt img offsets stride x0 y from to i = cond (leb from i && ltb i to) (startedAt img offsets stride (x0 + i) y) plusZero
 
 abbrev pub shiftedAt : Image → List ℕ → ℕ → ℕ → ℕ → Float
-shiftedAt img offsets radius x y = cond (ringFits img radius x y) (startedAt (img .samples) offsets (stride img) x y) zeroFloat
+shiftedAt img offsets radius x y = cond (ringFits img radius x y) (startedAt (img .samples) offsets (stride img) x y) plusZero
 
 -- the columns of a region in which the ring fits
 pub record From (x0 w radius from : ℕ) : Type 0 where
@@ -49,5 +50,5 @@ pub record Clamped (img : Image) (offsets : List ℕ) (radius : ℕ) (r : Region
   pub answers : answer ≡ cond (sizeFits img r (length out)) (Written (widthOf (clamped img r)) (heightOf (clamped img r))) (Refused BadOut)
   pub full :
       sizeFits img r (length out) ≡ true
-      → Wrote zeroFloat (length out) 0 (λ i. shiftedAt img offsets radius (clamped img r .x0 + i % widthOf (clamped img r)) (clamped img r .y0 + i / widthOf (clamped img r))) out out'
+      → Wrote plusZero (length out) 0 (λ i. shiftedAt img offsets radius (clamped img r .x0 + i % widthOf (clamped img r)) (clamped img r .y0 + i / widthOf (clamped img r))) out out'
   pub kept : sizeFits img r (length out) ≡ false → out' ≡ out

@@ -1,11 +1,13 @@
 -- The response at a pixel of an image and over a region. A ring is sixteen pairs (dx, dy), flat; the cross is the pixel and its four neighbours.
-use mathlib.Core.Bool.{Bool, _&&_, _||_, true, false, cond}
-use mathlib.Core.List.{List, [], _∷_, _++_}
+use mathlib.Core.Bool.{Bool, _&&_, _||_, true, cond}
+use mathlib.Core.List.{List, [], _∷_}
 use Prim.Native.Nat.{ℕ, zero, suc, _+_, _-_, _*_, _/_, _%_, min}
 use lib.Dec.{leb, ltb}
 use lib.IntN.{ℤ, pos, negsuc, natAbs}
 use lib.ListN.{getD}
-use lib.Ieee.{Float, fin}
+use lib.Ieee.{Float}
+use Rattle.shapes.specs.Lists.{tabulated}
+use Rattle.shapes.specs.Numbers.{plusZero}
 use Rattle.imageview.specs.Image.{Image, pixel}
 use Rattle.pixel_response.specs.Samples.{responseOf}
 
@@ -31,13 +33,10 @@ crossSample img x y (suc (suc (suc (suc k)))) = pixel img (x - 1) y
 unfoldable pub ringFits : Image → ℕ → ℕ → ℕ → Bool
 ringFits img radius x y = leb radius x && ltb (x + radius) (img .width) && leb radius y && ltb (y + radius) (img .height)
 
-abbrev pub zeroFloat : Float
-zeroFloat = fin false 0 (pos 0)
-
 -- what is written for a pixel: the response where the ring fits, +0.0 elsewhere
 unfoldable pub writtenAt : Image → List ℤ → ℕ → ℕ → ℕ → Float
 unfolding ringFits
-writtenAt img ring radius x y = cond (ringFits img radius x y) (responseOf (ringSample img ring x y) (crossSample img x y)) zeroFloat
+writtenAt img ring radius x y = cond (ringFits img radius x y) (responseOf (ringSample img ring x y) (crossSample img x y)) plusZero
 
 -- ---- a region from (x0, y0) up to but without (x1, y1)
 pub record Region : Type 0 where
@@ -58,11 +57,6 @@ widthOf r = cond (isEmpty r) 0 (r .x1 - r .x0)
 
 abbrev pub heightOf : Region → ℕ
 heightOf r = cond (isEmpty r) 0 (r .y1 - r .y0)
-
--- f 0, f 1, .., f (n - 1)
-unfoldable pub tabulated : ℕ → (ℕ → Float) → List Float
-tabulated zero f = []
-tabulated (suc n) f = tabulated n f ++ (f n ∷ [])
 
 -- the region's values, row after row
 unfoldable pub written : Image → List ℤ → ℕ → Region → List Float

@@ -2,8 +2,9 @@
 ghost use mathlib.Core.Path.{_≡_};
 ghost use Prim.Native.Nat.{_+_, _-_, _*_, _/_, _%_, min, _≤_, _<_};
 ghost use lib.ListN.{length};
+ghost use Rattle.shapes.specs.Numbers.{plusZero, lesser};
 ghost use Rattle.imageview.specs.Image.{imageOf, stride};
-ghost use Rattle.response.specs.Region.{zeroFloat, widthOf, heightOf};
+ghost use Rattle.response.specs.Region.{widthOf, heightOf};
 ghost use Rattle.response.specs.Call.{regionOf};
 ghost use Rattle.pixel_response.specs.Steps.{Wrote};
 ghost use Rattle.response.specs.Starts.{Started, Startable};
@@ -17,7 +18,7 @@ use refusals::Refusal;
 
 // +0.0 throughout.
 fn fill(out: &mut [f32])
-    ensures { λ _. ⌜ Wrote zeroFloat (length (now (out .entry))) 0 (λ i. zeroFloat) (now (out .entry)) (now (out .exit)) ⌝ }
+    ensures { λ _. ⌜ Wrote plusZero (length (now (out .entry))) 0 (λ i. plusZero) (now (out .entry)) (now (out .exit)) ⌝ }
 {
     let n = out.len();
     let mut i: usize = 0;
@@ -68,7 +69,7 @@ fn row_inside(
     requires { ⌜ (from < to) × (to ≤ length (now out)) × (x0 + from ≤ 4096) ⌝ }
     requires { ⌜ Startable (now offsets) (stride (imageOf (now img) sizes)) (x0 + from) y ⌝ }
     requires { ⌜ Started (now img) (now offsets) (stride (imageOf (now img) sizes)) (x0 + from) y (to - from) ⌝ }
-    ensures { λ _. ⌜ Wrote zeroFloat (length (now (out .entry))) 0 (insideAt (now (img .entry)) (now (offsets .entry)) (stride (imageOf (now (img .entry)) sizes)) x0 y from to) (now (out .entry)) (now (out .exit)) ⌝ }
+    ensures { λ _. ⌜ Wrote plusZero (length (now (out .entry))) 0 (insideAt (now (img .entry)) (now (offsets .entry)) (stride (imageOf (now (img .entry)) sizes)) x0 y from to) (now (out .entry)) (now (out .exit)) ⌝ }
 {
     let n = out.len();
     let stride = sizes.width;
@@ -94,7 +95,7 @@ fn region_row(
     requires { ⌜ From x0 (length (now out)) radius from ⌝ }
     requires { ⌜ To x0 (length (now out)) (sizes .width) radius from to ⌝ }
     requires { ⌜ y < sizes .height ⌝ }
-    ensures { λ _. ⌜ Wrote zeroFloat (length (now (out .entry))) 0 (λ i. shiftedAt (imageOf (now (img .entry)) sizes) (now (offsets .entry)) radius (x0 + i) y) (now (out .entry)) (now (out .exit)) ⌝ }
+    ensures { λ _. ⌜ Wrote plusZero (length (now (out .entry))) 0 (λ i. shiftedAt (imageOf (now (img .entry)) sizes) (now (offsets .entry)) radius (x0 + i) y) (now (out .entry)) (now (out .exit)) ⌝ }
 {
     if y < radius {
         fill(out);
@@ -125,7 +126,7 @@ pub fn write_region(
 )
     requires { ⌜ Framed (imageOf (now img) sizes) (now offsets) radius x0 w ⌝ }
     requires { ⌜ (y0 + h ≤ sizes .height) × (length (now out) ≡ w * h) ⌝ }
-    ensures { λ _. ⌜ Wrote zeroFloat (length (now (out .entry))) 0 (λ i. shiftedAt (imageOf (now (img .entry)) sizes) (now (offsets .entry)) radius (x0 + i % w) (y0 + i / w)) (now (out .entry)) (now (out .exit)) ⌝ }
+    ensures { λ _. ⌜ Wrote plusZero (length (now (out .entry))) 0 (λ i. shiftedAt (imageOf (now (img .entry)) sizes) (now (offsets .entry)) radius (x0 + i % w) (y0 + i / w)) (now (out .entry)) (now (out .exit)) ⌝ }
 {
     let from = from_column(x0, w, radius);
     let to = to_column(x0, w, sizes.width, radius, from);

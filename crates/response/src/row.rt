@@ -2,8 +2,8 @@
 ghost use mathlib.Core.Path.{_≡_};
 ghost use Prim.Native.Nat.{_+_, _≤_, _<_};
 ghost use lib.ListN.{length};
+ghost use Rattle.shapes.specs.Numbers.{plusZero};
 ghost use Rattle.pixel_response.specs.Samples.{valueOf};
-ghost use Rattle.response.specs.Region.{zeroFloat};
 ghost use Rattle.pixel_response.specs.Steps.{listed, crossOf, AddedQuarter, Spare, Abreast, Wrote};
 ghost use Rattle.response.specs.Starts.{Reach, Part, SampledQuarter, SampledCross, valueAt};
 use pixel_response::pixel;
@@ -68,7 +68,7 @@ fn write_values(
     out: &mut [f32],
 )
     requires { ⌜ length (now out) ≤ 64 ⌝ }
-    ensures { λ _. ⌜ Wrote zeroFloat (length (now (out .entry))) 0 (λ i. valueOf (listed (now (square .entry)) i) (listed (now (edge .entry)) i) (listed (now (sum .entry)) i) (listed (now (cross .entry)) i)) (now (out .entry)) (now (out .exit)) ⌝ }
+    ensures { λ _. ⌜ Wrote plusZero (length (now (out .entry))) 0 (λ i. valueOf (listed (now (square .entry)) i) (listed (now (edge .entry)) i) (listed (now (sum .entry)) i) (listed (now (cross .entry)) i)) (now (out .entry)) (now (out .exit)) ⌝ }
 {
     let n = out.len();
     let mut i: usize = 0;
@@ -135,7 +135,7 @@ fn cross(img: &[u8], starts: &[usize; 21], at: usize, n: usize, five: &mut [u16;
 fn block(img: &[u8], starts: &[usize; 21], at: usize, out: &mut [f32])
     requires { ⌜ length (now out) ≤ 64 ⌝ }
     requires { ⌜ Reach (now img) (now starts) (at + length (now out)) ⌝ }
-    ensures { λ _. ⌜ Wrote zeroFloat (length (now (out .entry))) 0 (λ i. valueAt (now (img .entry)) (now (starts .entry)) (at + i)) (now (out .entry)) (now (out .exit)) ⌝ }
+    ensures { λ _. ⌜ Wrote plusZero (length (now (out .entry))) 0 (λ i. valueAt (now (img .entry)) (now (starts .entry)) (at + i)) (now (out .entry)) (now (out .exit)) ⌝ }
 {
     let n = out.len();
     let mut square = [0u16; 64];
@@ -162,7 +162,7 @@ fn block_end(at: usize, n: usize) -> usize
 // The values of the pixels whose samples stand at the starts and past them, block by block.
 pub fn write_row(img: &[u8], starts: &[usize; 21], out: &mut [f32])
     requires { ⌜ Reach (now img) (now starts) (length (now out)) ⌝ }
-    ensures { λ _. ⌜ Wrote zeroFloat (length (now (out .entry))) 0 (valueAt (now (img .entry)) (now (starts .entry))) (now (out .entry)) (now (out .exit)) ⌝ }
+    ensures { λ _. ⌜ Wrote plusZero (length (now (out .entry))) 0 (valueAt (now (img .entry)) (now (starts .entry))) (now (out .entry)) (now (out .exit)) ⌝ }
 {
     let n = out.len();
     let mut at: usize = 0;

@@ -12,12 +12,13 @@ use lib.IntN.{ℤ}
 use lib.ListN.{length, getD}
 use lib.Ieee.{Float, nan, lt}
 use borrow.Author.Tests.{le-leb, lt-leb, lt-ltb, leb-true, ltb-true, eqb-false}
+use Rattle.shapes.proofs.ListLaws.{getD-inside}
+use Rattle.shapes.specs.Numbers.{plusZero}
 use Rattle.imageview.specs.Image.{Image}
-use Rattle.fit_operator.proofs.ListLaws.{at-is}
 use Rattle.pixel_response.specs.Samples.{gain, loss}
 use Rattle.response.specs.Region.{Region, isEmpty, widthOf, heightOf, ringFits, ringSample, crossSample}
 use Rattle.response.specs.Demand.{columnAt, rowAt, fitsAt, gainAt, lossAt, DemandThree}
-use Rattle.peaks.specs.Peak.{Scan, zeroFloat, valueAt, border, inside, least, side, cells, middle, neighbour, every, beats, highest, positives, isPeak}
+use Rattle.peaks.specs.Peak.{Scan, valueAt, border, inside, least, side, cells, middle, neighbour, every, beats, highest, positives, isPeak}
 use Rattle.peaks.proofs.CountLaws.{both, first-of, second-of}
 use Rattle.peaks.proofs.PeakLaws.{peak-by}
 
@@ -95,21 +96,21 @@ module _ (img : Image) (ring : List ℤ) (radius : ℕ) where
 
   module _ (values : List Float) (window refine cluster : ℕ) (d : DemandThree img ring radius whole values) (size : length values ≡ img .height * img .width) where
     abbrev pub scan : Scan
-    scan = record { values = values; width = img .width; height = img .height; ring = radius; window = window; refine = refine; threshold = zeroFloat; cluster = cluster }
+    scan = record { values = values; width = img .width; height = img .height; ring = radius; window = window; refine = refine; threshold = plusZero; cluster = cluster }
 
-    value-is : (a b : ℕ) → Clear a b → valueAt scan a b ≡ getD values (b * img .width + a) zeroFloat
+    value-is : (a b : ℕ) → Clear a b → valueAt scan a b ≡ getD values (b * img .width + a) plusZero
     unfolding valueAt
-    value-is a b c = at-is values (b * img .width + a) nan (subst (λ (n : ℕ). b * img .width + a < n) (sym size) (digits-lt (in-row a b c) (in-column a b c)))
+    value-is a b c = getD-inside values (b * img .width + a) nan plusZero (subst (λ (n : ℕ). b * img .width + a < n) (sym size) (digits-lt (in-row a b c) (in-column a b c)))
 
-    above-zero : (x y : ℕ) → Clear x y → Positive x y → lt zeroFloat (valueAt scan x y) ≡ true
+    above-zero : (x y : ℕ) → Clear x y → Positive x y → lt plusZero (valueAt scan x y) ≡ true
     above-zero x y c p =
-        ap (λ (v : Float). lt zeroFloat v) (value-is x y c)
+        ap (λ (v : Float). lt plusZero v) (value-is x y c)
         ∙ d .stands (index x y c) (fits x y c) .above (subst (λ (n : ℕ). lossAt img ring whole (index x y c) < n) (sym (gain-is x y c)) (subst (λ (n : ℕ). n < gain (ringSample img ring x y)) (sym (loss-is x y c)) p))
 
     beaten : (x y a b : ℕ) → Clear x y → Clear a b → Exceeds x y a b → lt (valueAt scan a b) (valueAt scan x y) ≡ true
     beaten x y a b c e p =
         ap (λ (v : Float). lt v (valueAt scan x y)) (value-is a b e)
-        ∙ ap (λ (v : Float). lt (getD values (b * img .width + a) zeroFloat) v) (value-is x y c)
+        ∙ ap (λ (v : Float). lt (getD values (b * img .width + a) plusZero) v) (value-is x y c)
         ∙ d .orders (index a b e) (index x y c) (fits a b e) (fits x y c) (by (sym (gain-is a b e)) (sym (loss-is x y c)) (sym (gain-is x y c)) (sym (loss-is a b e)) p)
       where
         by : {g l g' l' g2 l2 g2' l2' : ℕ} → g ≡ g2 → l ≡ l2 → g' ≡ g2' → l' ≡ l2' → g + l < g' + l' → g2 + l2 < g2' + l2'

@@ -4,55 +4,58 @@ use mathlib.Core.Bool.{Bool, true, false, cond}
 use mathlib.Core.List.{List}
 use Prim.Native.Nat.{ℕ, _+_, _*_, _<_}
 use lib.ListN.{length, set}
-use lib.Ieee.{Float, eq, neg}
-use Rattle.fit_operator.specs.Loops.{turns, tabulated}
-use Rattle.saddle_fit.specs.Numbers.{_⊕_, _⊗_, zero32, at}
+use lib.Ieee.{Float, nan, eq, neg}
+use Rattle.shapes.proofs.ListLaws.{length-tabulated, getD-tabulated, tabulated-cong, overwritten-whole, getD-overwritten, overwritten-more}
+use Rattle.shapes.proofs.TurnLaws.{turns-more}
+use Rattle.shapes.specs.Lists.{tabulated, overwritten}
+use Rattle.shapes.specs.Numbers.{plusZero, entry}
+use Rattle.shapes.specs.Turns.{turns}
+use Rattle.saddle_fit.specs.Numbers.{_⊕_, _⊗_}
 use Rattle.saddle_fit.specs.declared.Jacobian.{Jacobian}
 use Rattle.saddle_fit.specs.declared.Matrix.{Matrix}
 use Rattle.saddle_fit.specs.declared.Covariance.{Covariance}
 use Rattle.saddle_fit.specs.Sensitivity.{dot}
 use Rattle.saddle_fit.specs.Covariance.{pairWeight, kernelEntry, kernel, inverseOf, gainFirst, gainSecond, timesKernel, known, covarianceOf}
 use Rattle.saddle_fit.specs.Steps.{entryAfter, combined, spreadOf}
-use Rattle.saddle_fit.proofs.ListLaws.{turns-more, length-tabulated, at-tabulated, tabulated-cong, filled, filled-whole, at-filled, filled-more}
 
 abbrev pub after : List Float → List Float → ℕ → List Float
 after overlap weights d = tabulated 25 (entryAfter overlap weights d)
 
 -- the entry i of k with a shift of weight w added
 abbrev pub plus : List Float → Float → ℕ → List Float → ℕ → Float
-plus overlap w d k i = at k i ⊕ w ⊗ at overlap (25 * d + i)
+plus overlap w d k i = entry k i ⊕ w ⊗ entry overlap (25 * d + i)
 
 pub length-after : (overlap weights : List Float) (d : ℕ) (k : List Float) → k ≡ after overlap weights d → length k ≡ 25
 length-after overlap weights d k e = ap length e ∙ length-tabulated 25 (entryAfter overlap weights d)
 
 module _ (overlap weights : List Float) (d : ℕ) where
-  one-more : (i : ℕ) → entryAfter overlap weights (d + 1) i ≡ cond (eq (at weights d) zero32) (entryAfter overlap weights d i) (entryAfter overlap weights d i ⊕ at weights d ⊗ at overlap (25 * d + i))
+  one-more : (i : ℕ) → entryAfter overlap weights (d + 1) i ≡ cond (eq (entry weights d) plusZero) (entryAfter overlap weights d i) (entryAfter overlap weights d i ⊕ entry weights d ⊗ entry overlap (25 * d + i))
   unfolding entryAfter
-  one-more i = turns-more d _ zero32
+  one-more i = turns-more d _ plusZero
 
-  pub passed-over : eq (at weights d) zero32 ≡ true → (k : List Float) → k ≡ after overlap weights d → k ≡ after overlap weights (d + 1)
+  pub passed-over : eq (entry weights d) plusZero ≡ true → (k : List Float) → k ≡ after overlap weights d → k ≡ after overlap weights (d + 1)
   passed-over h k e =
       e
       ∙ tabulated-cong 25 (entryAfter overlap weights d) (entryAfter overlap weights (d + 1))
-      (λ i l. sym (one-more i ∙ ap (λ (b : Bool). cond b (entryAfter overlap weights d i) (entryAfter overlap weights d i ⊕ at weights d ⊗ at overlap (25 * d + i))) h))
+      (λ i l. sym (one-more i ∙ ap (λ (b : Bool). cond b (entryAfter overlap weights d i) (entryAfter overlap weights d i ⊕ entry weights d ⊗ entry overlap (25 * d + i))) h))
 
   module _ (k : List Float) (e : k ≡ after overlap weights d) where
-    pub entry-more : (i : ℕ) → i < 25 → (now : List Float) → now ≡ filled i (plus overlap (at weights d) d k) k → set now i (at now i ⊕ at weights d ⊗ at overlap (25 * d + i)) ≡ filled (i + 1) (plus overlap (at weights d) d k) k
+    pub entry-more : (i : ℕ) → i < 25 → (now : List Float) → now ≡ overwritten i (plus overlap (entry weights d) d k) k → set now i (entry now i ⊕ entry weights d ⊗ entry overlap (25 * d + i)) ≡ overwritten (i + 1) (plus overlap (entry weights d) d k) k
     entry-more i l now g =
-        let f = plus overlap (at weights d) d k in
+        let f = plus overlap (entry weights d) d k in
         let m : i < length k = subst (λ (n : ℕ). i < n) (sym (length-after overlap weights d k e)) l in
-        ap (λ (x : List Float). set x i (at x i ⊕ at weights d ⊗ at overlap (25 * d + i))) g
-        ∙ filled-more i f k m _ (ap (λ (x : Float). x ⊕ at weights d ⊗ at overlap (25 * d + i)) (at-filled i f k m))
+        ap (λ (x : List Float). set x i (entry x i ⊕ entry weights d ⊗ entry overlap (25 * d + i))) g
+        ∙ overwritten-more i f k m _ (ap (λ (x : Float). x ⊕ entry weights d ⊗ entry overlap (25 * d + i)) (getD-overwritten i f k m nan))
 
-    pub added : eq (at weights d) zero32 ≡ false → (now : List Float) → now ≡ filled 25 (plus overlap (at weights d) d k) k → now ≡ after overlap weights (d + 1)
+    pub added : eq (entry weights d) plusZero ≡ false → (now : List Float) → now ≡ overwritten 25 (plus overlap (entry weights d) d k) k → now ≡ after overlap weights (d + 1)
     added h now g =
         let old = entryAfter overlap weights d in
         g
-        ∙ filled-whole 25 (plus overlap (at weights d) d k) k (length-after overlap weights d k e)
-        ∙ tabulated-cong 25 (plus overlap (at weights d) d k) (entryAfter overlap weights (d + 1))
+        ∙ overwritten-whole 25 (plus overlap (entry weights d) d k) k (length-after overlap weights d k e)
+        ∙ tabulated-cong 25 (plus overlap (entry weights d) d k) (entryAfter overlap weights (d + 1))
         (λ i l.
-        ap (λ (x : Float). x ⊕ at weights d ⊗ at overlap (25 * d + i)) (ap (λ (x : List Float). at x i) e ∙ at-tabulated 25 old i l)
-        ∙ sym (one-more i ∙ ap (λ (b : Bool). cond b (old i) (old i ⊕ at weights d ⊗ at overlap (25 * d + i))) h))
+        ap (λ (x : Float). x ⊕ entry weights d ⊗ entry overlap (25 * d + i)) (ap (λ (x : List Float). entry x i) e ∙ getD-tabulated 25 old i nan l)
+        ∙ sym (one-more i ∙ ap (λ (b : Bool). cond b (old i) (old i ⊕ entry weights d ⊗ entry overlap (25 * d + i))) h))
 
 -- with the definition's weights
 pub whole : (overlap : List Float) (tx ty : Float) → after overlap (tabulated 9 (pairWeight tx ty)) 9 ≡ kernel overlap tx ty

@@ -1,6 +1,5 @@
 -- Laws of the refiner's parts.
 pub mod Choice
-pub mod ListLaws
 pub mod SolveLaws
 pub mod SensitivityLaws
 pub mod KernelLaws

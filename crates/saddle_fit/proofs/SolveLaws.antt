@@ -15,21 +15,22 @@ use lib.Ieee.Scale.{finite}
 use Rattle.floats.specs.Magnitude.{magnitude}
 use Rattle.floats.specs.Root.{sqrt}
 use Rattle.floats.proofs.NearestRoots.{sqrt-nearest}
+use Rattle.shapes.specs.Numbers.{plusZero, one, entry}
 use Rattle.saddle_fit.specs.declared.SaddlePointConfig.{SaddlePointConfig}
 use Rattle.saddle_fit.specs.declared.PatchSaddle.{PatchSaddle}
 use Rattle.saddle_fit.specs.declared.Solved.the-variants.{Refused, Saddle}
-use Rattle.saddle_fit.specs.Numbers.{_⊗_, _⊘_, zero32, one32, four, at}
+use Rattle.saddle_fit.specs.Numbers.{_⊗_, _⊘_, four}
 use Rattle.saddle_fit.specs.Solve.{determinant, offsetX, offsetY, saddleOf, solvedFrom, solve, goodLimit, scoreOf}
 use Rattle.saddle_fit.proofs.Choice.{or-first, or-second, or-neither, and-both, and-first, and-second}
 
 abbrev pub detOf : List Float → Float
-detOf l = determinant (at l 0) (at l 1) (at l 2)
+detOf l = determinant (entry l 0) (entry l 1) (entry l 2)
 
 abbrev pub uxOf : List Float → Float
-uxOf l = offsetX l (one32 ⊘ detOf l)
+uxOf l = offsetX l (one ⊘ detOf l)
 
 abbrev pub uyOf : List Float → Float
-uyOf l = offsetY l (one32 ⊘ detOf l)
+uyOf l = offsetY l (one ⊘ detOf l)
 
 module _ (cfg : SaddlePointConfig) (l : List Float) where
   pub above-margin : lt (neg (cfg .«det_margin»)) (detOf l) ≡ true → Refused (detOf l) ≡ solve cfg l
@@ -99,7 +100,7 @@ scaled : (n : ℕ) (e : ℤ) (k : ℕ) → 0 < k → 0 < suc n * up e * k
 scaled n e k h = mul-pos (mul-pos {m = suc n} {n = up e} (omega arith) (up-pos e)) h
 
 -- below a margin that is a limit, with some finite product with its inverse, a determinant is below zero: no NaN, no zero of either sign and not +inf
-below-zero : (m det y : Float) → goodLimit m ≡ true → lt (neg m) det ≡ false → finite (y ⊗ (one32 ⊘ det)) ≡ true → lt det zero32 ≡ true
+below-zero : (m det y : Float) → goodLimit m ≡ true → lt (neg m) det ≡ false → finite (y ⊗ (one ⊘ det)) ≡ true → lt det plusZero ≡ true
 unfolding lt neg div
 below-zero m nan y g h k = absurd (false≢true (sym (times-nan y) ∙ k))
 below-zero nan (inf s) y g h k = absurd (false≢true g)
@@ -125,13 +126,13 @@ unfolding solve
 tested cfg l f e = accepted _ (lt (magnitude (detOf l)) (cfg .«min_abs_det»)) _ (finite (uyOf l)) (detOf l) _ f e
 
 -- an accepted saddle's determinant is below zero
-pub det-below-zero : (cfg : SaddlePointConfig) (l : List Float) (f : PatchSaddle) → goodLimit (cfg .«det_margin») ≡ true → solve cfg l ≡ Saddle f → lt (f .«det_h») zero32 ≡ true
+pub det-below-zero : (cfg : SaddlePointConfig) (l : List Float) (f : PatchSaddle) → goodLimit (cfg .«det_margin») ≡ true → solve cfg l ≡ Saddle f → lt (f .«det_h») plusZero ≡ true
 det-below-zero cfg l f g e =
     let a = tested cfg l f e in
-    subst (λ (s : PatchSaddle). lt (s .«det_h») zero32 ≡ true) (a .is) (below-zero (cfg .«det_margin») (detOf l) _ g (a .under) (a .ends))
+    subst (λ (s : PatchSaddle). lt (s .«det_h») plusZero ≡ true) (a .is) (below-zero (cfg .«det_margin») (detOf l) _ g (a .under) (a .ends))
 
 -- ---- and its score, the root of minus the determinant, is above zero
-positive-above : (x : Float) → T (positive x) → lt zero32 x ≡ true
+positive-above : (x : Float) → T (positive x) → lt plusZero x ≡ true
 unfolding lt
 positive-above nan p = absurd p
 positive-above (inf s) p = absurd p
@@ -139,7 +140,7 @@ positive-above (fin true m e) p = absurd p
 positive-above (fin false zero e) p = absurd p
 positive-above (fin false (suc n) e) p = lt-ltb _ _ (subst (λ (z : ℕ). z < suc n * up e * 1) (sym (zero-mul (down e))) (scaled n e 1 (omega arith)))
 
-root-above : (d : Float) → T (fits binary32 d) → lt d zero32 ≡ true → lt zero32 (sqrt binary32 (neg d)) ≡ true
+root-above : (d : Float) → T (fits binary32 d) → lt d plusZero ≡ true → lt plusZero (sqrt binary32 (neg d)) ≡ true
 unfolding lt neg sqrt
 root-above nan p h = absurd (false≢true h)
 root-above (inf true) p h = refl
@@ -151,6 +152,6 @@ root-above (fin true zero e) p h = absurd (false≢true (sym (ap (λ (z : ℕ). 
 root-above (fin true (suc n) e) p h = positive-above (sqrt binary32 (fin false (suc n) e)) (sqrt-nearest binary32 (fin false (suc n) e) (neg-fits binary32 (fin true (suc n) e) p) (lt→ltb 0 (suc n) (omega arith)) .number)
 root-above (fin false m e) p h = absurd (not-suc-le-zero (subst (λ (z : ℕ). m * up e * 1 < z) (zero-mul (down e)) (ltb-true _ _ h)))
 
-pub score-above-zero : (cfg : SaddlePointConfig) (l : List Float) (f : PatchSaddle) → goodLimit (cfg .«det_margin») ≡ true → solve cfg l ≡ Saddle f → lt zero32 (scoreOf f) ≡ true
+pub score-above-zero : (cfg : SaddlePointConfig) (l : List Float) (f : PatchSaddle) → goodLimit (cfg .«det_margin») ≡ true → solve cfg l ≡ Saddle f → lt plusZero (scoreOf f) ≡ true
 score-above-zero cfg l f g e =
-    root-above (f .«det_h») (subst (λ (s : PatchSaddle). T (fits binary32 (s .«det_h»))) (tested cfg l f e .is) (sub-fits binary32 (four ⊗ at l 0 ⊗ at l 2) (at l 1 ⊗ at l 1))) (det-below-zero cfg l f g e)
+    root-above (f .«det_h») (subst (λ (s : PatchSaddle). T (fits binary32 (s .«det_h»))) (tested cfg l f e .is) (sub-fits binary32 (four ⊗ entry l 0 ⊗ entry l 2) (entry l 1 ⊗ entry l 1))) (det-below-zero cfg l f g e)

@@ -4,9 +4,10 @@ use Prim.Native.Nat.{ℕ}
 use lib.IntN.{ℤ, pos, _+ℤ_}
 use lib.Ieee.{Float, binary32, toSigned}
 use Rattle.floats.specs.Whole.{floor}
+use Rattle.shapes.specs.Lists.{tabulated}
+use Rattle.shapes.specs.Numbers.{one, entry}
 use Rattle.imageview.specs.Image.{Image}
-use Rattle.fit_operator.specs.Loops.{tabulated}
-use Rattle.saddle_fit.specs.Numbers.{_⊕_, _⊖_, _⊗_, one32, at}
+use Rattle.saddle_fit.specs.Numbers.{_⊕_, _⊖_, _⊗_}
 use Rattle.saddle_fit.specs.Fit.{Fit, noFit, fitted, fitAt}
 use Rattle.saddle_fit.specs.declared.Corners.{Corners}
 
@@ -30,13 +31,13 @@ placeOf cx cy ox oy = record { baseX = baseOf cx ox; baseY = baseOf cy oy; tx = 
 
 -- ---- the weights of the four pixels
 abbrev pub weight00 : Float → Float → Float
-weight00 tx ty = (one32 ⊖ tx) ⊗ (one32 ⊖ ty)
+weight00 tx ty = (one ⊖ tx) ⊗ (one ⊖ ty)
 
 abbrev pub weight10 : Float → Float → Float
-weight10 tx ty = tx ⊗ (one32 ⊖ ty)
+weight10 tx ty = tx ⊗ (one ⊖ ty)
 
 abbrev pub weight01 : Float → Float → Float
-weight01 tx ty = (one32 ⊖ tx) ⊗ ty
+weight01 tx ty = (one ⊖ tx) ⊗ ty
 
 abbrev pub weight11 : Float → Float → Float
 weight11 tx ty = tx ⊗ ty
@@ -60,4 +61,4 @@ cornersAt img columns radius x y =
 
 unfoldable pub blend : Corners → Float → Float → List Float
 unfolding tabulated
-blend c tx ty = tabulated 5 (λ k. weight00 tx ty ⊗ at (c .c00) k ⊕ weight10 tx ty ⊗ at (c .c10) k ⊕ weight01 tx ty ⊗ at (c .c01) k ⊕ weight11 tx ty ⊗ at (c .c11) k)
+blend c tx ty = tabulated 5 (λ k. weight00 tx ty ⊗ entry (c .c00) k ⊕ weight10 tx ty ⊗ entry (c .c10) k ⊕ weight01 tx ty ⊗ entry (c .c01) k ⊕ weight11 tx ty ⊗ entry (c .c11) k)

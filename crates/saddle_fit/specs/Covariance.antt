@@ -1,17 +1,19 @@
 -- The covariance of a converged place for unit noise: A K Aᵀ with A = M⁻¹ J, where K sums the operator's shifted overlaps by the products of the window's weights.
 -- There is none where an entry is not finite.
-use mathlib.Core.Bool.{Bool, true, false, _&&_, not, cond}
+use mathlib.Core.Bool.{_&&_, not, cond}
 use mathlib.Core.List.{List}
 use Prim.Native.Nat.{ℕ, zero, suc, _+_, _-_, _*_, _/_, _%_}
 use lib.Dec.{eqb}
 use lib.Ieee.{Float, eq, neg}
 use lib.Ieee.Scale.{finite}
-use Rattle.fit_operator.specs.Loops.{turns, tabulated}
+use Rattle.shapes.specs.Lists.{tabulated}
+use Rattle.shapes.specs.Numbers.{plusZero, one, entry}
+use Rattle.shapes.specs.Turns.{turns}
 use Rattle.saddle_fit.specs.declared.Jacobian.{Jacobian}
 use Rattle.saddle_fit.specs.declared.Matrix.{Matrix}
 use Rattle.saddle_fit.specs.declared.Covariance.{Covariance}
 use Rattle.saddle_fit.specs.declared.Covariance.the-variants.{Known, Unknown}
-use Rattle.saddle_fit.specs.Numbers.{_⊕_, _⊖_, _⊗_, _⊘_, zero32, one32, at}
+use Rattle.saddle_fit.specs.Numbers.{_⊕_, _⊗_, _⊘_}
 use Rattle.saddle_fit.specs.Between.{weight00, weight10, weight01, weight11}
 use Rattle.saddle_fit.specs.Sensitivity.{matrixDet, dot}
 
@@ -29,12 +31,12 @@ shiftOf p q = 3 * (1 + q / 2 - p / 2) + (1 + q % 2 - p % 2)
 -- the sum of the products of the weights of two pixels that are d apart, pairs in order
 unfoldable pub pairWeight : Float → Float → ℕ → Float
 unfolding turns
-pairWeight tx ty d = turns 16 (λ k a. cond (eqb (shiftOf (k / 4) (k % 4)) d) (a ⊕ weight tx ty (k / 4) ⊗ weight tx ty (k % 4)) a) zero32
+pairWeight tx ty d = turns 16 (λ k a. cond (eqb (shiftOf (k / 4) (k % 4)) d) (a ⊕ weight tx ty (k / 4) ⊗ weight tx ty (k % 4)) a) plusZero
 
 -- K, five by five, flat: overlaps whose weight is zero are passed over
 unfoldable pub kernelEntry : List Float → Float → Float → ℕ → Float
 unfolding pairWeight
-kernelEntry overlap tx ty i = turns 9 (λ d a. cond (eq (pairWeight tx ty d) zero32) a (a ⊕ pairWeight tx ty d ⊗ at overlap (25 * d + i))) zero32
+kernelEntry overlap tx ty i = turns 9 (λ d a. cond (eq (pairWeight tx ty d) plusZero) a (a ⊕ pairWeight tx ty d ⊗ entry overlap (25 * d + i))) plusZero
 
 unfoldable pub kernel : List Float → Float → Float → List Float
 unfolding kernelEntry
@@ -42,20 +44,20 @@ kernel overlap tx ty = tabulated 25 (kernelEntry overlap tx ty)
 
 -- ---- A, two rows of five
 abbrev pub inverseOf : Matrix → Float
-inverseOf m = one32 ⊘ matrixDet m
+inverseOf m = one ⊘ matrixDet m
 
 unfoldable pub gainFirst : Jacobian → Matrix → List Float
 unfolding tabulated
-gainFirst j m = tabulated 5 (λ k. (m .m11 ⊗ inverseOf m) ⊗ at (j .first) k ⊕ (neg (m .m01) ⊗ inverseOf m) ⊗ at (j .second) k)
+gainFirst j m = tabulated 5 (λ k. (m .m11 ⊗ inverseOf m) ⊗ entry (j .first) k ⊕ (neg (m .m01) ⊗ inverseOf m) ⊗ entry (j .second) k)
 
 unfoldable pub gainSecond : Jacobian → Matrix → List Float
 unfolding tabulated
-gainSecond j m = tabulated 5 (λ k. (neg (m .m10) ⊗ inverseOf m) ⊗ at (j .first) k ⊕ (m .m00 ⊗ inverseOf m) ⊗ at (j .second) k)
+gainSecond j m = tabulated 5 (λ k. (neg (m .m10) ⊗ inverseOf m) ⊗ entry (j .first) k ⊕ (m .m00 ⊗ inverseOf m) ⊗ entry (j .second) k)
 
 -- a row times the kernel: with its columns
 unfoldable pub timesKernel : List Float → List Float → List Float
 unfolding dot
-timesKernel row k = tabulated 5 (λ s. dot row (tabulated 5 (λ r. at k (5 * r + s))))
+timesKernel row k = tabulated 5 (λ s. dot row (tabulated 5 (λ r. entry k (5 * r + s))))
 
 abbrev pub known : Float → Float → Float → Covariance
 known xx xy yy = cond (finite xx && finite xy && finite yy) (Known xx xy yy) Unknown

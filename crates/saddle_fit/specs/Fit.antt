@@ -5,11 +5,13 @@ use mathlib.Core.List.{List}
 use Prim.Native.Nat.{ℕ, _+_, _-_, _*_, _/_, _%_}
 use lib.IntN.{ℤ, pos, negsuc}
 use lib.Ieee.{Float, binary32, ofInt}
+use Rattle.shapes.specs.Lists.{tabulated}
+use Rattle.shapes.specs.Numbers.{plusZero, entry}
+use Rattle.shapes.specs.Turns.{turns}
 use Rattle.imageview.specs.Image.{Image, pixel}
 use Rattle.imageview.specs.Patch.{supportsPatch}
-use Rattle.fit_operator.specs.Loops.{turns, tabulated}
 use Rattle.fit_operator.specs.Basis.{side, samples}
-use Rattle.saddle_fit.specs.Numbers.{_⊕_, _⊖_, _⊗_, zero32, at}
+use Rattle.saddle_fit.specs.Numbers.{_⊕_, _⊖_, _⊗_}
 
 -- the sample k of the patch about (x, y), as a float
 unfoldable pub sampleOf : Image → ℕ → ℕ → ℕ → ℕ → Float
@@ -19,7 +21,7 @@ sampleOf img radius x y k = ofInt binary32 (pos (pixel img (x - radius + k % sid
 unfoldable pub coefficient : Image → List Float → ℕ → ℕ → ℕ → ℕ → Float
 unfolding turns sampleOf
 coefficient img columns radius x y i =
-    turns (samples radius) (λ k a. a ⊕ at columns (5 * k + i) ⊗ (sampleOf img radius x y k ⊖ sampleOf img radius x y (samples radius / 2))) zero32
+    turns (samples radius) (λ k a. a ⊕ entry columns (5 * k + i) ⊗ (sampleOf img radius x y k ⊖ sampleOf img radius x y (samples radius / 2))) plusZero
 
 -- the coefficients a, b, c, d, e
 unfoldable pub coefficients : Image → List Float → ℕ → ℕ → ℕ → List Float

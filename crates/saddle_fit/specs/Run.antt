@@ -1,12 +1,13 @@
 -- Re-centring: steps of the window toward the place where the saddle lies at its centre. At most 16 steps of at most 4 candidates, the step times 1, 1/2, 1/4, 1/8;
 -- a candidate is taken only where its fit is a saddle, |u|² falls strictly and the estimate stays in the box about the seed. The first step is plain.
 -- The tries are the candidate windows that were looked at.
-use mathlib.Core.Bool.{Bool, true, false, _&&_, cond}
+use mathlib.Core.Bool.{Bool, _&&_, cond}
 use mathlib.Core.List.{List}
 use Prim.Native.Nat.{ℕ, zero, suc, _+_}
 use lib.IntN.{ℤ, pos}
 use lib.Ieee.{Float, binary32, ofBits, ofInt, lt, le}
 use Rattle.floats.specs.Magnitude.{magnitude}
+use Rattle.shapes.specs.Numbers.{plusZero, one, lesser}
 use Rattle.imageview.specs.Image.{Image}
 use Rattle.saddle_fit.specs.declared.SaddlePointConfig.{SaddlePointConfig}
 use Rattle.saddle_fit.specs.declared.PatchSaddle.{PatchSaddle}
@@ -14,7 +15,7 @@ use Rattle.saddle_fit.specs.declared.Solved.{Solved}
 use Rattle.saddle_fit.specs.declared.Solved.the-variants.{Refused, Saddle}
 use Rattle.saddle_fit.specs.declared.Corners.{Corners}
 use Rattle.saddle_fit.specs.declared.Move.{Move}
-use Rattle.saddle_fit.specs.Numbers.{_⊕_, _⊖_, _⊗_, zero32, half, one32, lesser}
+use Rattle.saddle_fit.specs.Numbers.{_⊕_, _⊖_, _⊗_, half}
 use Rattle.saddle_fit.specs.Solve.{solve}
 use Rattle.saddle_fit.specs.Between.{Place, placeOf, Fits, lacking, four, cornersAt, blend}
 use Rattle.saddle_fit.specs.Sensitivity.{slopeWithin, saddleJacobian, sensitivity, newtonStep}
@@ -116,7 +117,7 @@ unfoldable pub stepsFrom : ℕ → Task → Stand → ℕ → Finish
 unfolding searchFrom
 stepsFrom zero t s n = atStand s n
 stepsFrom (suc left) t s n =
-    let r = searchFrom 4 t (s .fit) (s .ox) (s .oy) (laterMove s) one32 in
+    let r = searchFrom 4 t (s .fit) (s .ox) (s .oy) (laterMove s) one in
     let on = picked (r .outcome) (λ s'. stepsFrom left t s' (n + r .count)) (atStand s (n + r .count)) in
     cond (settled (s .fit)) (atStand s n) on
 
@@ -124,6 +125,6 @@ stepsFrom (suc left) t s n =
 unfoldable pub runOf : Task → PatchSaddle → Finish
 unfolding stepsFrom
 runOf t f =
-    let r = searchFrom 4 t f zero32 zero32 (record { x = f .ux; y = f .uy }) one32 in
+    let r = searchFrom 4 t f plusZero plusZero (record { x = f .ux; y = f .uy }) one in
     let on = picked (r .outcome) (λ s. stepsFrom 15 t s (r .count)) (atStart (r .count)) in
     cond (settled f) (atStart 0) on

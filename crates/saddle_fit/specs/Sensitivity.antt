@@ -1,27 +1,29 @@
 -- How the saddle moves with the window: the slope of the coefficients along each axis, the Jacobian of the saddle, their product, and the Newton step.
-use mathlib.Core.Bool.{Bool, true, false, _&&_, not, cond}
+use mathlib.Core.Bool.{Bool, _&&_, not, cond}
 use mathlib.Core.List.{List, [], _∷_}
-use Prim.Native.Nat.{ℕ, zero, suc}
+use Prim.Native.Nat.{ℕ, zero}
 use lib.IntN.{ℤ, pos, negsuc, _+ℤ_}
 use lib.Ieee.{Float, binary32, ofBits, lt, eq, neg}
 use lib.Ieee.Scale.{finite}
+use Rattle.shapes.specs.Lists.{tabulated}
+use Rattle.shapes.specs.Numbers.{plusZero, minusZero, one, entry}
+use Rattle.shapes.specs.Turns.{turns}
 use Rattle.imageview.specs.Image.{Image}
-use Rattle.fit_operator.specs.Loops.{turns, tabulated}
 use Rattle.saddle_fit.specs.declared.PatchSaddle.{PatchSaddle}
 use Rattle.saddle_fit.specs.declared.Corners.{Corners}
 use Rattle.saddle_fit.specs.declared.Slope.{Slope}
 use Rattle.saddle_fit.specs.declared.Jacobian.{Jacobian}
 use Rattle.saddle_fit.specs.declared.Matrix.{Matrix}
 use Rattle.saddle_fit.specs.declared.Move.{Move}
-use Rattle.saddle_fit.specs.Numbers.{_⊕_, _⊖_, _⊗_, _⊘_, zero32, minusZero32, one32, two, at}
+use Rattle.saddle_fit.specs.Numbers.{_⊕_, _⊖_, _⊗_, _⊘_, two}
 use Rattle.saddle_fit.specs.Fit.{Fit, noFit, fitted, fitAt}
 
 -- within four fits
 unfoldable pub slopeWithin : Corners → Float → Float → Slope
 unfolding tabulated
 slopeWithin c tx ty = record {
-  x = tabulated 5 (λ k. (one32 ⊖ ty) ⊗ (at (c .c10) k ⊖ at (c .c00) k) ⊕ ty ⊗ (at (c .c11) k ⊖ at (c .c01) k));
-  y = tabulated 5 (λ k. (one32 ⊖ tx) ⊗ (at (c .c01) k ⊖ at (c .c00) k) ⊕ tx ⊗ (at (c .c11) k ⊖ at (c .c10) k));
+  x = tabulated 5 (λ k. (one ⊖ ty) ⊗ (entry (c .c10) k ⊖ entry (c .c00) k) ⊕ ty ⊗ (entry (c .c11) k ⊖ entry (c .c01) k));
+  y = tabulated 5 (λ k. (one ⊖ tx) ⊗ (entry (c .c01) k ⊖ entry (c .c00) k) ⊕ tx ⊗ (entry (c .c11) k ⊖ entry (c .c10) k));
 }
 
 -- ---- at a pixel: the difference to the next fit, or from the one before where the next leaves the image
@@ -30,7 +32,7 @@ pub data Sloped : Type 0 where
   sloped : Slope → Sloped
 
 abbrev pub difference : List Float → List Float → List Float
-difference high low = tabulated 5 (λ k. zero32 ⊕ one32 ⊗ (at high k ⊖ at low k))
+difference high low = tabulated 5 (λ k. plusZero ⊕ one ⊗ (entry high k ⊖ entry low k))
 
 pub data Along : Type 0 where
   noWay : Along
@@ -55,14 +57,14 @@ slopeAt img columns radius x y =
 
 -- ---- the Jacobian of the saddle by the coefficients, two rows of five
 abbrev pub rowX : PatchSaddle → List Float
-rowX f = (two ⊗ f .ux) ∷ f .uy ∷ zero32 ∷ one32 ∷ zero32 ∷ []
+rowX f = (two ⊗ f .ux) ∷ f .uy ∷ plusZero ∷ one ∷ plusZero ∷ []
 
 abbrev pub rowY : PatchSaddle → List Float
-rowY f = zero32 ∷ f .ux ∷ (two ⊗ f .uy) ∷ zero32 ∷ one32 ∷ []
+rowY f = plusZero ∷ f .ux ∷ (two ⊗ f .uy) ∷ plusZero ∷ one ∷ []
 
 -- minus the inverse of the Hessian
 abbrev pub inverseDet : PatchSaddle → Float
-inverseDet f = one32 ⊘ f .«det_h»
+inverseDet f = one ⊘ f .«det_h»
 
 abbrev pub h00 : PatchSaddle → Float
 h00 f = neg two ⊗ f .c ⊗ inverseDet f
@@ -76,14 +78,14 @@ h11 f = neg two ⊗ f .a ⊗ inverseDet f
 unfoldable pub saddleJacobian : PatchSaddle → Jacobian
 unfolding tabulated
 saddleJacobian f = record {
-  first = tabulated 5 (λ k. h00 f ⊗ at (rowX f) k ⊕ h01 f ⊗ at (rowY f) k);
-  second = tabulated 5 (λ k. h01 f ⊗ at (rowX f) k ⊕ h11 f ⊗ at (rowY f) k);
+  first = tabulated 5 (λ k. h00 f ⊗ entry (rowX f) k ⊕ h01 f ⊗ entry (rowY f) k);
+  second = tabulated 5 (λ k. h01 f ⊗ entry (rowX f) k ⊕ h11 f ⊗ entry (rowY f) k);
 }
 
 -- a sum of five products, from -0.0 as the Rust's `sum` starts
 unfoldable pub dot : List Float → List Float → Float
 unfolding turns
-dot l r = turns 5 (λ k a. a ⊕ at l k ⊗ at r k) minusZero32
+dot l r = turns 5 (λ k a. a ⊕ entry l k ⊗ entry r k) minusZero
 
 -- the window sensitivity M, two by two
 unfoldable pub sensitivity : Jacobian → Slope → Matrix
@@ -95,7 +97,7 @@ matrixDet m = m .m00 ⊗ m .m11 ⊖ m .m01 ⊗ m .m10
 
 -- the determinant of the window sensitivity is finite and not zero
 abbrev pub regular : Matrix → Bool
-regular m = finite (matrixDet m) && not (eq (matrixDet m) zero32)
+regular m = finite (matrixDet m) && not (eq (matrixDet m) plusZero)
 
 -- ---- the step toward the window in which the saddle lies at the centre
 -- 0.05
@@ -110,6 +112,6 @@ newtonStep m f =
     let g10 = neg (m .m10) in
     let g11 = neg (m .m11) in
     let det = g00 ⊗ g11 ⊖ g01 ⊗ g10 in
-    cond (lt leastGain det && lt zero32 (g00 ⊕ g11))
+    cond (lt leastGain det && lt plusZero (g00 ⊕ g11))
     (record { x = (g11 ⊗ f .ux ⊖ g01 ⊗ f .uy) ⊘ det; y = (g00 ⊗ f .uy ⊖ g10 ⊗ f .ux) ⊘ det })
     (record { x = f .ux; y = f .uy })

@@ -5,11 +5,12 @@ use lib.Ieee.{Float, binary32, lt, neg}
 use lib.Ieee.Scale.{finite}
 use Rattle.floats.specs.Magnitude.{magnitude}
 use Rattle.floats.specs.Root.{sqrt}
+use Rattle.shapes.specs.Numbers.{plusZero, one, entry}
 use Rattle.saddle_fit.specs.declared.SaddlePointConfig.{SaddlePointConfig}
 use Rattle.saddle_fit.specs.declared.PatchSaddle.{PatchSaddle}
 use Rattle.saddle_fit.specs.declared.Solved.{Solved}
 use Rattle.saddle_fit.specs.declared.Solved.the-variants.{Refused, Saddle}
-use Rattle.saddle_fit.specs.Numbers.{zero32, _⊖_, _⊗_, _⊘_, one32, two, four, at}
+use Rattle.saddle_fit.specs.Numbers.{_⊖_, _⊗_, _⊘_, two, four}
 
 -- det H = 4ac - b²
 abbrev pub determinant : Float → Float → Float → Float
@@ -20,21 +21,21 @@ abbrev pub flat : SaddlePointConfig → Float → Bool
 flat cfg det = lt (neg (cfg .«det_margin»)) det || lt (magnitude det) (cfg .«min_abs_det»)
 
 abbrev pub offsetX : List Float → Float → Float
-offsetX l inv = neg (two ⊗ at l 2 ⊗ at l 3 ⊖ at l 1 ⊗ at l 4) ⊗ inv
+offsetX l inv = neg (two ⊗ entry l 2 ⊗ entry l 3 ⊖ entry l 1 ⊗ entry l 4) ⊗ inv
 
 abbrev pub offsetY : List Float → Float → Float
-offsetY l inv = (at l 1 ⊗ at l 3 ⊖ two ⊗ at l 0 ⊗ at l 4) ⊗ inv
+offsetY l inv = (entry l 1 ⊗ entry l 3 ⊖ two ⊗ entry l 0 ⊗ entry l 4) ⊗ inv
 
 abbrev pub saddleOf : List Float → Float → Float → Float → PatchSaddle
-saddleOf l det x y = record { ux = x; uy = y; a = at l 0; b = at l 1; c = at l 2; «det_h» = det }
+saddleOf l det x y = record { ux = x; uy = y; a = entry l 0; b = entry l 1; c = entry l 2; «det_h» = det }
 
 abbrev pub solvedFrom : List Float → Float → Float → Float → Solved
 solvedFrom l det x y = cond (finite x && finite y) (Saddle (saddleOf l det x y)) (Refused det)
 
 unfoldable pub solve : SaddlePointConfig → List Float → Solved
 solve cfg l =
-    let det = determinant (at l 0) (at l 1) (at l 2) in
-    let inv = one32 ⊘ det in
+    let det = determinant (entry l 0) (entry l 1) (entry l 2) in
+    let inv = one ⊘ det in
     cond (flat cfg det) (Refused det) (solvedFrom l det (offsetX l inv) (offsetY l inv))
 
 -- the root of minus the determinant
@@ -43,4 +44,4 @@ scoreOf f = sqrt binary32 (neg (f .«det_h»))
 
 -- a setting that can be used: finite and not below zero; -0.0 is not below it
 abbrev pub goodLimit : Float → Bool
-goodLimit v = finite v && not (lt v zero32)
+goodLimit v = finite v && not (lt v plusZero)

@@ -4,7 +4,7 @@ use super::Jacobian;
 use super::Matrix;
 use super::sensitivity;
 ghost use mathlib.Core.Path.{_≡_};
-ghost use Rattle.fit_operator.specs.Loops.{tabulated};
+ghost use Rattle.shapes.specs.Lists.{tabulated};
 ghost use Rattle.saddle_fit.specs.Covariance as Spec;
 ghost use Rattle.saddle_fit.specs.Steps.{entryAfter, combined, spreadOf};
 

@@ -10,6 +10,7 @@ use lib.Ieee.{Float, binary32, ofInt, neg, sub}
 use borrow.Author.Tests.{le-ltb}
 use Rattle.floats.specs.Root.{sqrt}
 use Rattle.floats.specs.Whole.{floor}
+use Rattle.shapes.specs.Numbers.{plusZero, one}
 use Rattle.imageview.specs.Image.{Image, imageOf}
 use Rattle.imageview.specs.Patch.{inside, supportsPatch}
 use Rattle.imageview.proofs.PatchLaws.{before}
@@ -24,7 +25,7 @@ use Rattle.saddle_point.specs.declared.Estimate.{Estimate}
 use Rattle.saddle_fit.specs.declared.Covariance.{Covariance}
 use Rattle.saddle_fit.specs.declared.Covariance.the-variants.{Unknown}
 use Rattle.saddle_fit.specs.declared.SaddlePointConfig.{SaddlePointConfig}
-use Rattle.saddle_fit.specs.Numbers.{_⊕_, zero32, one32}
+use Rattle.saddle_fit.specs.Numbers.{_⊕_}
 use Rattle.saddle_fit.specs.Fit.{Fit, noFit, fitted, fitAt, fitWithin, coefficients}
 use Rattle.saddle_fit.specs.Between.{Place, placeOf}
 use Rattle.saddle_fit.specs.Sensitivity.{regular, Along, noWay, way, along, both, difference, slopeAt, slopeWithin, saddleJacobian, sensitivity, Sloped}
@@ -177,13 +178,13 @@ module _ (img : Image) (columns overlap : List Float) (cfg : SaddlePointConfig) 
   whole = finished task overlap wanted first (runOf task first)
 
   abbrev origin : Place
-  origin = placeOf (pos (seed .«centre_x»)) (pos (seed .«centre_y»)) zero32 zero32
+  origin = placeOf (pos (seed .«centre_x»)) (pos (seed .«centre_y»)) plusZero plusZero
 
-  no-fraction : zero32 ≡ origin .tx
+  no-fraction : plusZero ≡ origin .tx
   unfolding placeOf floor sub
   no-fraction = refl
 
-  no-fraction-y : zero32 ≡ origin .ty
+  no-fraction-y : plusZero ≡ origin .ty
   unfolding placeOf floor sub
   no-fraction-y = refl
 
@@ -191,27 +192,27 @@ module _ (img : Image) (columns overlap : List Float) (cfg : SaddlePointConfig) 
     start-is : whole ≡ closedAt task overlap wanted origin first 0 (both (wayOf ax) (wayOf ay))
     unfolding runOf slopeAt
     start-is =
-        let s = searchFrom 4 task first zero32 zero32 (record { x = first .ux; y = first .uy }) one32 in
+        let s = searchFrom 4 task first plusZero plusZero (record { x = first .ux; y = first .uy }) one in
         ap (λ (e : Finish). finished task overlap wanted first e) (yes (settled first) (atStart 0) (picked (s .outcome) (λ v. stepsFrom 15 task v (s .count)) (atStart (s .count))) h)
         ∙ yes (settled first) (closedAt task overlap wanted origin first 0 (slopeAt img columns (cfg .radius) (pos (seed .«centre_x»)) (pos (seed .«centre_y»)))) (single task first 0) h
         ∙ ap (λ (u : Along). closedAt task overlap wanted origin first 0 (both u (along (fitAt img columns (cfg .radius) (pos (seed .«centre_x»)) (pos (seed .«centre_y»))) (fitAt img columns (cfg .radius) (pos (seed .«centre_x»)) (pos (seed .«centre_y») +ℤ pos 1)) (fitAt img columns (cfg .radius) (pos (seed .«centre_x»)) (pos (seed .«centre_y») +ℤ negsuc 0))))) (ex .is)
         ∙ ap (λ (u : Along). closedAt task overlap wanted origin first 0 (both (wayOf ax) u)) (ey .is)
 
-    pub with-slope : ax .found ≡ true → ay .found ≡ true → Closes (centred seed) overlap wanted zero32 zero32 zero32 zero32 first 0 (record { x = ax .coefs; y = ay .coefs }) r → r ≡ whole
+    pub with-slope : ax .found ≡ true → ay .found ≡ true → Closes (centred seed) overlap wanted plusZero plusZero plusZero plusZero first 0 (record { x = ax .coefs; y = ay .coefs }) r → r ≡ whole
     with-slope p q k =
         k .is origin no-fraction no-fraction-y
         ∙ sym (start-is
         ∙ ap (λ (b : Bool). closedAt task overlap wanted origin first 0 (both (cond b (way (ax .coefs)) noWay) (wayOf ay))) p
         ∙ ap (λ (b : Bool). closedAt task overlap wanted origin first 0 (both (way (ax .coefs)) (cond b (way (ay .coefs)) noWay))) q)
 
-    pub no-slope-y : ax .found ≡ true → ay .found ≡ false → r ≡ estimate (centred seed) zero32 zero32 first false 0 Unknown → r ≡ whole
+    pub no-slope-y : ax .found ≡ true → ay .found ≡ false → r ≡ estimate (centred seed) plusZero plusZero first false 0 Unknown → r ≡ whole
     no-slope-y p q k =
         k
         ∙ sym (start-is
         ∙ ap (λ (b : Bool). closedAt task overlap wanted origin first 0 (both (cond b (way (ax .coefs)) noWay) (wayOf ay))) p
         ∙ ap (λ (b : Bool). closedAt task overlap wanted origin first 0 (both (way (ax .coefs)) (cond b (way (ay .coefs)) noWay))) q)
 
-    pub no-slope-x : ax .found ≡ false → r ≡ estimate (centred seed) zero32 zero32 first false 0 Unknown → r ≡ whole
+    pub no-slope-x : ax .found ≡ false → r ≡ estimate (centred seed) plusZero plusZero first false 0 Unknown → r ≡ whole
     no-slope-x p k = k ∙ sym (start-is ∙ ap (λ (b : Bool). closedAt task overlap wanted origin first 0 (both (cond b (way (ax .coefs)) noWay) (wayOf ay))) p)
 
   module _ (e : Ended) (ends : Ends task first e) (r : Estimate) where

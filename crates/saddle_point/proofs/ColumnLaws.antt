@@ -1,4 +1,4 @@
--- Two tasks whose fits are the same at every pixel run alike. A fit reads the first columns of an operator and no more, so two operators that agree there refine alike.
+-- Two tasks whose fits are the same entry every pixel run alike. A fit reads the first columns of an operator and no more, so two operators that agree there refine alike.
 use mathlib.Core.Path.{_≡_, refl, sym, ap, _∙_, subst}
 use mathlib.Core.Bool.{Bool, true, false, cond}
 use mathlib.Core.List.{List, _++_}
@@ -7,13 +7,15 @@ use native.Mathlib.Omega.{arith}
 use lib.IntN.{ℤ, pos, negsuc, _+ℤ_}
 use lib.ListN.{length, drop, List·getD-append}
 use lib.Ieee.{Float, nan}
+use Rattle.shapes.specs.Numbers.{plusZero, one, entry}
 use Rattle.imageview.specs.Image.{Image}
 use Rattle.imageview.specs.Patch.{supportsPatch}
 use Rattle.fit_operator.specs.Basis.{samples}
 use Rattle.fit_operator.specs.Call as Operator
 use Rattle.fit_operator.specs.declared.Operator.{Operator}
 use Rattle.fit_operator.specs.declared.Operator.the-variants as Answer
-use Rattle.fit_operator.proofs.ListLaws.{turns-cong, tabulated-cong}
+use Rattle.shapes.proofs.ListLaws.{tabulated-cong}
+use Rattle.shapes.proofs.TurnLaws.{turns-cong}
 use Rattle.fit_operator.proofs.CallLaws.{built-length}
 use Rattle.saddle_fit.specs.declared.SaddlePointConfig.{SaddlePointConfig}
 use Rattle.saddle_fit.specs.declared.PatchSaddle.{PatchSaddle}
@@ -27,7 +29,7 @@ use Rattle.saddle_point.specs.declared.Refined.the-variants.{Accepted, U
 use Rattle.saddle_point.specs.declared.Refined.the-variants as Refined
 use Rattle.saddle_point.specs.declared.Why.the-variants.{Rejected, IllConditioned}
 use Rattle.refusals.specs.declared.Refusal.the-variants.{BadRadius}
-use Rattle.saddle_fit.specs.Numbers.{_⊕_, _⊖_, _⊗_, zero32, one32, half, at}
+use Rattle.saddle_fit.specs.Numbers.{_⊕_, _⊖_, _⊗_, half}
 use Rattle.saddle_fit.specs.Fit.{sampleOf, coefficient, coefficients, Fit, noFit, fitted, fitWithin, fitAt}
 use Rattle.saddle_fit.specs.Solve.{solve}
 use Rattle.saddle_fit.specs.Between.{Place, placeOf, Fits, lacking, four, fits4, cornersAt, blend}
@@ -36,7 +38,7 @@ use Rattle.saddle_fit.specs.Run.{Task, nearSeed, settled, norm2, Stand, Tried, 
 use Rattle.fit_cache.specs.Tries.{taskAt}
 use Rattle.saddle_point.specs.Refine.{single, closed, closedAt, finished, fromSaddle, refineWith, withOperator}
 
--- ---- two images and two operators that give the same fit at every pixel
+-- ---- two images and two operators that give the same fit entry every pixel
 abbrev pub SameFits : Image → Image → List Float → List Float → ℕ → Type 0
 SameFits p q a b radius = (z w : ℤ) → fitAt p a radius z w ≡ fitAt q b radius z w
 
@@ -106,17 +108,17 @@ module _ (p q : Image) (a b : List Float) (cfg : SaddlePointConfig) (cx cy : ℤ
   unfolding stepsFrom
   steps-same zero s n = refl
   steps-same (suc left) s n =
-      ap (λ (r : Search). cond (settled (s .fit)) (atStand s n) (picked (r .outcome) (λ s'. stepsFrom left ta s' (n + r .count)) (atStand s (n + r .count)))) (search-same 4 (s .fit) (s .ox) (s .oy) (laterMove s) one32)
+      ap (λ (r : Search). cond (settled (s .fit)) (atStand s n) (picked (r .outcome) (λ s'. stepsFrom left ta s' (n + r .count)) (atStand s (n + r .count)))) (search-same 4 (s .fit) (s .ox) (s .oy) (laterMove s) one)
       ∙ ap (λ (e : Finish). cond (settled (s .fit)) (atStand s n) e)
-      (let r = searchFrom 4 tb (s .fit) (s .ox) (s .oy) (laterMove s) one32 in
+      (let r = searchFrom 4 tb (s .fit) (s .ox) (s .oy) (laterMove s) one in
       picked-same (r .outcome) (λ s'. stepsFrom left ta s' (n + r .count)) (λ s'. stepsFrom left tb s' (n + r .count)) (atStand s (n + r .count)) (λ s'. steps-same left s' (n + r .count)))
 
   run-same : (f : PatchSaddle) → runOf ta f ≡ runOf tb f
   unfolding runOf
   run-same f =
-      ap (λ (r : Search). cond (settled f) (atStart 0) (picked (r .outcome) (λ s. stepsFrom 15 ta s (r .count)) (atStart (r .count)))) (search-same 4 f zero32 zero32 (record { x = f .ux; y = f .uy }) one32)
+      ap (λ (r : Search). cond (settled f) (atStart 0) (picked (r .outcome) (λ s. stepsFrom 15 ta s (r .count)) (atStart (r .count)))) (search-same 4 f plusZero plusZero (record { x = f .ux; y = f .uy }) one)
       ∙ ap (λ (e : Finish). cond (settled f) (atStart 0) e)
-      (let r = searchFrom 4 tb f zero32 zero32 (record { x = f .ux; y = f .uy }) one32 in
+      (let r = searchFrom 4 tb f plusZero plusZero (record { x = f .ux; y = f .uy }) one in
       picked-same (r .outcome) (λ s. stepsFrom 15 ta s (r .count)) (λ s. stepsFrom 15 tb s (r .count)) (atStart (r .count)) (λ s. steps-same 15 s (r .count)))
 
   closed-same : (overlap : List Float) (wanted : Bool) (w : Place) (f : PatchSaddle) (n : ℕ) (s : Sloped) → closedAt ta overlap wanted w f n s ≡ closedAt tb overlap wanted w f n s
@@ -125,8 +127,8 @@ module _ (p q : Image) (a b : List Float) (cfg : SaddlePointConfig) (cx cy : ℤ
 
   finished-same : (overlap : List Float) (wanted : Bool) (f : PatchSaddle) (e : Finish) → finished ta overlap wanted f e ≡ finished tb overlap wanted f e
   finished-same overlap wanted f (atStart n) =
-      ap (λ (s : Sloped). cond (settled f) (closedAt ta overlap wanted (placeOf cx cy zero32 zero32) f n s) (single ta f n)) (slope-same p q a b (cfg .radius) same cx cy)
-      ∙ ap (λ (e : Estimate). cond (settled f) e (single ta f n)) (closed-same overlap wanted (placeOf cx cy zero32 zero32) f n (slopeAt q b (cfg .radius) cx cy))
+      ap (λ (s : Sloped). cond (settled f) (closedAt ta overlap wanted (placeOf cx cy plusZero plusZero) f n s) (single ta f n)) (slope-same p q a b (cfg .radius) same cx cy)
+      ∙ ap (λ (e : Estimate). cond (settled f) e (single ta f n)) (closed-same overlap wanted (placeOf cx cy plusZero plusZero) f n (slopeAt q b (cfg .radius) cx cy))
   finished-same overlap wanted f (atStand s n) = refl
 
   pub saddle-same : (overlap : List Float) (wanted : Bool) (s : Solved) → fromSaddle ta overlap wanted s ≡ fromSaddle tb overlap wanted s
@@ -140,14 +142,14 @@ module _ (p q : Image) (a b : List Float) (cfg : SaddlePointConfig) (cx cy : ℤ
 below : (n k i : ℕ) → k < n → i < 5 → 5 * k + i < 5 * n
 below n k i h l = omega arith
 
-module _ (img : Image) (a b : List Float) (radius : ℕ) (same : (k : ℕ) → k < 5 * samples radius → at a k ≡ at b k) where
+module _ (img : Image) (a b : List Float) (radius : ℕ) (same : (k : ℕ) → k < 5 * samples radius → entry a k ≡ entry b k) where
   coefficient-same : (x y i : ℕ) → i < 5 → coefficient img a radius x y i ≡ coefficient img b radius x y i
   unfolding coefficient
   coefficient-same x y i l =
       turns-cong (samples radius)
-      (λ k s. s ⊕ at a (5 * k + i) ⊗ (sampleOf img radius x y k ⊖ sampleOf img radius x y (samples radius / 2)))
-      (λ k s. s ⊕ at b (5 * k + i) ⊗ (sampleOf img radius x y k ⊖ sampleOf img radius x y (samples radius / 2)))
-      zero32
+      (λ k s. s ⊕ entry a (5 * k + i) ⊗ (sampleOf img radius x y k ⊖ sampleOf img radius x y (samples radius / 2)))
+      (λ k s. s ⊕ entry b (5 * k + i) ⊗ (sampleOf img radius x y k ⊖ sampleOf img radius x y (samples radius / 2)))
+      plusZero
       (λ k h s. ap (λ (c : Float). s ⊕ c ⊗ (sampleOf img radius x y k ⊖ sampleOf img radius x y (samples radius / 2))) (same (5 * k + i) (below (samples radius) k i h l)))
 
   coefficients-same : (x y : ℕ) → coefficients img a radius x y ≡ coefficients img b radius x y
@@ -180,7 +182,7 @@ isBad Answer.Singular = ⊥
 isBad Answer.BadRadius = Unit
 
 module _ (img : Image) (cfg : SaddlePointConfig) (seed : Seed) (wanted : Bool) where
-  agree : (c rest : List Float) (n : ℕ) → length c ≡ n → (k : ℕ) → k < n → at (c ++ rest) k ≡ at c k
+  agree : (c rest : List Float) (n : ℕ) → length c ≡ n → (k : ℕ) → k < n → entry (c ++ rest) k ≡ entry c k
   agree c rest n e k h = List·getD-append c rest nan k (subst (λ (m : ℕ). k < m) (sym e) h)
 
   front : (c rest overlap : List Float) → length c ≡ 5 * samples (cfg .radius) → refineWith img cfg seed wanted (c ++ rest) overlap ≡ refineWith img cfg seed wanted c overlap
@@ -201,12 +203,12 @@ module _ (img : Image) (cfg : SaddlePointConfig) (seed : Seed) (wanted : Bool) w
   fresh-built old overlap columns' overlap' r d e =
       by-way old overlap columns' overlap' (Operator.wayOf (cfg .radius)) (built-length (cfg .radius)) (sym (d .answers) ∙ e) (d .leaves-columns) (d .leaves-overlap)
 
-  singular-way : (w : Operator.Way) → Operator.answerOf w ≡ Answer.Singular → Unmoved IllConditioned zero32 ≡ withOperator img cfg seed wanted w
+  singular-way : (w : Operator.Way) → Operator.answerOf w ≡ Answer.Singular → Unmoved IllConditioned plusZero ≡ withOperator img cfg seed wanted w
   singular-way Operator.badRadius e = absurd (subst isSingular (sym e) tt)
   singular-way Operator.none e = refl
   singular-way (Operator.built c o) e = absurd (subst isSingular (sym e) tt)
 
-  pub fresh-singular : (old overlap columns' overlap' : List Float) (r : Operator) → Operator.Done (cfg .radius) old overlap r columns' overlap' → r ≡ Answer.Singular → Unmoved IllConditioned zero32 ≡ withOperator img cfg seed wanted (Operator.wayOf (cfg .radius))
+  pub fresh-singular : (old overlap columns' overlap' : List Float) (r : Operator) → Operator.Done (cfg .radius) old overlap r columns' overlap' → r ≡ Answer.Singular → Unmoved IllConditioned plusZero ≡ withOperator img cfg seed wanted (Operator.wayOf (cfg .radius))
   fresh-singular old overlap columns' overlap' r d e = singular-way (Operator.wayOf (cfg .radius)) (sym (d .answers) ∙ e)
 
   bad-way : (w : Operator.Way) → Operator.answerOf w ≡ Answer.BadRadius → Refined.Refused BadRadius ≡ withOperator img cfg seed wanted w

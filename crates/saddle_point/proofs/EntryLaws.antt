@@ -1,6 +1,6 @@
 -- Laws of the entry: the tests as one answer, what a seed that passed them has, and what the first fit decides.
 use mathlib.Core.Path.{_≡_, refl, sym, ap, _∙_, subst}
-use mathlib.Core.Bool.{Bool, true, false, _&&_, not, cond}
+use mathlib.Core.Bool.{Bool, true, false, _&&_, not, cond, and-eq-true-iff}
 use mathlib.Core.List.{List}
 use Prim.Native.Nat.{ℕ, _+_, _^_, _≤_, _<_}
 use native.Mathlib.Omega.{arith}
@@ -39,21 +39,17 @@ use Rattle.fit_cache.specs.Adding.{Sound, PatchWithin}
 use Rattle.fit_cache.specs.Tries.{taskAt}
 use Rattle.saddle_point.proofs.StepLaws.{no, yes, differs}
 
-pub both-true : (a b : Bool) → (a && b) ≡ true → (a ≡ true) × (b ≡ true)
-both-true true b h = (refl, h)
-both-true false b h = absurd (subst differs (sym h) tt)
-
 -- ---- a centre inside
 pub inside-is : (radius n : ℕ) (z : ℤ) → inside radius n z ≡ true → z ≡ pos (natAbs z)
 inside-is radius n (pos c) h = refl
 inside-is radius n (negsuc c) h = absurd (subst differs (sym h) tt)
 
 inside-low : (radius n : ℕ) (z : ℤ) → inside radius n z ≡ true → radius ≤ natAbs z
-inside-low radius n (pos c) h = leb-true radius c (both-true (leb radius c) (ltb (c + radius) n) h .0)
+inside-low radius n (pos c) h = leb-true radius c (and-eq-true-iff (leb radius c) (ltb (c + radius) n) .0 h .0)
 inside-low radius n (negsuc c) h = absurd (subst differs (sym h) tt)
 
 inside-high : (radius n : ℕ) (z : ℤ) → inside radius n z ≡ true → natAbs z + radius < n
-inside-high radius n (pos c) h = ltb-true (c + radius) n (both-true (leb radius c) (ltb (c + radius) n) h .1)
+inside-high radius n (pos c) h = ltb-true (c + radius) n (and-eq-true-iff (leb radius c) (ltb (c + radius) n) .0 h .1)
 inside-high radius n (negsuc c) h = absurd (subst differs (sym h) tt)
 
 pub inside-fits : (radius n : ℕ) (z : ℤ) → inside radius n z ≡ true → n ≤ 4096 → T (nonNeg z) × Fits w64 (natAbs z)
@@ -62,7 +58,7 @@ inside-fits radius n z h most = (subst (λ (v : ℤ). T (nonNeg v)) (sym (inside
 pub within-of : (img : Image) (radius : ℕ) (z w : ℤ) → isImage img ≡ true → leb radius 7 ≡ true → supportsPatch img radius z w ≡ true → PatchWithin img radius (natAbs z) (natAbs w)
 unfolding supportsPatch
 within-of img radius z w i r p =
-    let both = both-true (inside radius (img .width) z) (inside radius (img .height) w) p in
+    let both = and-eq-true-iff (inside radius (img .width) z) (inside radius (img .height) w) .0 p in
     record {
       sound = record { image = images.tested img (subst T (sym i) tt); small = leb-true radius 7 r };
       left = inside-low radius (img .width) z (both .0);

@@ -6,11 +6,11 @@ use Prim.Native.Nat.{ℕ}
 use lib.Dec.{eqb}
 use lib.Ieee.{Float}
 use borrow.Author.Tests.{eqb-true}
+use Rattle.shapes.specs.Numbers.{plusZero}
 use Rattle.imageview.specs.Image.{Image}
 use Rattle.fit_operator.specs.Call as Operator
 use Rattle.fit_operator.specs.declared.Operator.{Operator}
 use Rattle.fit_operator.specs.declared.Operator.the-variants as Answer
-use Rattle.saddle_fit.specs.Numbers.{zero32}
 use Rattle.saddle_fit.specs.declared.SaddlePointConfig.{SaddlePointConfig}
 use Rattle.fit_cache.specs.declared.Seed.{Seed}
 use Rattle.saddle_point.specs.declared.Refined.{Refined}
@@ -28,7 +28,7 @@ use Rattle.saddle_point.proofs.ColumnLaws.{isSingular, fresh-built, fre
 
 module _ (img : Image) (cfg : SaddlePointConfig) (x y : Float) (wanted : Bool) (old overlap columns' overlap' : List Float) (r : Operator) (done : Operator.Done (cfg .radius) old overlap r columns' overlap') where
   -- an operator that was built is not that of radius 0
-  not-zero : r ≡ Answer.Built → (a : Refined) (z : Bool) → eqb (cfg .radius) 0 ≡ z → cond z (Unmoved IllConditioned zero32) a ≡ a
+  not-zero : r ≡ Answer.Built → (a : Refined) (z : Bool) → eqb (cfg .radius) 0 ≡ z → cond z (Unmoved IllConditioned plusZero) a ≡ a
   not-zero e a false h = refl
   not-zero e a true h = absurd (subst isSingular (sym (ap Operator.answerOf radius-0) ∙ sym (ap (λ (k : ℕ). Operator.answerOf (Operator.wayOf k)) (eqb-true (cfg .radius) 0 h)) ∙ sym (done .answers) ∙ e) tt)
 
@@ -50,7 +50,7 @@ module _ (img : Image) (cfg : SaddlePointConfig) (x y : Float) (wanted : Bool) (
 
   pub none-singular : r ≡ Answer.Singular → spotOf (refineOf img cfg x y wanted) ≡ Nowhere
   unfolding refineOf
-  none-singular e = without (Unmoved IllConditioned zero32) refl (λ seed. fresh-singular img cfg seed wanted old overlap columns' overlap' r done e) (admitOf img cfg x y)
+  none-singular e = without (Unmoved IllConditioned plusZero) refl (λ seed. fresh-singular img cfg seed wanted old overlap columns' overlap' r done e) (admitOf img cfg x y)
 
   pub none-bad : r ≡ Answer.BadRadius → spotOf (refineOf img cfg x y wanted) ≡ Nowhere
   unfolding refineOf

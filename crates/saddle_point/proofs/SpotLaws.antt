@@ -7,6 +7,7 @@ use lib.Dec.{eqb}
 use lib.IntN.{pos}
 use lib.Ieee.{Float, binary32, ofInt}
 use borrow.Author.Tests.{eq-eqb, ne-eqb}
+use Rattle.shapes.specs.Numbers.{plusZero, one}
 use Rattle.imageview.specs.Image.{Image}
 use Rattle.saddle_fit.specs.declared.SaddlePointConfig.{SaddlePointConfig}
 use Rattle.saddle_fit.specs.declared.PatchSaddle.{PatchSaddle}
@@ -16,7 +17,7 @@ use Rattle.saddle_fit.specs.declared.Solved.{Solved}
 use Rattle.saddle_fit.specs.declared.Solved.the-variants.{Refused, Saddle}
 use Rattle.saddle_fit.specs.declared.Covariance.{Covariance}
 use Rattle.saddle_fit.specs.declared.Covariance.the-variants.{Unknown}
-use Rattle.saddle_fit.specs.Numbers.{_⊕_, zero32, one32}
+use Rattle.saddle_fit.specs.Numbers.{_⊕_}
 use Rattle.saddle_fit.specs.Solve.{solve}
 use Rattle.saddle_fit.specs.Between.{Place, placeOf}
 use Rattle.saddle_fit.specs.Sensitivity.{regular, Sloped, noSlope, sloped, slopeAt, slopeWithin, saddleJacobian, sensitivity}
@@ -46,22 +47,22 @@ closed-spot : (t : Task) (overlap : List Float) (wanted : Bool) (ox oy : Float) 
 closed-spot t overlap wanted ox oy w f n s =
     by-regular (regular (sensitivity (saddleJacobian f) s)) t ox oy f n (cond wanted (covarianceOf overlap (w .tx) (w .ty) (saddleJacobian f) (sensitivity (saddleJacobian f) s)) Unknown)
 
-centre-spot : (t : Task) (overlap : List Float) (wanted : Bool) (w : Place) (f : PatchSaddle) (n : ℕ) (s : Sloped) → spotAt (closedAt t overlap wanted w f n s) ≡ spotAt (estimate t zero32 zero32 f false n Unknown)
+centre-spot : (t : Task) (overlap : List Float) (wanted : Bool) (w : Place) (f : PatchSaddle) (n : ℕ) (s : Sloped) → spotAt (closedAt t overlap wanted w f n s) ≡ spotAt (estimate t plusZero plusZero f false n Unknown)
 centre-spot t overlap wanted w f n noSlope = refl
-centre-spot t overlap wanted w f n (sloped s) = closed-spot t overlap wanted zero32 zero32 w f n s
+centre-spot t overlap wanted w f n (sloped s) = closed-spot t overlap wanted plusZero plusZero w f n s
 
 -- ---- the ways out of `spot_from`
 module _ (img : Image) (columns : List Float) (cfg : SaddlePointConfig) (seed : Seed) (first : PatchSaddle) (r : Spot) where
   abbrev task : Task
   task = taskAt img columns cfg seed
 
-  pub comes-settled : settled first ≡ true → r ≡ At (ofInt binary32 (pos (seed .«centre_x»)) ⊕ zero32 ⊕ first .ux) (ofInt binary32 (pos (seed .«centre_y»)) ⊕ zero32 ⊕ first .uy) → Comes task first r
+  pub comes-settled : settled first ≡ true → r ≡ At (ofInt binary32 (pos (seed .«centre_x»)) ⊕ plusZero ⊕ first .ux) (ofInt binary32 (pos (seed .«centre_y»)) ⊕ plusZero ⊕ first .uy) → Comes task first r
   unfolding runOf
   comes-settled h e =
       record {
         is = λ overlap wanted.
-            let s = searchFrom 4 task first zero32 zero32 (record { x = first .ux; y = first .uy }) one32 in
-            let w = placeOf (pos (seed .«centre_x»)) (pos (seed .«centre_y»)) zero32 zero32 in
+            let s = searchFrom 4 task first plusZero plusZero (record { x = first .ux; y = first .uy }) one in
+            let w = placeOf (pos (seed .«centre_x»)) (pos (seed .«centre_y»)) plusZero plusZero in
             let l = slopeAt img columns (cfg .radius) (pos (seed .«centre_x»)) (pos (seed .«centre_y»)) in
             e
             ∙ sym (ap (λ (v : Finish). spotAt (finished task overlap wanted first v)) (yes (settled first) (atStart 0) (picked (s .outcome) (λ v. stepsFrom 15 task v (s .count)) (atStart (s .count))) h)
@@ -112,10 +113,10 @@ module _ (img : Image) (columns : List Float) (cfg : SaddlePointConfig) (seed : 
   lent overlap wanted = lentWith cfg (refineWith img cfg seed wanted columns overlap)
 
   pub lands-none : cfg .radius ≡ 0 → Lands lent Nowhere
-  lands-none h = record { is = λ overlap wanted. sym (ap spotOf (yes (eqb (cfg .radius) 0) (Unmoved IllConditioned zero32) (refineWith img cfg seed wanted columns overlap) (eq-eqb (cfg .radius) 0 h))) }
+  lands-none h = record { is = λ overlap wanted. sym (ap spotOf (yes (eqb (cfg .radius) 0) (Unmoved IllConditioned plusZero) (refineWith img cfg seed wanted columns overlap) (eq-eqb (cfg .radius) 0 h))) }
 
   pub lands-lent : (cfg .radius ≡ 0 → ⊥) → (r : Spot) → Lands (λ overlap wanted. refineWith img cfg seed wanted columns overlap) r → Lands lent r
-  lands-lent h r l = record { is = λ overlap wanted. l .is overlap wanted ∙ sym (ap spotOf (no (eqb (cfg .radius) 0) (Unmoved IllConditioned zero32) (refineWith img cfg seed wanted columns overlap) (ne-eqb (cfg .radius) 0 h))) }
+  lands-lent h r l = record { is = λ overlap wanted. l .is overlap wanted ∙ sym (ap spotOf (no (eqb (cfg .radius) 0) (Unmoved IllConditioned plusZero) (refineWith img cfg seed wanted columns overlap) (ne-eqb (cfg .radius) 0 h))) }
 
 -- ---- the tests
 module _ (img : Image) (columns : List Float) (cfg : SaddlePointConfig) (x y : Float) where

@@ -7,10 +7,11 @@ use native.Mathlib.Nat.{zero-add, add-zero}
 use native.Mathlib.Numerals.{add-one}
 use native.Mathlib.Omega.{arith}
 use lib.Ieee.{Float}
+use Rattle.shapes.specs.Numbers.{plusZero, one}
 use Rattle.saddle_fit.specs.declared.PatchSaddle.{PatchSaddle}
 use Rattle.saddle_fit.specs.declared.Move.{Move}
 use Rattle.saddle_point.specs.declared.Estimate.{Estimate}
-use Rattle.saddle_fit.specs.Numbers.{_⊕_, _⊗_, zero32, half, one32}
+use Rattle.saddle_fit.specs.Numbers.{_⊕_, _⊗_, half}
 use Rattle.saddle_fit.specs.Between.{placeOf}
 use Rattle.saddle_fit.specs.Sensitivity.{slopeWithin, slopeAt, saddleJacobian, sensitivity, newtonStep}
 use Rattle.saddle_fit.specs.Run.{Task, Stand, Tried, passed, taken, Search, Finish, atStart, atStand, settled, picked, orElse, laterMove, candidate, searchFrom, stepsFrom, runOf}
@@ -38,7 +39,7 @@ module _ (t : Task) (first : PatchSaddle) (overlap : List Float) (wanted : Bool)
 
   -- a run that does not settle ends with the first fit
   unsettled-start : (n : ℕ) → settled first ≡ false → end (atStart n) ≡ single t first n
-  unsettled-start n h = no (settled first) (closedAt t overlap wanted (placeOf (t .centreX) (t .centreY) zero32 zero32) first n (slopeAt (t .img) (t .columns) (t .cfg .radius) (t .centreX) (t .centreY))) (single t first n) h
+  unsettled-start n h = no (settled first) (closedAt t overlap wanted (placeOf (t .centreX) (t .centreY) plusZero plusZero) first n (slopeAt (t .img) (t .columns) (t .cfg .radius) (t .centreX) (t .centreY))) (single t first n) h
 
   unsettled-stand : (s : Stand) (n : ℕ) → settled (s .fit) ≡ false → end (atStand s n) ≡ single t first n
   unsettled-stand s n h = no (settled (s .fit)) (closed t overlap wanted (s .ox) (s .oy) (s .place) (s .fit) n (slopeWithin (s .corners) (s .place .tx) (s .place .ty))) (single t first n) h
@@ -52,18 +53,18 @@ module _ (t : Task) (first : PatchSaddle) (overlap : List Float) (wanted : Bool)
   through (taken s) go stay e h = refl
 
   -- ---- into a step
-  pub first-step : settled first ≡ false → end (runOf t first) ≡ from t first overlap wanted 15 4 first zero32 zero32 (record { x = first .ux; y = first .uy }) one32 0
+  pub first-step : settled first ≡ false → end (runOf t first) ≡ from t first overlap wanted 15 4 first plusZero plusZero (record { x = first .ux; y = first .uy }) one 0
   unfolding runOf
   first-step h =
-      let r = searchFrom 4 t first zero32 zero32 (record { x = first .ux; y = first .uy }) one32 in
+      let r = searchFrom 4 t first plusZero plusZero (record { x = first .ux; y = first .uy }) one in
       ap end (no (settled first) (atStart 0) (picked (r .outcome) (λ s. stepsFrom 15 t s (r .count)) (atStart (r .count))) h)
       ∙ through (r .outcome) (λ s. stepsFrom 15 t s (r .count)) (atStart (r .count)) (single t first (r .count)) (unsettled-start (r .count) h)
       ∙ ap (λ (n : ℕ). onward (r .outcome) (λ s. end (stepsFrom 15 t s n)) (single t first n)) (sym (zero-add (r .count)))
 
-  pub next-step : (left n : ℕ) (s : Stand) → settled (s .fit) ≡ false → end (stepsFrom (suc left) t s n) ≡ from t first overlap wanted left 4 (s .fit) (s .ox) (s .oy) (laterMove s) one32 n
+  pub next-step : (left n : ℕ) (s : Stand) → settled (s .fit) ≡ false → end (stepsFrom (suc left) t s n) ≡ from t first overlap wanted left 4 (s .fit) (s .ox) (s .oy) (laterMove s) one n
   unfolding stepsFrom
   next-step left n s h =
-      let r = searchFrom 4 t (s .fit) (s .ox) (s .oy) (laterMove s) one32 in
+      let r = searchFrom 4 t (s .fit) (s .ox) (s .oy) (laterMove s) one in
       ap end (no (settled (s .fit)) (atStand s n) (picked (r .outcome) (λ s'. stepsFrom left t s' (n + r .count)) (atStand s (n + r .count))) h)
       ∙ through (r .outcome) (λ s'. stepsFrom left t s' (n + r .count)) (atStand s (n + r .count)) (single t first (n + r .count)) (unsettled-stand s (n + r .count) h)
 
@@ -91,7 +92,7 @@ module _ (t : Task) (first : PatchSaddle) (overlap : List Float) (wanted : Bool)
   unfolding stepsFrom
   settles zero n s h = settled-stand s n h
   settles (suc left) n s h =
-      let r = searchFrom 4 t (s .fit) (s .ox) (s .oy) (laterMove s) one32 in
+      let r = searchFrom 4 t (s .fit) (s .ox) (s .oy) (laterMove s) one in
       ap end (yes (settled (s .fit)) (atStand s n) (picked (r .outcome) (λ s'. stepsFrom left t s' (n + r .count)) (atStand s (n + r .count))) h) ∙ settled-stand s n h
 
   pub last-step : (n : ℕ) (s : Stand) → settled (s .fit) ≡ false → end (stepsFrom 0 t s n) ≡ single t first n
@@ -104,7 +105,7 @@ differs true = Unit
 differs false = ⊥
 
 module _ (t : Task) (first : PatchSaddle) where
-  pub starts : (fits : IntegerFits) → settled first ≡ false → Fresh fits → Going t first fits first zero32 zero32 (record { x = first .ux; y = first .uy }) one32 4 15 0
+  pub starts : (fits : IntegerFits) → settled first ≡ false → Fresh fits → Going t first fits first plusZero plusZero (record { x = first .ux; y = first .uy }) one 4 15 0
   starts fits h f = record { kept = f .kept (t .img) (t .columns) (t .cfg .radius); most = omega arith; is = λ overlap wanted. first-step t first overlap wanted h }
 
   -- a run that does not settle
@@ -174,7 +175,7 @@ module _ (t : Task) (first : PatchSaddle) where
       pub no-steps : Going t first fits f ox oy m scale halvings left n → 0 < halvings → c .taken ≡ true → settled (c .fit) ≡ false → left ≡ 0 → (overlap : List Float) (wanted : Bool) → finished t overlap wanted first (runOf t first) ≡ single t first (n + 1)
       no-steps g p h q z overlap wanted = at-stand g p h overlap wanted ∙ ap (λ (k : ℕ). finished t overlap wanted first (stepsFrom k t stand (n + 1))) z ∙ last-step t first overlap wanted (n + 1) stand q
 
-      pub steps-on : (step : Move) → Going t first fits f ox oy m scale halvings left n → 0 < halvings → c .taken ≡ true → settled (c .fit) ≡ false → (left ≡ 0 → ⊥) → step ≡ newtonStep (sensitivity (saddleJacobian (c .fit)) (slopeWithin (c .fits .corners) (c .window .tx) (c .window .ty))) (c .fit) → Going t first (c .fits) (c .fit) nx ny step one32 4 (left - 1) (n + 1)
+      pub steps-on : (step : Move) → Going t first fits f ox oy m scale halvings left n → 0 < halvings → c .taken ≡ true → settled (c .fit) ≡ false → (left ≡ 0 → ⊥) → step ≡ newtonStep (sensitivity (saddleJacobian (c .fit)) (slopeWithin (c .fits .corners) (c .window .tx) (c .window .ty))) (c .fit) → Going t first (c .fits) (c .fit) nx ny step one 4 (left - 1) (n + 1)
       steps-on step g p h q z e =
           let l : left ≡ suc (left - 1) = above left z in
           record {
@@ -184,7 +185,7 @@ module _ (t : Task) (first : PatchSaddle) where
                 at-stand g p h overlap wanted
                 ∙ ap (λ (k : ℕ). finished t overlap wanted first (stepsFrom k t stand (n + 1))) l
                 ∙ next-step t first overlap wanted (left - 1) (n + 1) stand q
-                ∙ ap (λ (v : Move). from t first overlap wanted (left - 1) 4 (c .fit) nx ny v one32 (n + 1)) (sym (e ∙ moves-on));
+                ∙ ap (λ (v : Move). from t first overlap wanted (left - 1) 4 (c .fit) nx ny v one (n + 1)) (sym (e ∙ moves-on));
           }
         where
           above : (k : ℕ) → (k ≡ 0 → ⊥) → k ≡ suc (k - 1)

@@ -1,11 +1,12 @@
 -- What holds of every accepted answer: its score is above zero, its tries are at most 64, and each fit that was taken is a saddle that passed the box test.
 use mathlib.Core.Path.{_≡_, refl, sym, ap, _∙_, subst}
-use mathlib.Core.Bool.{Bool, true, false, _&&_, not, cond}
+use mathlib.Core.Bool.{Bool, true, false, _&&_, not, cond, and-eq-true-iff}
 use mathlib.Core.List.{List}
 use Prim.Native.Nat.{ℕ, zero, suc, _+_, _*_, _≤_}
 use native.Mathlib.Omega.{arith}
 use lib.Dec.{leb}
 use lib.Ieee.{Float, lt}
+use Rattle.shapes.specs.Numbers.{plusZero, one}
 use Rattle.imageview.specs.Image.{Image, isImage}
 use Rattle.imageview.specs.Patch.{supportsPatch}
 use Rattle.fit_operator.specs.Call as Operator
@@ -17,7 +18,7 @@ use Rattle.saddle_fit.specs.declared.Solved.{Solved}
 use Rattle.saddle_fit.specs.declared.Solved.the-variants.{Refused, Saddle}
 use Rattle.saddle_fit.specs.declared.Covariance.{Covariance}
 use Rattle.saddle_fit.specs.declared.Covariance.the-variants.{Unknown}
-use Rattle.saddle_fit.specs.Numbers.{_⊕_, _⊗_, zero32, one32, half}
+use Rattle.saddle_fit.specs.Numbers.{_⊕_, _⊗_, half}
 use Rattle.saddle_fit.specs.Fit.{coefficients}
 use Rattle.saddle_fit.specs.Solve.{solve, scoreOf, goodLimit}
 use Rattle.saddle_fit.specs.Between.{Place, placeOf, Fits, lacking, four, cornersAt, blend}
@@ -33,7 +34,7 @@ use Rattle.saddle_point.specs.declared.Why.the-variants.{Rejected}
 use Rattle.fit_cache.specs.declared.Seed.{Seed}
 use Rattle.fit_cache.specs.Tries.{taskAt}
 use Rattle.saddle_point.specs.Refine.{single, estimate, closed, closedAt, finished, fromSaddle, centreOf, seedOf, answered, goodLimits, withOperator, refineOf}
-use Rattle.saddle_point.proofs.EntryLaws.{both-true, chosen}
+use Rattle.saddle_point.proofs.EntryLaws.{chosen}
 
 -- a saddle of some fit
 pub record Solves (cfg : SaddlePointConfig) (f : PatchSaddle) : Type 0 where
@@ -57,7 +58,7 @@ EndsBoxed t most (atStand s n) = Boxed t s × (n ≤ most)
 module _ (t : Task) where
   -- ---- one candidate
   by-tests : (f g : PatchSaddle) (ox oy : Float) (w : Place) (s : Stand) (b : Bool) → Solves (t .cfg) (s .fit) → b ≡ (lt (norm2 g) (norm2 f) && nearSeed t (s .ox ⊕ s .fit .ux) (s .oy ⊕ s .fit .uy)) → OfTried t (cond b (taken s) passed)
-  by-tests f g ox oy w s true l e = record { solves = l; near = both-true (lt (norm2 g) (norm2 f)) (nearSeed t (s .ox ⊕ s .fit .ux) (s .oy ⊕ s .fit .uy)) (sym e) .1 }
+  by-tests f g ox oy w s true l e = record { solves = l; near = and-eq-true-iff (lt (norm2 g) (norm2 f)) (nearSeed t (s .ox ⊕ s .fit .ux) (s .oy ⊕ s .fit .uy)) .0 (sym e) .1 }
   by-tests f g ox oy w s false l e = tt
 
   by-fits : (f : PatchSaddle) (ox oy : Float) (w : Place) (v : Fits) → OfTried t (weighed t f ox oy w v)
@@ -113,21 +114,21 @@ module _ (t : Task) where
   unfolding stepsFrom
   steps-within most zero s n b h = (b, here n zero most h)
   steps-within most (suc left) s n b h =
-      let r = searchFrom 4 t (s .fit) (s .ox) (s .oy) (laterMove s) one32 in
-      let k : n + r .count + 4 * left ≤ most = more n (r .count) left most h (search-few 4 (s .fit) (s .ox) (s .oy) (laterMove s) one32) in
+      let r = searchFrom 4 t (s .fit) (s .ox) (s .oy) (laterMove s) one in
+      let k : n + r .count + 4 * left ≤ most = more n (r .count) left most h (search-few 4 (s .fit) (s .ox) (s .oy) (laterMove s) one) in
       either most (settled (s .fit)) (atStand s n) (picked (r .outcome) (λ s'. stepsFrom left t s' (n + r .count)) (atStand s (n + r .count)))
       (b, here n (suc left) most h)
-      (picked-within most (r .outcome) (λ s'. stepsFrom left t s' (n + r .count)) (atStand s (n + r .count)) (search-boxed 4 (s .fit) (s .ox) (s .oy) (laterMove s) one32) (λ s' b'. steps-within most left s' (n + r .count) b' k) (b, here (n + r .count) left most k))
+      (picked-within most (r .outcome) (λ s'. stepsFrom left t s' (n + r .count)) (atStand s (n + r .count)) (search-boxed 4 (s .fit) (s .ox) (s .oy) (laterMove s) one) (λ s' b'. steps-within most left s' (n + r .count) b' k) (b, here (n + r .count) left most k))
 
   pub run-within : (f : PatchSaddle) → EndsBoxed t 64 (runOf t f)
   unfolding runOf
   run-within f =
       let m : Move = record { x = f .ux; y = f .uy } in
-      let r = searchFrom 4 t f zero32 zero32 m one32 in
-      let k : r .count ≤ 4 = search-few 4 f zero32 zero32 m one32 in
+      let r = searchFrom 4 t f plusZero plusZero m one in
+      let k : r .count ≤ 4 = search-few 4 f plusZero plusZero m one in
       either 64 (settled f) (atStart 0) (picked (r .outcome) (λ s. stepsFrom 15 t s (r .count)) (atStart (r .count)))
       (omega arith)
-      (picked-within 64 (r .outcome) (λ s. stepsFrom 15 t s (r .count)) (atStart (r .count)) (search-boxed 4 f zero32 zero32 m one32) (λ s b. steps-within 64 15 s (r .count) b (sum (r .count) k)) (top (r .count) k))
+      (picked-within 64 (r .outcome) (λ s. stepsFrom 15 t s (r .count)) (atStart (r .count)) (search-boxed 4 f plusZero plusZero m one) (λ s b. steps-within 64 15 s (r .count) b (sum (r .count) k)) (top (r .count) k))
     where
       sum : (n : ℕ) → n ≤ 4 → n + 4 * 15 ≤ 64
       sum n h = omega arith
@@ -137,7 +138,7 @@ module _ (t : Task) where
 
 -- ---- the end
 pub record Sound (e : Estimate) : Type 0 where
-  pub score : lt zero32 (e .score) ≡ true
+  pub score : lt plusZero (e .score) ≡ true
   pub tries : e .tries ≤ 64
 
 abbrev Answers : Refined → Type 0
@@ -146,7 +147,7 @@ Answers (Unmoved why score) = Unit
 Answers (Refined.Refused r) = Unit
 
 module _ (t : Task) (overlap : List Float) (wanted : Bool) (good : goodLimit (t .cfg .«det_margin») ≡ true) where
-  scored : (f : PatchSaddle) → Solves (t .cfg) f → lt zero32 (scoreOf f) ≡ true
+  scored : (f : PatchSaddle) → Solves (t .cfg) f → lt plusZero (scoreOf f) ≡ true
   scored f s = score-above-zero (t .cfg) (s .fit) f good (s .is)
 
   pick : (b : Bool) (e f : Estimate) → Sound e → Sound f → Sound (cond b e f)
@@ -161,12 +162,12 @@ module _ (t : Task) (overlap : List Float) (wanted : Bool) (good : goodLimit (t 
 
   centre-sound : (w : Place) (f : PatchSaddle) (n : ℕ) (s : Sloped) → Solves (t .cfg) f → n ≤ 64 → Sound (closedAt t overlap wanted w f n s)
   centre-sound w f n noSlope p h = record { score = scored f p; tries = h }
-  centre-sound w f n (sloped s) p h = closed-sound zero32 zero32 w f n s p h
+  centre-sound w f n (sloped s) p h = closed-sound plusZero plusZero w f n s p h
 
   finished-sound : (f : PatchSaddle) (e : Finish) → Solves (t .cfg) f → EndsBoxed t 64 e → Sound (finished t overlap wanted f e)
   finished-sound f (atStart n) p h =
       let l = slopeAt (t .img) (t .columns) (t .cfg .radius) (t .centreX) (t .centreY) in
-      let w = placeOf (t .centreX) (t .centreY) zero32 zero32 in
+      let w = placeOf (t .centreX) (t .centreY) plusZero plusZero in
       pick (settled f) (closedAt t overlap wanted w f n l) (single t f n) (centre-sound w f n l p h) (record { score = scored f p; tries = h })
   finished-sound f (atStand s n) p h =
       pick (settled (s .fit)) (closed t overlap wanted (s .ox) (s .oy) (s .place) (s .fit) n (slopeWithin (s .corners) (s .place .tx) (s .place .ty))) (single t f n)
@@ -200,7 +201,7 @@ module _ (img : Image) (cfg : SaddlePointConfig) (x y : Float) (wanted : Bool) w
   unfolding refineOf
   sound =
       by-bools (isImage img) (leb (cfg .radius) 7) (goodLimits cfg) (supportsPatch img (cfg .radius) (centreOf x) (centreOf y)) (seedOf x y) (λ seed. withOperator img cfg seed wanted (Operator.wayOf (cfg .radius)))
-      (λ g. by-way (seedOf x y) (Operator.wayOf (cfg .radius)) (both-true (goodLimit (cfg .«det_margin»)) (goodLimit (cfg .«max_offset»)) (both-true (goodLimit (cfg .«det_margin») && goodLimit (cfg .«max_offset»)) (goodLimit (cfg .«min_abs_det»)) g .0) .0))
+      (λ g. by-way (seedOf x y) (Operator.wayOf (cfg .radius)) (and-eq-true-iff (goodLimit (cfg .«det_margin»)) (goodLimit (cfg .«max_offset»)) .0 (and-eq-true-iff (goodLimit (cfg .«det_margin») && goodLimit (cfg .«max_offset»)) (goodLimit (cfg .«min_abs_det»)) .0 g .0) .0))
 
   -- every accepted score is above zero, and the tries are at most 64
   pub accepted-sound : (e : Estimate) → refineOf img cfg x y wanted ≡ Accepted e → Sound e

@@ -5,6 +5,7 @@ use mathlib.Core.List.{List, []}
 use Prim.Native.Nat.{ℕ, _+_, _*_, _≤_}
 use lib.IntN.{pos, negsuc, _+ℤ_}
 use lib.Ieee.{Float}
+use Rattle.shapes.specs.Numbers.{plusZero}
 use Rattle.saddle_fit.specs.declared.PatchSaddle.{PatchSaddle}
 use Rattle.saddle_fit.specs.declared.Move.{Move}
 use Rattle.saddle_point.specs.declared.Estimate.{Estimate}
@@ -16,7 +17,6 @@ use Rattle.imageview.specs.Image.{Image, imageOf, sizesOf}
 use Rattle.saddle_point.specs.declared.Sloping.{Sloping}
 use Rattle.saddle_fit.specs.declared.Slope.{Slope}
 use Rattle.fit_cache.specs.declared.Seed.{Seed}
-use Rattle.saddle_fit.specs.Numbers.{zero32}
 use Rattle.saddle_fit.specs.Fit.{fitAt}
 use Rattle.fit_cache.specs.Tries.{taskAt}
 use Rattle.saddle_fit.specs.Sensitivity as Sensitivity
@@ -56,7 +56,7 @@ pub record Going (t : Task) (first : PatchSaddle) (fits : IntegerFits) (f : Patc
 -- ---- the estimate
 -- a task of which only the centre is asked
 abbrev pub centred : Seed → Task
-centred seed = taskAt (imageOf [] (sizesOf 0 0)) [] (record { radius = 0; «det_margin» = zero32; «max_offset» = zero32; «min_abs_det» = zero32 }) seed
+centred seed = taskAt (imageOf [] (sizesOf 0 0)) [] (record { radius = 0; «det_margin» = plusZero; «max_offset» = plusZero; «min_abs_det» = plusZero }) seed
 
 -- closed at every place with these fractions
 pub record Closes (t : Task) (overlap : List Float) (wanted : Bool) (ox oy tx ty : Float) (f : PatchSaddle) (n : ℕ) (s : Slope) (r : Estimate) : Type 0 where

@@ -7,6 +7,7 @@ use lib.Dec.{leb, eqb}
 use lib.IntN.{ℤ, natAbs}
 use lib.Ieee.{Float, binary32, ofInt, toSigned, neg, lt, eq}
 use lib.Ieee.Scale.{finite}
+use Rattle.shapes.specs.Numbers.{plusZero}
 use Rattle.floats.specs.Whole.{roundAway}
 use Rattle.floats.specs.Root.{sqrt}
 use Rattle.imageview.specs.Image.{Image, isImage}
@@ -33,7 +34,7 @@ use Rattle.refusals.specs.declared.Refusal.the-variants.{BadImage, BadRadius, B
 use Rattle.refusals.specs.Numbers as Refusals
 use Rattle.fit_cache.specs.declared.Seed.{Seed}
 use Rattle.fit_cache.specs.Tries.{taskAt}
-use Rattle.saddle_fit.specs.Numbers.{_⊕_, zero32}
+use Rattle.saddle_fit.specs.Numbers.{_⊕_}
 use Rattle.saddle_fit.specs.Fit.{coefficients}
 use Rattle.saddle_fit.specs.Solve.{solve, scoreOf, goodLimit}
 use Rattle.saddle_fit.specs.Between.{Place, placeOf}
@@ -57,14 +58,14 @@ closed t overlap wanted ox oy w f n s =
     cond (regular m) (estimate t ox oy f true n (cond wanted (covarianceOf overlap (w .tx) (w .ty) j m) Unknown)) (estimate t ox oy f false n Unknown)
 
 abbrev pub closedAt : Task → List Float → Bool → Place → PatchSaddle → ℕ → Sloped → Estimate
-closedAt t overlap wanted w f n noSlope = estimate t zero32 zero32 f false n Unknown
-closedAt t overlap wanted w f n (sloped s) = closed t overlap wanted zero32 zero32 w f n s
+closedAt t overlap wanted w f n noSlope = estimate t plusZero plusZero f false n Unknown
+closedAt t overlap wanted w f n (sloped s) = closed t overlap wanted plusZero plusZero w f n s
 
 -- first is the first fit's saddle
 abbrev pub finished : Task → List Float → Bool → PatchSaddle → Finish → Estimate
 finished t overlap wanted first (atStart n) =
     cond (settled first)
-    (closedAt t overlap wanted (placeOf (t .centreX) (t .centreY) zero32 zero32) first n (slopeAt (t .img) (t .columns) (t .cfg .radius) (t .centreX) (t .centreY)))
+    (closedAt t overlap wanted (placeOf (t .centreX) (t .centreY) plusZero plusZero) first n (slopeAt (t .img) (t .columns) (t .cfg .radius) (t .centreX) (t .centreY)))
     (single t first n)
 finished t overlap wanted first (atStand s n) =
     cond (settled (s .fit)) (closed t overlap wanted (s .ox) (s .oy) (s .place) (s .fit) n (slopeWithin (s .corners) (s .place .tx) (s .place .ty))) (single t first n)
@@ -93,7 +94,7 @@ admitOf img cfg x y =
 -- a seed that passed them goes on; any other is answered at once, with the score 0.0
 abbrev pub answered : Admitted → (Seed → Refined) → Refined
 answered (Admitted.Good seed) go = go seed
-answered (Admitted.Unmoved why) go = Unmoved why zero32
+answered (Admitted.Unmoved why) go = Unmoved why plusZero
 answered (Admitted.Refused r) go = Refused r
 
 -- ---- the first fit decides
@@ -109,12 +110,12 @@ refineWith img cfg seed wanted columns overlap =
 -- with the operator that is built for it
 abbrev pub withOperator : Image → SaddlePointConfig → Seed → Bool → Operator.Way → Refined
 withOperator img cfg seed wanted Operator.badRadius = Refused BadRadius
-withOperator img cfg seed wanted Operator.none = Unmoved IllConditioned zero32
+withOperator img cfg seed wanted Operator.none = Unmoved IllConditioned plusZero
 withOperator img cfg seed wanted (Operator.built columns overlap) = refineWith img cfg seed wanted columns overlap
 
 -- at radius 0 there is no operator, whatever is lent
 abbrev pub lentWith : SaddlePointConfig → Refined → Refined
-lentWith cfg answer = cond (eqb (cfg .radius) 0) (Unmoved IllConditioned zero32) answer
+lentWith cfg answer = cond (eqb (cfg .radius) 0) (Unmoved IllConditioned plusZero) answer
 
 -- ---- the two calls: for whatever operator is lent, and with its own
 unfoldable pub refineLent : Image → SaddlePointConfig → Float → Float → Bool → List Float → List Float → Refined

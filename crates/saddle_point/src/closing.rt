@@ -18,7 +18,6 @@ ghost use mathlib.Core.Bool.{true};
 ghost use Prim.Native.Nat.{_<_, _≤_};
 ghost use lib.IntN.{pos};
 ghost use Rattle.imageview.specs.Image.{imageOf};
-ghost use Rattle.saddle_fit.specs.Numbers.{zero32};
 ghost use Rattle.saddle_fit.specs.Fit.{coefficients};
 ghost use Rattle.saddle_fit.specs.Sensitivity as Sensitivity;
 ghost use Rattle.saddle_fit.specs.Run.{runOf};

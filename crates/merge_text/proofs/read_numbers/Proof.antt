@@ -1,24 +1,26 @@
--- `merge_text::read_numbers` meets its contract. The invariant: the list keeps its length, and its first i numbers are those of the file.
-use mathlib.Core.Path.{_≡_, sym, ap, _∙_}
+-- `merge_text::read_numbers` meets its contract. After i turns the first i numbers are those of the file.
+use mathlib.Core.Path.{_≡_, refl, ap, _∙_}
+use mathlib.Core.List.{List}
 use Prim.Native.Nat.{ℕ, _-_, _≤_}
 use native.Mathlib.Omega.{arith}
 use borrow.Author.Needs.{needs}
 use denote.Ref.{now}
-use lib.ListN.{length, take, length-set}
-use lib.Seq.{take-all}
-use Rattle.merge_text.specs.Text.{numbers}
-use Rattle.merge_text.proofs.TextLaws.{filled-next, none-filled}
+use lib.ListN.{length, set}
+use lib.Ieee.{Float, binary32, ofBits}
+use Rattle.shapes.specs.Lists.{overwritten}
+use Rattle.shapes.proofs.ListLaws.{overwritten-none, overwritten-more, overwritten-whole}
+use Rattle.merge_text.specs.Text.{numberAt}
 use Rattle.merge_text.proofs.read_numbers.Statement.{statement}
 use Rattle.merge_text.proofs.read_numbers.Tie as tie
 
 abbrev Inv-loop : tie.InvT-loop
-Inv-loop bytes list₀ i₀ list i = (length list ≡ length list₀) × (i ≤ length list₀) × (take i list ≡ numbers i bytes)
+Inv-loop bytes list₀ i₀ list i = (length list ≡ length list₀) × (i ≤ length list₀) × (list ≡ overwritten i (numberAt bytes) list₀)
 
 abbrev μ-loop : tie.MeasureT-loop
 μ-loop bytes list₀ i₀ list i = length list₀ - i
 
 loop-holds : tie.Need-loop-holds Inv-loop μ-loop
-loop-holds c = (search needs, search needs, none-filled (now (c .before .before .args .bytes)))
+loop-holds c = (search needs, search needs, overwritten-none (numberAt (now (c .before .before .args .bytes))) _)
 
 mul-word : tie.Need-mul-word Inv-loop μ-loop
 mul-word c = search needs
@@ -42,21 +44,25 @@ loop-less : tie.Need-loop-less Inv-loop μ-loop
 loop-less c = search needs
 
 loop-again : tie.Need-loop-again Inv-loop μ-loop
-loop-again c = (
-  search needs,
-  search needs,
-  filled-next _ _ (c .before .before .before .loop .i) (c .before .word .result) (c .f32-from-bits .result) (omega arith) (c .before .before .before .loop .inv .2) (c .before .word .ensures) (c .f32-from-bits .ensures),
-)
+loop-again c =
+    let l = c .before .before .before .loop in
+    let a = c .before .before .before .before .before .before .args in (
+      search needs,
+      search needs,
+      ap (λ (x : List Float). set x (l .i) (c .f32-from-bits .result)) (l .inv .2)
+          ∙ overwritten-more (l .i) (numberAt (now (a .bytes))) (now (a .list)) (omega arith) (c .f32-from-bits .result) (c .f32-from-bits .ensures ∙ ap (λ (n : ℕ). ofBits binary32 n) (c .before .word .ensures)),
+    )
 
 same-length : tie.Need-same-length Inv-loop μ-loop
 same-length c = search needs
 
 returns : tie.Need-returns Inv-loop μ-loop
 returns c =
-    let same-count : c .before .loop .i ≡ length (now (c .before .before .before .before .args .list)) = omega arith in
-    sym (take-all (c .before .loop .i) (c .before .loop .list) (c .loop-test .left))
-    ∙ c .before .loop .inv .2
-    ∙ ap (λ (n : ℕ). numbers n (now (c .before .before .before .before .args .bytes))) same-count
+    let a = c .before .before .before .before .args in
+    let same-count : c .before .loop .i ≡ length (now (a .list)) = omega arith in
+    c .before .loop .inv .2
+    ∙ ap (λ (n : ℕ). overwritten n (numberAt (now (a .bytes))) (now (a .list))) same-count
+    ∙ overwritten-whole (length (now (a .list))) (numberAt (now (a .bytes))) (now (a .list)) refl
 
 pub read-numbers-spec : {M : Type 1} → statement M
 read-numbers-spec =

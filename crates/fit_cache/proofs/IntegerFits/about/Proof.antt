@@ -1,6 +1,6 @@
 -- `fit_cache::IntegerFits::about` meets its contract: without room there are no four fits, and the last corners are the fresh ones.
 use mathlib.Core.Path.{_≡_, sym, _∙_}
-use mathlib.Core.Bool.{true, _&&_}
+use mathlib.Core.Bool.{true, _&&_, and-eq-true-iff}
 use Prim.Native.Nat.{_<_}
 use native.Mathlib.Omega.{arith}
 use lib.Dec.{eqb}
@@ -8,7 +8,7 @@ use borrow.Author.Needs.{needs}
 use borrow.Author.Tests.{not-true, not-false, eqb-true}
 use Rattle.imageview.specs.Image.{imageOf}
 use Rattle.fit_cache.specs.Adding.{FourWithin}
-use Rattle.fit_cache.proofs.CacheLaws.{lacks, roomy, both-so, again}
+use Rattle.fit_cache.proofs.CacheLaws.{lacks, roomy, again}
 use Rattle.fit_cache.proofs.IntegerFits.about.Statement.{statement}
 use Rattle.fit_cache.proofs.IntegerFits.about.Tie as tie
 
@@ -35,7 +35,7 @@ returns-2 : tie.Need-returns-2
 returns-2 c =
     let s = c .before .before .before .before .before .before in
     let a = s .args in
-    let same = both-so (eqb (a .self .«base_x») (a .x)) (eqb (a .self .«base_y») (a .y)) (c .if2 .taken) in
+    let same = and-eq-true-iff (eqb (a .self .«base_x») (a .x)) (eqb (a .self .«base_y») (a .y)) .0 (c .if2 .taken) in
     let r = room (c .before .before .before) in
     let h : a .x < 8192 = omega (arith, r .right, r .sound .image .sized .width-most) in
     again (imageOf (a .img .now) (a .sizes)) (a .columns .now) (a .radius) (a .x) (a .y) (a .self) (s .pre .1 .0) (eqb-true (a .self .«base_x») (a .x) (same .0)) (eqb-true (a .self .«base_y») (a .y) (same .1)) h

@@ -2,7 +2,8 @@
 use mathlib.Core.Path.{_≡_, refl}
 use Prim.Native.Nat.{_-_, _≤_}
 use lib.Ieee.{ofBits}
-use Rattle.fit_operator.specs.Loops.{turns, plusZero}
+use Rattle.shapes.specs.Numbers.{plusZero}
+use Rattle.shapes.specs.Turns.{turns}
 use Rattle.fit_operator.specs.Basis.{samples}
 use Rattle.fit_operator.proofs.InverseLaws.{productTerm, product-more, normal-all}
 use native.Mathlib.Omega.{arith}

@@ -3,24 +3,24 @@ use mathlib.Core.Path.{_≡_, refl, ap, _∙_}
 use mathlib.Core.List.{List}
 use Prim.Native.Nat.{ℕ, _-_, _≤_}
 use lib.ListN.{set}
-use lib.Ieee.{Float}
-use Rattle.fit_operator.specs.Loops.{at}
+use lib.Ieee.{Float, nan}
+use Rattle.shapes.proofs.ListLaws.{overwritten-none, overwritten-more, overwritten-by}
+use Rattle.shapes.specs.Lists.{overwritten}
+use Rattle.shapes.specs.Numbers.{entry}
 use Rattle.fit_operator.specs.Inverse.{swapped}
-use Rattle.fit_operator.specs.Steps.{filled}
-use Rattle.fit_operator.proofs.ListLaws.{filled-none, filled-more, filled-by}
 use Rattle.fit_operator.proofs.InverseLaws.{length-swapped, swapped-entry}
 use native.Mathlib.Omega.{arith}
 use Rattle.fit_operator.proofs.inverse.swapped_rows.Statement.{statement}
 use Rattle.fit_operator.proofs.inverse.swapped_rows.Tie as tie
 
 abbrev Inv-loop : tie.InvT-loop
-Inv-loop m a b out₀ i₀ out i = (i ≤ 72) × (out ≡ filled i (at (swapped a b m)) out₀)
+Inv-loop m a b out₀ i₀ out i = (i ≤ 72) × (out ≡ overwritten i (entry (swapped a b m)) out₀)
 
 abbrev μ-loop : tie.MeasureT-loop
 μ-loop m a b out₀ i₀ out i = 72 - i
 
 loop-holds : tie.Need-loop-holds Inv-loop μ-loop
-loop-holds c = (omega arith, filled-none (at (swapped (c .args .a) (c .args .b) (c .args .m .now))) _)
+loop-holds c = (omega arith, overwritten-none (entry (swapped (c .args .a) (c .args .b) (c .args .m .now))) _)
 
 exchanged-row-requires : tie.Need-exchanged-row-requires Inv-loop μ-loop
 exchanged-row-requires c κs = omega arith
@@ -50,14 +50,14 @@ loop-again : tie.Need-loop-again Inv-loop μ-loop
 loop-again c =
     let l = c .before .before .before .loop in
     let a = c .before .before .before .before .args in
-    (omega arith, ap (λ (x : List Float). set x (l .i) (c .entry .result)) (l .inv .1) ∙ filled-more (l .i) (at (swapped (a .a) (a .b) (a .m .now))) _ (c .entry .result) (omega arith) (swapped-entry (a .a) (a .b) (l .i) (c .before .exchanged-row .result) (a .m .now) (c .entry .result) (omega arith) (c .before .exchanged-row .ensures .0) (c .entry .ensures)))
+    (omega arith, ap (λ (x : List Float). set x (l .i) (c .entry .result)) (l .inv .1) ∙ overwritten-more (l .i) (entry (swapped (a .a) (a .b) (a .m .now))) _ (omega arith) (c .entry .result) (swapped-entry (a .a) (a .b) (l .i) (c .before .exchanged-row .result) (a .m .now) (c .entry .result) (omega arith) (c .before .exchanged-row .ensures .0) (c .entry .ensures)))
 
 returns : tie.Need-returns Inv-loop μ-loop
 returns c =
     let l = c .before .loop in
     let a = c .before .before .args in
     let e : l .i ≡ 72 = omega arith in
-    l .inv .1 ∙ ap (λ (n : ℕ). filled n (at (swapped (a .a) (a .b) (a .m .now))) _) e ∙ filled-by 72 (swapped (a .a) (a .b) (a .m .now)) _ (length-swapped (a .a) (a .b) (a .m .now)) refl
+    l .inv .1 ∙ ap (λ (n : ℕ). overwritten n (entry (swapped (a .a) (a .b) (a .m .now))) _) e ∙ overwritten-by 72 nan (swapped (a .a) (a .b) (a .m .now)) _ (length-swapped (a .a) (a .b) (a .m .now)) refl
 
 pub swapped-rows-spec : {M : Type 1} → statement M
 swapped-rows-spec =

@@ -6,15 +6,16 @@ use native.Mathlib.Nat.{le-antisymm}
 use lib.ListN.{length, set, length-set}
 use lib.Ieee.{Float, binary32}
 use Rattle.floats.specs.Convert.{convert}
+use Rattle.shapes.proofs.ListLaws.{overwritten-none, overwritten-more}
+use Rattle.shapes.specs.Lists.{overwritten}
 use Rattle.fit_operator.specs.Basis.{samples}
-use Rattle.fit_operator.specs.Steps.{filled, columnAt}
-use Rattle.fit_operator.proofs.ListLaws.{filled-none, filled-more}
+use Rattle.fit_operator.specs.Steps.{columnAt}
 use native.Mathlib.Omega.{arith}
 use Rattle.fit_operator.proofs.rows.fill_columns.Statement.{statement}
 use Rattle.fit_operator.proofs.rows.fill_columns.Tie as tie
 
 abbrev Inv-loop : tie.InvT-loop
-Inv-loop radius rows columns₀ n i₀ columns i = (i ≤ n) × (n ≡ 5 * samples radius) × (n ≤ 1125) × (columns ≡ filled i (columnAt rows) columns₀) × (length columns ≡ length columns₀)
+Inv-loop radius rows columns₀ n i₀ columns i = (i ≤ n) × (n ≡ 5 * samples radius) × (n ≤ 1125) × (columns ≡ overwritten i (columnAt rows) columns₀) × (length columns ≡ length columns₀)
 
 abbrev μ-loop : tie.MeasureT-loop
 μ-loop radius rows columns₀ n i₀ columns i = n - i
@@ -28,7 +29,7 @@ mul-n c = omega (arith, c .samples-of .ensures .most)
 loop-holds : tie.Need-loop-holds Inv-loop μ-loop
 loop-holds c =
     let a = c .before .before .before .args in
-    (omega (arith, c .samples-of .ensures .most), ap (λ (n : ℕ). 5 * n) (c .samples-of .ensures .is), omega (arith, c .samples-of .ensures .most), filled-none (columnAt (a .rows .now)) (a .columns .now), refl)
+    (omega (arith, c .samples-of .ensures .most), ap (λ (n : ℕ). 5 * n) (c .samples-of .ensures .is), omega (arith, c .samples-of .ensures .most), overwritten-none (columnAt (a .rows .now)) (a .columns .now), refl)
 
 element-requires : tie.Need-element-requires Inv-loop μ-loop
 element-requires c κs = omega arith
@@ -55,7 +56,7 @@ loop-again c =
       omega arith,
       l .inv .1,
       l .inv .2,
-      ap (λ (x : List Float). set x (l .i) (c .f64-to-f32 .result)) (l .inv .3) ∙ filled-more (l .i) (columnAt (a .rows .now)) (a .columns .now) (c .f64-to-f32 .result) (omega arith) (c .f64-to-f32 .ensures ∙ ap (λ (x : Float). convert binary32 x) (c .before .element .ensures)),
+      ap (λ (x : List Float). set x (l .i) (c .f64-to-f32 .result)) (l .inv .3) ∙ overwritten-more (l .i) (columnAt (a .rows .now)) (a .columns .now) (omega arith) (c .f64-to-f32 .result) (c .f64-to-f32 .ensures ∙ ap (λ (x : Float). convert binary32 x) (c .before .element .ensures)),
       length-set (l .columns) (l .i) (c .f64-to-f32 .result) ∙ l .inv .4,
     )
 
@@ -67,7 +68,7 @@ returns c =
     let l = c .before .loop in
     let a = c .before .before .before .before .before .args in
     let e : l .i ≡ 5 * samples (a .radius) = le-antisymm (l .inv .0) (c .loop-test .left) ∙ l .inv .1 in
-    l .inv .3 ∙ ap (λ (n : ℕ). filled n (columnAt (a .rows .now)) (a .columns .now)) e
+    l .inv .3 ∙ ap (λ (n : ℕ). overwritten n (columnAt (a .rows .now)) (a .columns .now)) e
 
 pub fill-columns-spec : {M : Type 1} → statement M
 fill-columns-spec =

@@ -5,15 +5,16 @@ use Prim.Native.Nat.{ℕ, _-_, _*_, _≤_}
 use native.Mathlib.Nat.{le-antisymm}
 use lib.ListN.{length, set, length-set}
 use lib.Ieee.{Float}
+use Rattle.shapes.proofs.ListLaws.{overwritten-none, overwritten-more}
+use Rattle.shapes.specs.Lists.{overwritten}
 use Rattle.fit_operator.specs.Basis.{samples}
-use Rattle.fit_operator.specs.Steps.{filled, rowAt}
-use Rattle.fit_operator.proofs.ListLaws.{filled-none, filled-more}
+use Rattle.fit_operator.specs.Steps.{rowAt}
 use native.Mathlib.Omega.{arith}
 use Rattle.fit_operator.proofs.rows.fill_rows.Statement.{statement}
 use Rattle.fit_operator.proofs.rows.fill_rows.Tie as tie
 
 abbrev Inv-loop : tie.InvT-loop
-Inv-loop radius m rows₀ n i₀ rows i = (i ≤ n) × (n ≡ 5 * samples radius) × (n ≤ 1125) × (rows ≡ filled i (rowAt radius m) rows₀) × (length rows ≡ length rows₀)
+Inv-loop radius m rows₀ n i₀ rows i = (i ≤ n) × (n ≡ 5 * samples radius) × (n ≤ 1125) × (rows ≡ overwritten i (rowAt radius m) rows₀) × (length rows ≡ length rows₀)
 
 abbrev μ-loop : tie.MeasureT-loop
 μ-loop radius m rows₀ n i₀ rows i = n - i
@@ -27,7 +28,7 @@ mul-n c = omega (arith, c .samples-of .ensures .most)
 loop-holds : tie.Need-loop-holds Inv-loop μ-loop
 loop-holds c =
     let a = c .before .before .args in
-    (omega (arith, c .samples-of .ensures .most), ap (λ (n : ℕ). 5 * n) (c .samples-of .ensures .is), omega (arith, c .samples-of .ensures .most), filled-none (rowAt (a .radius) (a .m .now)) (a .rows .now), refl)
+    (omega (arith, c .samples-of .ensures .most), ap (λ (n : ℕ). 5 * n) (c .samples-of .ensures .is), omega (arith, c .samples-of .ensures .most), overwritten-none (rowAt (a .radius) (a .m .now)) (a .rows .now), refl)
 
 row-entry-requires : tie.Need-row-entry-requires Inv-loop μ-loop
 row-entry-requires c κs = (c .before .before .before .before .pre .0, omega arith, omega arith)
@@ -51,7 +52,7 @@ loop-again c =
       omega arith,
       l .inv .1,
       l .inv .2,
-      ap (λ (x : List Float). set x (l .i) (c .row-entry .result)) (l .inv .3) ∙ filled-more (l .i) (rowAt (a .radius) (a .m .now)) (a .rows .now) (c .row-entry .result) (omega arith) (c .row-entry .ensures),
+      ap (λ (x : List Float). set x (l .i) (c .row-entry .result)) (l .inv .3) ∙ overwritten-more (l .i) (rowAt (a .radius) (a .m .now)) (a .rows .now) (omega arith) (c .row-entry .result) (c .row-entry .ensures),
       length-set (l .rows) (l .i) (c .row-entry .result) ∙ l .inv .4,
     )
 
@@ -63,7 +64,7 @@ returns c =
     let l = c .before .loop in
     let a = c .before .before .before .before .args in
     let e : l .i ≡ 5 * samples (a .radius) = le-antisymm (l .inv .0) (c .loop-test .left) ∙ l .inv .1 in
-    l .inv .3 ∙ ap (λ (n : ℕ). filled n (rowAt (a .radius) (a .m .now)) (a .rows .now)) e
+    l .inv .3 ∙ ap (λ (n : ℕ). overwritten n (rowAt (a .radius) (a .m .now)) (a .rows .now)) e
 
 pub fill-rows-spec : {M : Type 1} → statement M
 fill-rows-spec =

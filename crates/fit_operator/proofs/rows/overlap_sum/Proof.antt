@@ -3,10 +3,11 @@ use mathlib.Core.Path.{_≡_, refl, sym, ap, _∙_, subst}
 use Prim.Native.Nat.{ℕ, _-_, _≤_, _<_}
 use lib.Ieee.{Float, ofBits}
 use native.Mathlib.Nat.{le-antisymm}
-use Rattle.fit_operator.specs.Loops.{turns, plusZero}
+use Rattle.shapes.proofs.TurnLaws.{turns-more}
+use Rattle.shapes.specs.Numbers.{plusZero}
+use Rattle.shapes.specs.Turns.{turns}
 use Rattle.fit_operator.specs.Basis.{samples}
 use Rattle.fit_operator.specs.Steps.{overlapTerm, overlapSum}
-use Rattle.fit_operator.proofs.ListLaws.{turns-more}
 use native.Mathlib.Omega.{arith}
 use Rattle.fit_operator.proofs.rows.overlap_sum.Statement.{statement}
 use Rattle.fit_operator.proofs.rows.overlap_sum.Tie as tie

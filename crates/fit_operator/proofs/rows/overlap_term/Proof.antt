@@ -3,7 +3,7 @@ use mathlib.Core.Path.{_≡_, sym, ap, _∙_}
 use mathlib.Core.Bool.{true}
 use Prim.Native.Nat.{ℕ, _+_, _*_, _/_, _%_}
 use borrow.Author.Tests.{not-true, not-false}
-use Rattle.fit_operator.specs.Loops.{at}
+use Rattle.shapes.specs.Numbers.{entry}
 use Rattle.fit_operator.specs.Basis.{side}
 use Rattle.fit_operator.specs.Rows.{stays}
 use Rattle.fit_operator.proofs.BasisLaws.{samples-most, column-inside, row-inside}
@@ -94,7 +94,7 @@ returns-3 c =
     let a = c .before .before .before .before .before .before .before .before .args in
     term-in (a .radius) (a .rows .now) (a .d) (a .r) (a .s) (a .k) (a .sum) (c .before .element .result) (c .element2 .result) (across (c .before .before .before .before .before)) (down (c .before .before .before))
     (c .before .element .ensures)
-    (c .element2 .ensures ∙ ap (λ (n : ℕ). at (a .rows .now) (5 * n + a .s)) (c .before .before .shifted-sample .ensures .0))
+    (c .element2 .ensures ∙ ap (λ (n : ℕ). entry (a .rows .now) (5 * n + a .s)) (c .before .before .shifted-sample .ensures .0))
 
 pub overlap-term-spec : {M : Type 1} → statement M
 overlap-term-spec =

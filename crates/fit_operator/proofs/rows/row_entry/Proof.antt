@@ -2,7 +2,8 @@
 use mathlib.Core.Path.{_≡_, refl}
 use Prim.Native.Nat.{_-_, _≤_}
 use lib.Ieee.{ofBits, neg}
-use Rattle.fit_operator.specs.Loops.{turns, minusZero}
+use Rattle.shapes.specs.Numbers.{minusZero}
+use Rattle.shapes.specs.Turns.{turns}
 use Rattle.fit_operator.proofs.RowLaws.{rowTerm, row-more, row-all}
 use native.Mathlib.Omega.{arith}
 use Rattle.fit_operator.proofs.rows.row_entry.Statement.{statement}

@@ -4,14 +4,14 @@ use mathlib.Core.List.{_++_}
 use Prim.Native.Nat.{_-_}
 use lib.Ieee.{ofBits}
 use lib.ListN.{length, take, replicate, length-set}
-use Rattle.merge.specs.Call.{zeroFloat}
+use Rattle.shapes.specs.Numbers.{plusZero}
 use Rattle.merge.proofs.FlatLaws.{fill-turn, fill-end}
 use native.Mathlib.Omega.{arith}
 use Rattle.merge.proofs.corners.zero_from.Statement.{statement}
 use Rattle.merge.proofs.corners.zero_from.Tie as tie
 
 abbrev Inv-loop : tie.InvT-loop
-Inv-loop corners₀ from i₀ corners i = (length corners ≡ length corners₀) × (take i corners ++ replicate (length corners - i) zeroFloat ≡ take from corners₀ ++ replicate (length corners₀ - from) zeroFloat)
+Inv-loop corners₀ from i₀ corners i = (length corners ≡ length corners₀) × (take i corners ++ replicate (length corners - i) plusZero ≡ take from corners₀ ++ replicate (length corners₀ - from) plusZero)
 
 abbrev μ-loop : tie.MeasureT-loop
 μ-loop corners₀ from i₀ corners i = length corners - i
@@ -34,13 +34,13 @@ loop-less c = simp length-set (omega arith)
 loop-again : tie.Need-loop-again Inv-loop μ-loop
 unfolding ofBits
 loop-again c =
-    (length-set (c .before .loop .corners) (c .before .loop .i) zeroFloat ∙ c .before .loop .inv .0, fill-turn zeroFloat (c .before .loop .corners) (c .before .loop .i) (c .loop-test .taken) ∙ c .before .loop .inv .1)
+    (length-set (c .before .loop .corners) (c .before .loop .i) plusZero ∙ c .before .loop .inv .0, fill-turn plusZero (c .before .loop .corners) (c .before .loop .i) (c .loop-test .taken) ∙ c .before .loop .inv .1)
 
 same-length : tie.Need-same-length Inv-loop μ-loop
 same-length c = c .before .loop .inv .0
 
 returns : tie.Need-returns Inv-loop μ-loop
-returns c = sym (fill-end zeroFloat (c .before .loop .corners) (c .before .loop .i) (c .loop-test .left)) ∙ c .before .loop .inv .1
+returns c = sym (fill-end plusZero (c .before .loop .corners) (c .before .loop .i) (c .loop-test .left)) ∙ c .before .loop .inv .1
 
 pub zero-from-spec : {M : Type 1} → statement M
 zero-from-spec =

@@ -1,8 +1,8 @@
 -- `response::region::region_row` meets its contract: one law for each way out.
 use Prim.Native.Nat.{_+_}
 use lib.ListN.{length}
+use Rattle.shapes.specs.Numbers.{plusZero}
 use Rattle.imageview.specs.Image.{imageOf}
-use Rattle.response.specs.Region.{zeroFloat}
 use Rattle.response.specs.Frame.{shiftedAt}
 use Rattle.response.proofs.PassLaws.{wrote-cong}
 use Rattle.response.proofs.RegionLaws.{row-above, row-below, row-narrow, row-is, startable, started-all}
@@ -19,7 +19,7 @@ same-length c = search needs
 returns : tie.Need-returns
 returns c =
     let a = c .before .before .before .before .before .before .before .args in
-    wrote-cong zeroFloat (length (a .out .now)) 0 _ (λ i. shiftedAt (imageOf (a .img .now) (a .sizes)) (a .offsets .now) (a .radius) (a .x0 + i) (a .y)) (a .out .now) (c .before .before .fill .last .0)
+    wrote-cong plusZero (length (a .out .now)) 0 _ (λ i. shiftedAt (imageOf (a .img .now) (a .sizes)) (a .offsets .now) (a .radius) (a .x0 + i) (a .y)) (a .out .now) (c .before .before .fill .last .0)
     (λ i h. row-above (imageOf (a .img .now) (a .sizes)) (a .offsets .now) (a .radius) (a .x0) (a .y) (c .before .before .before .before .if1 .taken) i) (c .before .before .fill .ensures)
 
 add-if2 : tie.Need-add-if2
@@ -34,7 +34,7 @@ same-length-2 c = search needs
 returns-2 : tie.Need-returns-2
 returns-2 c =
     let a = c .before .before .before .before .before .before .before .before .before .args in
-    wrote-cong zeroFloat (length (a .out .now)) 0 _ (λ i. shiftedAt (imageOf (a .img .now) (a .sizes)) (a .offsets .now) (a .radius) (a .x0 + i) (a .y)) (a .out .now) (c .before .before .fill2 .last .0)
+    wrote-cong plusZero (length (a .out .now)) 0 _ (λ i. shiftedAt (imageOf (a .img .now) (a .sizes)) (a .offsets .now) (a .radius) (a .x0 + i) (a .y)) (a .out .now) (c .before .before .fill2 .last .0)
     (λ i h. row-below (imageOf (a .img .now) (a .sizes)) (a .offsets .now) (a .radius) (a .x0) (a .y) (c .before .before .before .before .if2 .taken) i) (c .before .before .fill2 .ensures)
 
 fill-requires-3 : tie.Need-fill-requires-3
@@ -46,7 +46,7 @@ same-length-3 c = search needs
 returns-3 : tie.Need-returns-3
 returns-3 c =
     let a = c .before .before .before .before .before .before .before .before .before .before .args in
-    wrote-cong zeroFloat (length (a .out .now)) 0 _ (λ i. shiftedAt (imageOf (a .img .now) (a .sizes)) (a .offsets .now) (a .radius) (a .x0 + i) (a .y)) (a .out .now) (c .before .before .fill3 .last .0)
+    wrote-cong plusZero (length (a .out .now)) 0 _ (λ i. shiftedAt (imageOf (a .img .now) (a .sizes)) (a .offsets .now) (a .radius) (a .x0 + i) (a .y)) (a .out .now) (c .before .before .fill3 .last .0)
     (row-narrow (imageOf (a .img .now) (a .sizes)) (a .offsets .now) (a .radius) (a .x0) (a .y) (length (a .out .now)) (a .from) (a .to) (c .before .before .before .before .before .before .before .before .before .before .pre .1 .0) (c .before .before .before .before .before .before .before .before .before .before .pre .1 .1 .0) (c .before .before .before .before .if3 .taken)) (c .before .before .fill3 .ensures)
 
 row-inside-requires : tie.Need-row-inside-requires
@@ -64,7 +64,7 @@ same-length-4 c = search needs
 returns-4 : tie.Need-returns-4
 returns-4 c =
     let a = c .before .before .before .before .before .before .before .before .before .before .args in
-    wrote-cong zeroFloat (length (a .out .now)) 0 _ (λ i. shiftedAt (imageOf (a .img .now) (a .sizes)) (a .offsets .now) (a .radius) (a .x0 + i) (a .y)) (a .out .now) (c .before .before .row-inside .last .1 .1 .1 .1 .1 .1 .1 .0)
+    wrote-cong plusZero (length (a .out .now)) 0 _ (λ i. shiftedAt (imageOf (a .img .now) (a .sizes)) (a .offsets .now) (a .radius) (a .x0 + i) (a .y)) (a .out .now) (c .before .before .row-inside .last .1 .1 .1 .1 .1 .1 .1 .0)
     (row-is (imageOf (a .img .now) (a .sizes)) (a .offsets .now) (a .radius) (a .x0) (a .y) (length (a .out .now)) (a .from) (a .to) (c .before .before .before .before .before .before .before .before .before .before .pre .1 .0) (c .before .before .before .before .before .before .before .before .before .before .pre .1 .1 .0) (c .before .before .before .before .before .before .before .if1 .left) (c .before .before .before .before .before .if2 .left)) (c .before .before .row-inside .ensures)
 
 pub region-row-spec : {M : Type 1} → statement M

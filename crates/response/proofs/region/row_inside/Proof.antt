@@ -1,6 +1,6 @@
 -- `response::region::row_inside` meets its contract: zeros, the row kernel on the part where the ring fits, zeros.
 use Prim.Native.Nat.{_+_}
-use Rattle.response.specs.Region.{zeroFloat}
+use Rattle.shapes.specs.Numbers.{plusZero, one}
 use Rattle.response.proofs.PassLaws.{part-count}
 use Rattle.response.proofs.RegionLaws.{reaches, row-left, row-middle, row-right}
 use mathlib.Core.Path.{sym, subst}
@@ -46,7 +46,7 @@ write-row-requires c κs =
     let s = c .before .before .before .before .before .before .starts-of in
     let one = row-left (a .img .now) (a .offsets .now) (a .sizes .width) (a .x0) (a .y) (a .from) (a .to) (a .out .now) (c .before .before .before .before .fill .last .0) (omega arith) (c .before .before .before .before .fill .ensures) in
     reaches (a .img .now) (a .offsets .now) (a .sizes .width) (a .x0 + a .from) (a .y) (s .result) (s .ensures) _
-    (subst (Started (a .img .now) (a .offsets .now) (a .sizes .width) (a .x0 + a .from) (a .y)) (sym (part-count zeroFloat (a .from) (a .to) _ (omega arith) (omega (arith, one .same)))) (c .before .before .before .before .before .before .before .before .before .pre .1 .1))
+    (subst (Started (a .img .now) (a .offsets .now) (a .sizes .width) (a .x0 + a .from) (a .y)) (sym (part-count plusZero (a .from) (a .to) _ (omega arith) (omega (arith, one .same)))) (c .before .before .before .before .before .before .before .before .before .pre .1 .1))
 
 mul-fill : tie.Need-mul-fill
 mul-fill c = search needs

@@ -2,8 +2,9 @@
 use mathlib.Core.Path.{_≡_, sym, subst, _∙_}
 use Prim.Native.Nat.{ℕ, _+_, _-_, _*_, _/_, _%_, _≤_}
 use lib.ListN.{length, take, drop}
+use Rattle.shapes.specs.Numbers.{plusZero}
+use Rattle.shapes.specs.Turns.{turns}
 use Rattle.imageview.specs.Image.{imageOf}
-use Rattle.response.specs.Region.{zeroFloat}
 use Rattle.pixel_response.specs.Steps.{Wrote}
 use Rattle.response.specs.Frame.{Framed, From, To, shiftedAt}
 use Rattle.response.proofs.PassLaws.{part-count}
@@ -14,7 +15,7 @@ use Rattle.response.proofs.region.write_region.Statement.{statement}
 use Rattle.response.proofs.region.write_region.Tie as tie
 
 abbrev Inv-loop : tie.InvT-loop
-Inv-loop img sizes offsets radius x0 y0 w h out₀ from to r₀ out r = (r ≤ h) × Wrote zeroFloat (r * w) 0 (λ i. shiftedAt (imageOf img sizes) offsets radius (x0 + i % w) (y0 + i / w)) out₀ out
+Inv-loop img sizes offsets radius x0 y0 w h out₀ from to r₀ out r = (r ≤ h) × Wrote plusZero (r * w) 0 (λ i. shiftedAt (imageOf img sizes) offsets radius (x0 + i % w) (y0 + i / w)) out₀ out
 
 abbrev μ-loop : tie.MeasureT-loop
 μ-loop img sizes offsets radius x0 y0 w h out₀ from to r₀ out r = h - r
@@ -57,7 +58,7 @@ region-row-requires c κs =
     let a = c .before .before .before .before .before .before .before .args in
     let g = c .before .before .before .before .before .before .before .pre in
     let n : length (take (p .r * a .w + a .w - p .r * a .w) (drop (p .r * a .w) (p .out))) ≡ a .w =
-    part-count zeroFloat (p .r * a .w) (p .r * a .w + a .w) (p .out) (omega arith) (omega (arith, row-end (p .r) (a .h) (a .w) (c .before .loop-test .taken), g .1 .1, p .inv .1 .same)) ∙ cut (p .r * a .w) (a .w) in (
+    part-count plusZero (p .r * a .w) (p .r * a .w + a .w) (p .out) (omega arith) (omega (arith, row-end (p .r) (a .h) (a .w) (c .before .loop-test .taken), g .1 .1, p .inv .1 .same)) ∙ cut (p .r * a .w) (a .w) in (
       subst (Framed (imageOf (a .img .now) (a .sizes)) (a .offsets .now) (a .radius) (a .x0)) (sym n) (g .0),
       (
         subst (λ (m : ℕ). From (a .x0) m (a .radius) (c .before .before .before .before .from-column .result)) (sym n) (c .before .before .before .before .from-column .ensures),

@@ -1,7 +1,7 @@
 -- `response::row::block` meets its contract. After k turns the sums have the first k quarters.
 use Prim.Native.Nat.{_+_, _-_, _≤_}
 use lib.ListN.{length}
-use Rattle.response.specs.Region.{zeroFloat}
+use Rattle.shapes.specs.Numbers.{plusZero}
 use Rattle.response.specs.Starts.{valueAt}
 use Rattle.response.proofs.PassLaws.{wrote-cong}
 use Rattle.response.proofs.RowLaws.{Sums, sums-none, sums-more, sums-all, spare}
@@ -51,7 +51,7 @@ returns : tie.Need-returns Inv-loop μ-loop
 returns c =
     let p = c .before .before .before .before .before .before .before .before .before .before .before in
     let a = c .before .before .before .before .before .before .before .before .before .before .before .before .before .before .args in
-    wrote-cong zeroFloat (length (a .out .now)) 0 _ (λ i. valueAt (a .img .now) (a .starts .now) (a .at + i)) (a .out .now) (c .before .before .write-values .last .1 .1 .1 .1 .0)
+    wrote-cong plusZero (length (a .out .now)) 0 _ (λ i. valueAt (a .img .now) (a .starts .now) (a .at + i)) (a .out .now) (c .before .before .write-values .last .1 .1 .1 .1 .0)
     (sums-all (a .img .now) (a .starts .now) (a .at) (length (a .out .now)) (p .loop .k) (p .loop .square) (p .loop .edge) (p .loop .sum) _ (c .before .before .before .before .before .before .before .before .cross .last .1 .1 .1 .1 .0) (omega arith) (p .loop .inv .1) (c .before .before .before .before .before .before .before .before .cross .ensures))
     (c .before .before .write-values .ensures)
 

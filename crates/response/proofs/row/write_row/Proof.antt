@@ -2,7 +2,7 @@
 use mathlib.Core.Path.{_≡_, refl, subst}
 use Prim.Native.Nat.{ℕ, _-_, _≤_}
 use lib.ListN.{length}
-use Rattle.response.specs.Region.{zeroFloat}
+use Rattle.shapes.specs.Numbers.{plusZero}
 use Rattle.pixel_response.specs.Steps.{Wrote}
 use Rattle.response.specs.Starts.{valueAt}
 use Rattle.response.proofs.PassLaws.{wrote-none, wrote-next, part-count}
@@ -11,7 +11,7 @@ use Rattle.response.proofs.row.write_row.Statement.{statement}
 use Rattle.response.proofs.row.write_row.Tie as tie
 
 abbrev Inv-loop : tie.InvT-loop
-Inv-loop img starts out₀ n at₀ out at = (at ≤ n) × (n ≡ length out₀) × Wrote zeroFloat at 0 (valueAt img starts) out₀ out
+Inv-loop img starts out₀ n at₀ out at = (at ≤ n) × (n ≡ length out₀) × Wrote plusZero at 0 (valueAt img starts) out₀ out
 
 abbrev μ-loop : tie.MeasureT-loop
 μ-loop img starts out₀ n at₀ out at = n - at
@@ -19,7 +19,7 @@ abbrev μ-loop : tie.MeasureT-loop
 loop-holds : tie.Need-loop-holds Inv-loop μ-loop
 loop-holds c =
     let a = c .before .before .args in
-    (omega arith, refl, wrote-none zeroFloat 0 (valueAt (a .img .now) (a .starts .now)) (a .out .now))
+    (omega arith, refl, wrote-none plusZero 0 (valueAt (a .img .now) (a .starts .now)) (a .out .now))
 
 block-end-requires : tie.Need-block-end-requires Inv-loop μ-loop
 block-end-requires c κs = omega arith
@@ -41,7 +41,7 @@ block-requires c κs =
     let p = c .before .before .before .loop in
     let e = c .before .block-end .result in
     let s = p .inv .2 .same in
-    let n = part-count zeroFloat (p .at) e (p .out) (omega arith) (omega (arith, s)) in
+    let n = part-count plusZero (p .at) e (p .out) (omega arith) (omega (arith, s)) in
     (omega (arith, n), λ k h. omega (arith, n, c .before .before .before .before .before .before .pre k h))
 
 loop-less : tie.Need-loop-less Inv-loop μ-loop
@@ -52,7 +52,7 @@ loop-again c =
     let p = c .before .before .before .before .before .before .loop in
     let a = c .before .before .before .before .before .before .before .before .before .args in
     let s = p .inv .2 .same in
-    (omega arith, refl, wrote-next zeroFloat (p .at) (c .before .before .before .before .block-end .result) (valueAt (a .img .now) (a .starts .now)) (a .out .now) (p .out) (c .before .before .block .last .1 .1 .1 .0) (omega arith) (omega (arith, s)) (p .inv .2) (c .before .before .block .ensures))
+    (omega arith, refl, wrote-next plusZero (p .at) (c .before .before .before .before .block-end .result) (valueAt (a .img .now) (a .starts .now)) (a .out .now) (p .out) (c .before .before .block .last .1 .1 .1 .0) (omega arith) (omega (arith, s)) (p .inv .2) (c .before .before .block .ensures))
 
 same-length : tie.Need-same-length Inv-loop μ-loop
 same-length c = c .before .loop .inv .2 .same
@@ -62,7 +62,7 @@ returns c =
     let p = c .before in
     let a = c .before .before .before .before .args in
     let e : p .loop .at ≡ length (a .out .now) = omega arith in
-    subst (λ (n : ℕ). Wrote zeroFloat n 0 (valueAt (a .img .now) (a .starts .now)) (a .out .now) (p .loop .out)) e (p .loop .inv .2)
+    subst (λ (n : ℕ). Wrote plusZero n 0 (valueAt (a .img .now) (a .starts .now)) (a .out .now) (p .loop .out)) e (p .loop .inv .2)
 
 pub write-row-spec : {M : Type 1} → statement M
 write-row-spec =

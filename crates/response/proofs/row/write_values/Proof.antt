@@ -2,8 +2,8 @@
 use mathlib.Core.Path.{_≡_, refl, subst}
 use Prim.Native.Nat.{ℕ, _-_, _≤_}
 use lib.ListN.{length}
+use Rattle.shapes.specs.Numbers.{plusZero}
 use Rattle.pixel_response.specs.Samples.{valueOf}
-use Rattle.response.specs.Region.{zeroFloat}
 use Rattle.pixel_response.specs.Steps.{listed, Wrote}
 use Rattle.response.proofs.PassLaws.{wrote-none, wrote-more}
 use native.Mathlib.Omega.{arith}
@@ -11,7 +11,7 @@ use Rattle.response.proofs.row.write_values.Statement.{statement}
 use Rattle.response.proofs.row.write_values.Tie as tie
 
 abbrev Inv-loop : tie.InvT-loop
-Inv-loop square edge sum cross out₀ n i₀ out i = (i ≤ n) × (n ≡ length out₀) × Wrote zeroFloat i 0 (λ j. valueOf (listed square j) (listed edge j) (listed sum j) (listed cross j)) out₀ out
+Inv-loop square edge sum cross out₀ n i₀ out i = (i ≤ n) × (n ≡ length out₀) × Wrote plusZero i 0 (λ j. valueOf (listed square j) (listed edge j) (listed sum j) (listed cross j)) out₀ out
 
 abbrev μ-loop : tie.MeasureT-loop
 μ-loop square edge sum cross out₀ n i₀ out i = n - i
@@ -19,7 +19,7 @@ abbrev μ-loop : tie.MeasureT-loop
 loop-holds : tie.Need-loop-holds Inv-loop μ-loop
 loop-holds c =
     let a = c .before .args in
-    (omega arith, refl, wrote-none zeroFloat 0 (λ i. valueOf (listed (a .square .now) i) (listed (a .edge .now) i) (listed (a .sum .now) i) (listed (a .cross .now) i)) (a .out .now))
+    (omega arith, refl, wrote-none plusZero 0 (λ i. valueOf (listed (a .square .now) i) (listed (a .edge .now) i) (listed (a .sum .now) i) (listed (a .cross .now) i)) (a .out .now))
 
 mul-x : tie.Need-mul-x Inv-loop μ-loop
 mul-x c = omega arith
@@ -64,7 +64,7 @@ loop-again : tie.Need-loop-again Inv-loop μ-loop
 loop-again c =
     let p = c .before .before .before .before .before .before in
     let a = c .before .before .before .before .before .before .before .before .args in
-    (omega arith, refl, wrote-more zeroFloat (p .loop .i) (λ i. valueOf (listed (a .square .now) i) (listed (a .edge .now) i) (listed (a .sum .now) i) (listed (a .cross .now) i)) (a .out .now) (p .loop .out) (c .value-of .result) (omega arith) (p .loop .inv .2) (c .value-of .ensures))
+    (omega arith, refl, wrote-more plusZero (p .loop .i) (λ i. valueOf (listed (a .square .now) i) (listed (a .edge .now) i) (listed (a .sum .now) i) (listed (a .cross .now) i)) (a .out .now) (p .loop .out) (c .value-of .result) (omega arith) (p .loop .inv .2) (c .value-of .ensures))
 
 same-length : tie.Need-same-length Inv-loop μ-loop
 same-length c = c .before .loop .inv .2 .same
@@ -74,7 +74,7 @@ returns c =
     let p = c .before in
     let a = c .before .before .before .args in
     let e : p .loop .i ≡ length (a .out .now) = omega arith in
-    subst (λ (n : ℕ). Wrote zeroFloat n 0 (λ i. valueOf (listed (a .square .now) i) (listed (a .edge .now) i) (listed (a .sum .now) i) (listed (a .cross .now) i)) (a .out .now) (p .loop .out)) e (p .loop .inv .2)
+    subst (λ (n : ℕ). Wrote plusZero n 0 (λ i. valueOf (listed (a .square .now) i) (listed (a .edge .now) i) (listed (a .sum .now) i) (listed (a .cross .now) i)) (a .out .now) (p .loop .out)) e (p .loop .inv .2)
 
 pub write-values-spec : {M : Type 1} → statement M
 write-values-spec =

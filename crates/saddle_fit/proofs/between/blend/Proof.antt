@@ -1,7 +1,7 @@
 -- `saddle_fit::between::blend` meets its contract: the five entries written out.
 use mathlib.Core.Path.{refl}
 use lib.Ieee.{ofBits}
-use Rattle.fit_operator.specs.Loops.{tabulated}
+use Rattle.shapes.specs.Lists.{tabulated}
 use Rattle.saddle_fit.specs.Between.{blend}
 use borrow.Author.Needs.{needs}
 use Rattle.saddle_fit.proofs.between.blend.Statement.{statement}

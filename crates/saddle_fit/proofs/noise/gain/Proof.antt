@@ -1,6 +1,6 @@
 -- `saddle_fit::noise::gain` meets its contract: the five entries written out.
 use mathlib.Core.Path.{refl}
-use Rattle.fit_operator.specs.Loops.{tabulated}
+use Rattle.shapes.specs.Lists.{tabulated}
 use Rattle.saddle_fit.specs.Steps.{combined}
 use borrow.Author.Needs.{needs}
 use Rattle.saddle_fit.proofs.noise.gain.Statement.{statement}

@@ -3,16 +3,17 @@ use mathlib.Core.Path.{_≡_, refl, ap, _∙_}
 use Prim.Native.Nat.{ℕ, _-_, _≤_}
 use native.Mathlib.Omega.{arith}
 use lib.Ieee.{ofBits}
-use Rattle.fit_operator.specs.Loops.{turns, tabulated}
-use Rattle.saddle_fit.specs.Numbers.{at}
+use Rattle.shapes.proofs.ListLaws.{overwritten-none}
+use Rattle.shapes.specs.Lists.{tabulated, overwritten}
+use Rattle.shapes.specs.Numbers.{entry}
+use Rattle.shapes.specs.Turns.{turns}
 use Rattle.saddle_fit.specs.Steps.{entryAfter}
-use Rattle.saddle_fit.proofs.ListLaws.{filled, filled-none}
 use Rattle.saddle_fit.proofs.KernelLaws.{after, plus, passed-over, entry-more, added}
 use Rattle.saddle_fit.proofs.noise.kernel.Statement.{statement}
 use Rattle.saddle_fit.proofs.noise.kernel.Tie as tie
 
 abbrev Inv-entries : tie.InvT-entries
-Inv-entries overlap weights k₀ d w i₀ k i = (i ≤ 25) × (k ≡ filled i (plus overlap w d k₀) k₀)
+Inv-entries overlap weights k₀ d w i₀ k i = (i ≤ 25) × (k ≡ overwritten i (plus overlap w d k₀) k₀)
 
 abbrev μ-entries : tie.MeasureT-entries
 μ-entries overlap weights k₀ d w i₀ k i = 25 - i
@@ -47,7 +48,7 @@ shifts-again c =
     (omega arith, passed-over (a .overlap .now) (a .t2) (l .d) (c .if1 .taken) (l .k) (l .inv .1))
 
 entries-holds : tie.Need-entries-holds Inv-entries μ-entries Inv-shifts μ-shifts
-entries-holds c = (omega arith, filled-none _ _)
+entries-holds c = (omega arith, overwritten-none _ _)
 
 mul-k : tie.Need-mul-k Inv-entries μ-entries Inv-shifts μ-shifts
 mul-k c = omega arith
@@ -99,7 +100,7 @@ shifts-again-2 c =
     let l = c .before .before .before .before .shifts in
     let a = c .before .before .before .before .before .args in
     let h : e .i ≡ 25 = omega arith in
-    (omega arith, added (a .overlap .now) (a .t2) (l .d) (l .k) (l .inv .1) (c .before .before .if1 .left) (e .k) (e .inv .1 ∙ ap (λ (n : ℕ). filled n (plus (a .overlap .now) (at (a .t2) (l .d)) (l .d) (l .k)) (l .k)) h))
+    (omega arith, added (a .overlap .now) (a .t2) (l .d) (l .k) (l .inv .1) (c .before .before .if1 .left) (e .k) (e .inv .1 ∙ ap (λ (n : ℕ). overwritten n (plus (a .overlap .now) (entry (a .t2) (l .d)) (l .d) (l .k)) (l .k)) h))
 
 returns : tie.Need-returns Inv-entries μ-entries Inv-shifts μ-shifts
 returns c =

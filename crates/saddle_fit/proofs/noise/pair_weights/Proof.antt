@@ -1,7 +1,8 @@
 -- `saddle_fit::noise::pair_weights` meets its contract: the nine sums written out.
 use mathlib.Core.Path.{refl}
 use lib.Ieee.{ofBits}
-use Rattle.fit_operator.specs.Loops.{turns, tabulated}
+use Rattle.shapes.specs.Lists.{tabulated}
+use Rattle.shapes.specs.Turns.{turns}
 use Rattle.saddle_fit.specs.Covariance.{pairWeight}
 use Rattle.saddle_fit.proofs.noise.pair_weights.Statement.{statement}
 use Rattle.saddle_fit.proofs.noise.pair_weights.Tie as tie

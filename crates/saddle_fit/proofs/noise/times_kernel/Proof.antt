@@ -1,7 +1,8 @@
 -- `saddle_fit::noise::times_kernel` meets its contract: the five sums written out.
 use mathlib.Core.Path.{refl}
 use lib.Ieee.{ofBits, neg}
-use Rattle.fit_operator.specs.Loops.{turns, tabulated}
+use Rattle.shapes.specs.Lists.{tabulated}
+use Rattle.shapes.specs.Turns.{turns}
 use Rattle.saddle_fit.specs.Sensitivity.{dot}
 use Rattle.saddle_fit.specs.Covariance.{timesKernel}
 use borrow.Author.Needs.{needs}

@@ -1,8 +1,8 @@
 -- `saddle_fit::sensitivity::difference` meets its contract: the five entries written out.
 use mathlib.Core.Path.{refl}
 use lib.Ieee.{ofBits}
-use Rattle.fit_operator.specs.Loops.{tabulated}
 use borrow.Author.Needs.{needs}
+use Rattle.shapes.specs.Lists.{tabulated}
 use Rattle.saddle_fit.proofs.sensitivity.difference.Statement.{statement}
 use Rattle.saddle_fit.proofs.sensitivity.difference.Tie as tie
 

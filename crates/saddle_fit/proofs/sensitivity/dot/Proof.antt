@@ -1,7 +1,7 @@
 -- `saddle_fit::sensitivity::dot` meets its contract: the five turns written out.
 use mathlib.Core.Path.{refl}
 use lib.Ieee.{ofBits, neg}
-use Rattle.fit_operator.specs.Loops.{turns}
+use Rattle.shapes.specs.Turns.{turns}
 use Rattle.saddle_fit.specs.Sensitivity.{dot}
 use borrow.Author.Needs.{needs}
 use Rattle.saddle_fit.proofs.sensitivity.dot.Statement.{statement}

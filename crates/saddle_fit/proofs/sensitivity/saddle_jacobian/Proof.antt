@@ -1,7 +1,7 @@
 -- `saddle_fit::sensitivity::saddle_jacobian` meets its contract: the two rows of five written out.
 use mathlib.Core.Path.{refl}
 use lib.Ieee.{ofBits, neg}
-use Rattle.fit_operator.specs.Loops.{tabulated}
+use Rattle.shapes.specs.Lists.{tabulated}
 use Rattle.saddle_fit.specs.Sensitivity.{saddleJacobian}
 use Rattle.saddle_fit.proofs.sensitivity.saddle_jacobian.Statement.{statement}
 use Rattle.saddle_fit.proofs.sensitivity.saddle_jacobian.Tie as tie

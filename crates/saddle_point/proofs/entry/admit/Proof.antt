@@ -1,6 +1,6 @@
 -- `saddle_point::entry::admit` meets its contract: the tests in their order, and the centre as the conversion gives it.
 use mathlib.Core.Path.{_≡_, refl, sym, _∙_}
-use mathlib.Core.Bool.{Bool, true, false, _&&_}
+use mathlib.Core.Bool.{Bool, true, false, _&&_, and-eq-true-iff}
 use lib.Dec.{leb}
 use lib.IntN.{ℤ, natAbs}
 use mir.Syntax.{w32}
@@ -12,7 +12,7 @@ use Rattle.imageview.specs.Steps.{Tested}
 use Rattle.imageview.specs.Patch.{inside, supportsPatch}
 use Rattle.imageview.proofs.ImageLaws.{tested, passed}
 use Rattle.saddle_point.specs.Refine.{centreOf, goodLimits}
-use Rattle.saddle_point.proofs.EntryLaws.{to, both-true, inside-fits, centre-is, supported, same-seed}
+use Rattle.saddle_point.proofs.EntryLaws.{to, inside-fits, centre-is, supported, same-seed}
 use Rattle.saddle_point.proofs.entry.admit.Statement.{statement}
 use Rattle.saddle_point.proofs.entry.admit.Tie as tie
 
@@ -97,7 +97,7 @@ sides : (c : tie.Else4)
     let z : ℤ = toZ w32 (ofZ w32 (c .before .before .before .before .f32-to-i32 .result)) in
     let w : ℤ = toZ w32 (ofZ w32 (c .before .before .f32-to-i322 .result)) in
     (inside (s .args .cfg .radius) (s .args .sizes .width) z ≡ true) × (inside (s .args .cfg .radius) (s .args .sizes .height) w ≡ true)
-sides c = both-true _ _ (sym (c .before .supports-patch .ensures) ∙ not-false (c .before .supports-patch .result) (c .if4 .left))
+sides c = and-eq-true-iff _ _ .0 (sym (c .before .supports-patch .ensures) ∙ not-false (c .before .supports-patch .result) (c .if4 .left))
 
 sizes-of : (c : tie.Else4) → Tested (image (c .before .before .before .before .before .before .before .before .before .before .before .before .before))
 sizes-of c = tested (image (c .before .before .before .before .before .before .before .before .before .before .before .before .before)) (passed (is-one (c .before .before .before .before .before .before .before .before .before .before)))

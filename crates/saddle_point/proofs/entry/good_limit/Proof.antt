@@ -4,7 +4,7 @@ use mathlib.Core.Path.{sym, ap, _∙_}
 use mathlib.Core.Bool.{Bool, true, false, _&&_, not}
 use lib.Ieee.{ofBits, lt}
 use lib.Ieee.Scale.{finite}
-use Rattle.saddle_fit.specs.Numbers.{zero32}
+use Rattle.shapes.specs.Numbers.{plusZero}
 use Rattle.saddle_point.proofs.entry.good_limit.Statement.{statement}
 use Rattle.saddle_point.proofs.entry.good_limit.Tie as tie
 
@@ -15,13 +15,13 @@ returns : tie.Need-returns
 unfolding ofBits
 returns c =
     let v = c .before .before .before .args .v in
-    sym (ap (λ (b : Bool). b && not (lt v zero32)) (sym (c .before .before .is-finite-f32 .ensures) ∙ c .before .if1 .taken) ∙ ap not (c .if2 .taken))
+    sym (ap (λ (b : Bool). b && not (lt v plusZero)) (sym (c .before .before .is-finite-f32 .ensures) ∙ c .before .if1 .taken) ∙ ap not (c .if2 .taken))
 
 returns-2 : tie.Need-returns-2
 unfolding ofBits
 returns-2 c =
     let v = c .before .before .before .args .v in
-    sym (ap (λ (b : Bool). b && not (lt v zero32)) (sym (c .before .before .is-finite-f32 .ensures) ∙ c .before .if1 .taken) ∙ ap not (c .if2 .left))
+    sym (ap (λ (b : Bool). b && not (lt v plusZero)) (sym (c .before .before .is-finite-f32 .ensures) ∙ c .before .if1 .taken) ∙ ap not (c .if2 .left))
 
 returns-3 : tie.Need-returns-3
 returns-3 c = search needs
