@@ -3,11 +3,12 @@
 use mathlib.Core.Path.{_≡_}
 use mathlib.Core.Bool.{Bool, true, false, not, cond}
 use mathlib.Core.List.{List, [], _∷_, _++_}
-use Prim.Native.Nat.{ℕ, zero, suc, _+_, _*_, _/_, _%_}
-use lib.Dec.{leb, ltb, eqb}
+use Prim.Native.Nat.{ℕ, zero, suc, _+_, _*_, _/_}
+use lib.Dec.{leb, ltb}
 use lib.ListN.{length, drop}
 use lib.Ieee.{Float}
 use Rattle.shapes.specs.Numbers.{entry}
+use Rattle.corners.specs.Corners.{whole, tooMany}
 use Rattle.imageview.specs.Image.{Image, isImage}
 use Rattle.saddle_fit.specs.declared.SaddlePointConfig.{SaddlePointConfig}
 use Rattle.saddle_point.specs.declared.Spot.{Spot}
@@ -54,8 +55,8 @@ wayOf img cfg corners room =
     cond (not (isImage img)) (refused BadImage)
     (cond (not (leb (cfg .radius) 7)) (refused BadRadius)
     (cond (not (goodLimits cfg)) (refused BadLimit)
-    (cond (not (eqb (length corners % 3) 0)) (refused BadLength)
-    (cond (ltb 4096 (length corners / 3)) (refused TooMany)
+    (cond (not (whole (length corners))) (refused BadLength)
+    (cond (tooMany (length corners)) (refused TooMany)
     (cond (ltb room (length corners)) (refused BadOut)
     (wrote (recordsOf img cfg corners (length corners / 3))))))))
 

@@ -38,10 +38,10 @@ pub fn refine_corners_on_image(
         return Refinements::BadLimit;
     }
     let len = corners.len();
-    if len % 3 != 0 {
+    if !corners::is_whole(len) {
         return Refinements::BadLength;
     }
-    if 4096 < len / 3 {
+    if corners::too_many(len) {
         return Refinements::TooMany;
     }
     if out.len() < len {
