@@ -4,7 +4,7 @@ use mathlib.Core.List.{List, [], _∷_, _++_, map}
 use Prim.Native.Nat.{ℕ}
 use lib.Ieee.{Float, binary32, ofBits, toBits, mul, add, sub, div, le, lt, toUnsigned}
 use Rattle.floats.specs.Whole.{floor}
-use Rattle.merge.specs.Corners.{cornersOf, flat}
+use Rattle.corners.specs.Corners.{cornersOf, flat}
 use Rattle.merge.specs.Meets.{near, neighbours, boxOf, plainMeets, gridMeets, gridOf}
 use Rattle.merge.specs.Fold.{merged}
 use Rattle.merge.specs.Call.{wayOf, listAfter}

@@ -4,16 +4,17 @@
 use mathlib.Core.Path.{_≡_, refl, sym, ap, _∙_, subst}
 use mathlib.Core.Bool.{Bool, true, false, not, _||_, cond, false≢true}
 use mathlib.Core.List.{List}
-use Prim.Native.Nat.{ℕ, _*_, _/_, _%_, _<_}
+use Prim.Native.Nat.{ℕ, _*_, _/_, _<_}
 use lib.Dec.{eqb, ltb}
 use lib.ListN.{length}
 use lib.Ieee.{Float, binary32, mul, lt}
-use Rattle.merge.specs.declared.Merge.the-variants.{Merged}
-use Rattle.merge.specs.Corners.{Corner, cornersOf}
+use Rattle.corners.specs.Corners.{whole, tooMany, cornersOf, cornerAt}
+use Rattle.corners.specs.declared.Corner.{Corner}
+use Rattle.merge.specs.declared.Merge.the-variants.{Merged, BadLength, TooMany, BadScratch, GridTooBig}
 use Rattle.merge.specs.Meets.{boxOf, finiteBox, gridOf, cellsAcross, cellsDown, plainMeets, gridMeets}
 use Rattle.merge.specs.Fold.{merged}
-use Rattle.merge.specs.Call.{Way, badLength, tooMany, badScratch, gridTooBig, unmerged, scanned, gridded, idle, mergingWay, wayOf, answerOf, filled, listAfter}
-use Rattle.merge.specs.Claims.{at, placeAt, Separated, Local, Ordered}
+use Rattle.merge.specs.Call.{Way, refused, unmerged, scanned, gridded, idle, mergingWay, wayOf, answerOf, filled, listAfter}
+use Rattle.merge.specs.Claims.{placeAt, Separated, Local, Ordered}
 use Rattle.clinics.proofs.Theorems.{separated-stay, merging-is-local, nothing-invented, order-kept, strong-held}
 
 -- ---- the words of the promises
@@ -28,13 +29,13 @@ scanRule radius = plainMeets (mul binary32 radius radius)
 pub record Source (meets : Corner → Corner → Bool) (l kept : List Corner) (p : ℕ) : Type 0 where
   pub from : ℕ
   pub within : from < length l
-  pub same : at kept p ≡ at l from
+  pub same : cornerAt kept p ≡ cornerAt l from
   pub went : placeAt meets l from ≡ p
 
 -- corner i's place is among the kept, and the corner there is not weaker
 pub record Guarded (meets : Corner → Corner → Bool) (l kept : List Corner) (i : ℕ) : Type 0 where
   pub there : placeAt meets l i < length kept
-  pub strong : lt (at kept (placeAt meets l i) .strength) (at l i .strength) ≡ false
+  pub strong : lt (cornerAt kept (placeAt meets l i) .strength) (cornerAt l i .strength) ≡ false
 
 -- ---- the promises
 pub record Promised (list : List Float) (way : Way) (meets : Corner → Corner → Bool) (kept : List Corner) : Type 0 where
@@ -79,27 +80,24 @@ promised list way meets kept a b e =
 
 -- ---- which way the call went
 abbrev merges : Way → Bool
-merges badLength = false
-merges tooMany = false
-merges badScratch = false
-merges gridTooBig = false
+merges (refused r) = false
 merges unmerged = false
 merges (scanned kept) = true
 merges (gridded kept) = true
 
-past-tests : (a b c d : Bool) (w : Way) → merges (cond a badLength (cond b tooMany (cond c badScratch (cond d unmerged w)))) ≡ true → cond a badLength (cond b tooMany (cond c badScratch (cond d unmerged w))) ≡ w
+past-tests : (a b c d : Bool) (w : Way) → merges (cond a (refused BadLength) (cond b (refused TooMany) (cond c (refused BadScratch) (cond d unmerged w)))) ≡ true → cond a (refused BadLength) (cond b (refused TooMany) (cond c (refused BadScratch) (cond d unmerged w))) ≡ w
 past-tests true b c d w h = absurd (false≢true h)
 past-tests false true c d w h = absurd (false≢true h)
 past-tests false false true d w h = absurd (false≢true h)
 past-tests false false false true w h = absurd (false≢true h)
 past-tests false false false false w h = refl
 
-by-grid : (a b : Bool) (s g kept : List Corner) → cond a (scanned s) (cond b gridTooBig (gridded g)) ≡ gridded kept → kept ≡ g
+by-grid : (a b : Bool) (s g kept : List Corner) → cond a (scanned s) (cond b (refused GridTooBig) (gridded g)) ≡ gridded kept → kept ≡ g
 by-grid true b s g kept h = cc
 by-grid false true s g kept h = cc
 by-grid false false s g kept h = cc
 
-by-scan : (a b : Bool) (s g kept : List Corner) → cond a (scanned s) (cond b gridTooBig (gridded g)) ≡ scanned kept → kept ≡ s
+by-scan : (a b : Bool) (s g kept : List Corner) → cond a (scanned s) (cond b (refused GridTooBig) (gridded g)) ≡ scanned kept → kept ≡ s
 by-scan true b s g kept h = cc
 by-scan false true s g kept h = cc
 by-scan false false s g kept h = cc
@@ -107,7 +105,7 @@ by-scan false false s g kept h = cc
 module _ (list : List Float) (radius : Float) (heads links : ℕ) (kept : List Corner) where
   merging : merges (wayOf list radius heads links) ≡ true → wayOf list radius heads links ≡ mergingWay (cornersOf list) radius heads
   unfolding wayOf
-  merging h = past-tests (not (eqb (length list % 3) 0)) (ltb 4096 (length list / 3)) (ltb links (length list / 3)) (eqb (length list) 0 || idle radius) (mergingWay (cornersOf list) radius heads) h
+  merging h = past-tests (not (whole (length list))) (tooMany (length list)) (ltb links (length list / 3)) (eqb (length list) 0 || idle radius) (mergingWay (cornersOf list) radius heads) h
 
   pub gridded-promised : wayOf list radius heads links ≡ gridded kept → Promised list (wayOf list radius heads links) (gridRule list radius) kept
   unfolding mergingWay

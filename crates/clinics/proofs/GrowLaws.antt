@@ -9,9 +9,10 @@ use lib.ListN.{length, getD, List·getD-append}
 use lib.Seq.{getD-append-seam}
 use lib.Ieee.{Float, lt}
 use Rattle.floats.proofs.OrderLaws.{lt-irrefl, lt-trans}
-use Rattle.merge.specs.Corners.{Corner}
+use Rattle.corners.specs.Corners.{nowhere, cornerAt}
+use Rattle.corners.specs.declared.Corner.{Corner}
 use Rattle.merge.specs.Fold.{stronger, place, mergeFrom, merged, placeOf, placesFrom, places}
-use Rattle.merge.specs.Claims.{nowhere, at, placeAt}
+use Rattle.merge.specs.Claims.{placeAt}
 
 -- ---- lists that grow at the end
 abbrev pub snoc : List Corner → Corner → List Corner
@@ -25,10 +26,10 @@ grow P none more l = go [] l none
     go done [] h = subst P (sym (append-nil done)) h
     go done (c ∷ left) h = subst P (append-assoc done (c ∷ []) left) (go (snoc done c) left (more done c h))
 
-pub at-old : (l : List Corner) (c : Corner) (i : ℕ) → i < length l → at (snoc l c) i ≡ at l i
+pub at-old : (l : List Corner) (c : Corner) (i : ℕ) → i < length l → cornerAt (snoc l c) i ≡ cornerAt l i
 at-old l c i h = List·getD-append l (c ∷ []) nowhere i h
 
-pub at-new : (l : List Corner) (c : Corner) → at (snoc l c) (length l) ≡ c
+pub at-new : (l : List Corner) (c : Corner) → cornerAt (snoc l c) (length l) ≡ c
 at-new l c = getD-append-seam l c [] nowhere
 
 pub length-snoc : (l : List Corner) (c : Corner) → length (snoc l c) ≡ suc (length l)
@@ -54,13 +55,13 @@ which (suc n) (suc i) h = up (which n i (le-of-suc-le-suc h))
 module _ (meets : Corner → Corner → Bool) (c : Corner) (before after : List Corner) (p : ℕ) where
   -- It met a kept corner, and the stronger of the two stands there; or it met none, and stands behind them all.
   pub data How : Type 0 where
-    met : p < length before → meets c (at before p) ≡ true → at after p ≡ stronger c (at before p) → How
-    behind : p ≡ length before → at after p ≡ c → How
+    met : p < length before → meets c (cornerAt before p) ≡ true → cornerAt after p ≡ stronger c (cornerAt before p) → How
+    behind : p ≡ length before → cornerAt after p ≡ c → How
 
   -- every place but its own is as it was
   pub data Stands (q : ℕ) : Type 0 where
     own : q ≡ p → Stands q
-    still : q < length before → at after q ≡ at before q → Stands q
+    still : q < length before → cornerAt after q ≡ cornerAt before q → Stands q
 
   pub record Step : Type 0 where
     pub how : How
@@ -102,14 +103,14 @@ module _ (meets : Corner → Corner → Bool) (c : Corner) where
       go false e s = later k l (place meets c l) (placeOf meets c l) s
 
   -- a corner that meets none of the kept goes behind them
-  pub place-behind : (kept : List Corner) → ((i : ℕ) → i < length kept → meets c (at kept i) ≡ false) → place meets c kept ≡ snoc kept c
+  pub place-behind : (kept : List Corner) → ((i : ℕ) → i < length kept → meets c (cornerAt kept i) ≡ false) → place meets c kept ≡ snoc kept c
   unfolding place
   place-behind [] h = refl
   place-behind (k ∷ l) h = ap (λ (b : Bool). cond b (stronger c k ∷ l) (k ∷ place meets c l)) (h 0 (suc-le-suc zero-le)) ∙ ap {B = List Corner} (λ r. k ∷ r) (place-behind l (λ i m. h (suc i) (suc-le-suc m)))
 
 -- two rules that say the same of a corner and the kept ones place it alike
 pub place-alike : (meets meets' : Corner → Corner → Bool) (c : Corner) (kept : List Corner)
-    → ((i : ℕ) → i < length kept → meets c (at kept i) ≡ meets' c (at kept i)) → place meets c kept ≡ place meets' c kept
+    → ((i : ℕ) → i < length kept → meets c (cornerAt kept i) ≡ meets' c (cornerAt kept i)) → place meets c kept ≡ place meets' c kept
 unfolding place
 place-alike meets meets' c [] h = refl
 place-alike meets meets' c (k ∷ l) h =

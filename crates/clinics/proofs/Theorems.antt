@@ -11,10 +11,11 @@ use native.Mathlib.Omega.{arith}
 use lib.ListN.{length}
 use lib.Ieee.{Float, lt}
 use Rattle.floats.proofs.OrderLaws.{lt-irrefl}
-use Rattle.merge.specs.Corners.{Corner}
+use Rattle.corners.specs.Corners.{cornerAt}
+use Rattle.corners.specs.declared.Corner.{Corner}
 use Rattle.merge.specs.Meets.{Grid, near, neighbours, plainMeets, gridMeets}
 use Rattle.merge.specs.Fold.{stronger, place, merged}
-use Rattle.merge.specs.Claims.{at, placeAt, Joined, here, next, Stays, Local, Kept, Uninvented, Earlier, Ordered, Held, StrongHeld, Alike}
+use Rattle.merge.specs.Claims.{placeAt, Joined, here, next, Stays, Local, Kept, Uninvented, Earlier, Ordered, Held, StrongHeld, Alike}
 use Rattle.clinics.proofs.GrowLaws.{snoc, grow, at-old, at-new, length-snoc, Which, old, new, which, How, met, behind, Stands, own, still, place-behind, place-alike, merged-snoc, merged-step, place-old, either, not-below-new, not-below-old}
 
 -- ---- numbers of a list that grows by one
@@ -50,14 +51,14 @@ module _ (meets : Corner → Corner → Bool) where
           its : ℕ
           its = placeAt meets (snoc l c) (length l)
 
-          newest : at (merged meets (snoc l c)) its ≡ c → Kept meets (snoc l c) its
+          newest : cornerAt (merged meets (snoc l c)) its ≡ c → Kept meets (snoc l c) its
           newest e = record { from = length l; within = within-new l c; same = e ∙ sym (at-new l c); went = refl }
 
-          older : (q : ℕ) → at (merged meets (snoc l c)) q ≡ at (merged meets l) q → Kept meets l q → Kept meets (snoc l c) q
+          older : (q : ℕ) → cornerAt (merged meets (snoc l c)) q ≡ cornerAt (merged meets l) q → Kept meets l q → Kept meets (snoc l c) q
           older q e k = record { from = k .from; within = within-old l c (k .from) (k .within); same = e ∙ k .same ∙ sym (at-old l c (k .from) (k .within)); went = place-old meets l c (k .from) (k .within) ∙ k .went }
 
           came : How meets c (merged meets l) (merged meets (snoc l c)) its → Kept meets (snoc l c) its
-          came (met a m e) = elim (either c (at (merged meets l) its)) [ inl x ↦ newest (e ∙ x) | inr y ↦ older its (e ∙ y) (ih its a) ]
+          came (met a m e) = elim (either c (cornerAt (merged meets l) its)) [ inl x ↦ newest (e ∙ x) | inr y ↦ older its (e ∙ y) (ih its a) ]
           came (behind a e) = newest e
 
           each : (q : ℕ) → Stands meets c (merged meets l) (merged meets (snoc l c)) its q → Kept meets (snoc l c) q
@@ -77,33 +78,33 @@ module _ (meets : Corner → Corner → Bool) where
           after : List Corner
           after = merged meets (snoc l c)
 
-          coming : How meets c (merged meets l) after its → lt (at after its .strength) (c .strength) ≡ false
-          coming (met a m e) = ap (λ (k : Corner). lt (k .strength) (c .strength)) e ∙ not-below-new c (at (merged meets l) its)
+          coming : How meets c (merged meets l) after its → lt (cornerAt after its .strength) (c .strength) ≡ false
+          coming (met a m e) = ap (λ (k : Corner). lt (k .strength) (c .strength)) e ∙ not-below-new c (cornerAt (merged meets l) its)
           coming (behind a e) = ap (λ (k : Corner). lt (k .strength) (c .strength)) e ∙ lt-irrefl (c .strength)
 
-          shared : (x : Float) → its < length (merged meets l) → lt (at (merged meets l) its .strength) x ≡ false → How meets c (merged meets l) after its → lt (at after its .strength) x ≡ false
-          shared x b w (met a m e) = ap (λ (k : Corner). lt (k .strength) x) e ∙ not-below-old c (at (merged meets l) its) x w
+          shared : (x : Float) → its < length (merged meets l) → lt (cornerAt (merged meets l) its .strength) x ≡ false → How meets c (merged meets l) after its → lt (cornerAt after its .strength) x ≡ false
+          shared x b w (met a m e) = ap (λ (k : Corner). lt (k .strength) x) e ∙ not-below-old c (cornerAt (merged meets l) its) x w
           shared x b w (behind a e) = absurd (omega arith)
 
-          kept : (x : Float) (q : ℕ) → q < length (merged meets l) → lt (at (merged meets l) q .strength) x ≡ false → Stands meets c (merged meets l) after its q → lt (at after q .strength) x ≡ false
+          kept : (x : Float) (q : ℕ) → q < length (merged meets l) → lt (cornerAt (merged meets l) q .strength) x ≡ false → Stands meets c (merged meets l) after its q → lt (cornerAt after q .strength) x ≡ false
           kept x q b w (own e) =
-              subst (λ (p : ℕ). lt (at after p .strength) x ≡ false) (sym e)
-              (shared x (subst (λ (p : ℕ). p < length (merged meets l)) e b) (subst (λ (p : ℕ). lt (at (merged meets l) p .strength) x ≡ false) e w) (merged-step meets l c .how))
+              subst (λ (p : ℕ). lt (cornerAt after p .strength) x ≡ false) (sym e)
+              (shared x (subst (λ (p : ℕ). p < length (merged meets l)) e b) (subst (λ (p : ℕ). lt (cornerAt (merged meets l) p .strength) x ≡ false) e w) (merged-step meets l c .how))
           kept x q b w (still a e) = ap (λ (k : Corner). lt (k .strength) x) e ∙ w
 
-          held : (q : ℕ) → q ≡ placeAt meets (snoc l c) i → q < length after → lt (at after q .strength) (at (snoc l c) i .strength) ≡ false → Held meets (snoc l c) i
-          held q e b w = record { there = subst (λ (p : ℕ). p < length after) e b; strong = subst (λ (p : ℕ). lt (at after p .strength) (at (snoc l c) i .strength) ≡ false) e w }
+          held : (q : ℕ) → q ≡ placeAt meets (snoc l c) i → q < length after → lt (cornerAt after q .strength) (cornerAt (snoc l c) i .strength) ≡ false → Held meets (snoc l c) i
+          held q e b w = record { there = subst (λ (p : ℕ). p < length after) e b; strong = subst (λ (p : ℕ). lt (cornerAt after p .strength) (cornerAt (snoc l c) i .strength) ≡ false) e w }
 
           by : Which (length l) i → Held meets (snoc l c) i
           by (old k) =
               let q = placeAt meets l i in
               let b = lt-of-lt-of-le (ih i k .there) (merged-step meets l c .longer) in
               held q (sym (place-old meets l c i k)) b
-              (ap (λ (x : Corner). lt (at after q .strength) (x .strength)) (at-old l c i k) ∙ kept (at l i .strength) q (ih i k .there) (ih i k .strong) (merged-step meets l c .each q b))
+              (ap (λ (x : Corner). lt (cornerAt after q .strength) (x .strength)) (at-old l c i k) ∙ kept (cornerAt l i .strength) q (ih i k .there) (ih i k .strong) (merged-step meets l c .each q b))
           by (new e) =
               held its (ap (placeAt meets (snoc l c)) (sym e)) (merged-step meets l c .there)
-              (ap (λ (j : ℕ). lt (at after its .strength) (at (snoc l c) j .strength)) e
-              ∙ ap (λ (x : Corner). lt (at after its .strength) (x .strength)) (at-new l c)
+              (ap (λ (j : ℕ). lt (cornerAt after its .strength) (cornerAt (snoc l c) j .strength)) e
+              ∙ ap (λ (x : Corner). lt (cornerAt after its .strength) (x .strength)) (at-new l c)
               ∙ coming (merged-step meets l c .how))
 
   -- ---- places keep the order of their first corner
@@ -153,9 +154,9 @@ module _ (meets : Corner → Corner → Bool) where
           Both i = Joined meets (snoc l c) i (length l) × Joined meets (snoc l c) (length l) i
 
           -- an old corner in the new one's place is joined to the corner that stood there, which the new one met
-          through : (i : ℕ) → i < length l → placeAt meets l i ≡ its → meets c (at (merged meets l) its) ≡ true → Kept meets l its → Both i
+          through : (i : ℕ) → i < length l → placeAt meets l i ≡ its → meets c (cornerAt (merged meets l) its) ≡ true → Kept meets l its → Both i
           through i h p m k =
-              let m' : meets (at (snoc l c) (length l)) (at (snoc l c) (k .from)) ≡ true = subst₂ (λ (x y : Corner). meets x y ≡ true) (sym (at-new l c)) (k .same ∙ sym (at-old l c (k .from) (k .within))) m in (
+              let m' : meets (cornerAt (snoc l c) (length l)) (cornerAt (snoc l c) (k .from)) ≡ true = subst₂ (λ (x y : Corner). meets x y ≡ true) (sym (at-new l c)) (k .same ∙ sym (at-old l c (k .from) (k .within))) m in (
                 joined-trans (snoc l c) (joined-old l c h (ih i (k .from) h (k .within) (p ∙ sym (k .went)))) (next (length l) (within-new l c) (inr m') here),
                 next (k .from) (within-old l c (k .from) (k .within)) (inl m') (joined-old l c (k .within) (ih (k .from) i (k .within) h (k .went ∙ sym p))),
               )
@@ -182,15 +183,15 @@ alike-merges meets meets' = grow (λ (l : List Corner). Alike meets meets' l →
         ∙ ap (place meets' c) (ih (λ i j h k. subst₂ (λ (a b : Corner). meets a b ≡ meets' a b) (at-old l c i h) (at-old l c j k) (s i j (within-old l c i h) (within-old l c j k))))
         ∙ sym (merged-snoc meets' l c)
       where
-        same : {p : ℕ} → Kept meets l p → meets c (at (merged meets l) p) ≡ meets' c (at (merged meets l) p)
+        same : {p : ℕ} → Kept meets l p → meets c (cornerAt (merged meets l) p) ≡ meets' c (cornerAt (merged meets l) p)
         same k = subst₂ (λ (a b : Corner). meets a b ≡ meets' a b) (at-new l c) (at-old l c (k .from) (k .within) ∙ sym (k .same)) (s (length l) (k .from) (within-new l c) (within-old l c (k .from) (k .within)))
 
 -- The grid merges as the plain scan does where every two corners of the list that are near lie in cells that touch. This condition suffices.
 -- It can fail, at ordinary radii too: Cases has lists on which the two part.
 pub grid-as-scan : (g : Grid) (r2 : Float) (l : List Corner)
-    → ((i j : ℕ) → i < length l → j < length l → near r2 (at l i) (at l j) ≡ true → neighbours g (at l i) (at l j) ≡ true)
+    → ((i j : ℕ) → i < length l → j < length l → near r2 (cornerAt l i) (cornerAt l j) ≡ true → neighbours g (cornerAt l i) (cornerAt l j) ≡ true)
     → merged (gridMeets g r2) l ≡ merged (plainMeets r2) l
-grid-as-scan g r2 l touching = alike-merges (gridMeets g r2) (plainMeets r2) l (λ i j h k. both (neighbours g (at l i) (at l j)) (near r2 (at l i) (at l j)) (touching i j h k))
+grid-as-scan g r2 l touching = alike-merges (gridMeets g r2) (plainMeets r2) l (λ i j h k. both (neighbours g (cornerAt l i) (cornerAt l j)) (near r2 (cornerAt l i) (cornerAt l j)) (touching i j h k))
   where
     both : (a b : Bool) → (b ≡ true → a ≡ true) → (a && b) ≡ b
     both true b h = refl

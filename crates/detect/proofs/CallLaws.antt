@@ -2,11 +2,12 @@
 use mathlib.Core.Path.{_≡_, refl, sym, ap, _∙_}
 use mathlib.Core.Bool.{Bool, true, false, not, cond}
 use mathlib.Core.List.{List, _++_}
-use Prim.Native.Nat.{ℕ, _/_, _%_, _≤_, _<_}
-use lib.Dec.{leb, ltb, eqb}
+use Prim.Native.Nat.{ℕ, _/_, _≤_, _<_}
+use lib.Dec.{leb, ltb}
 use lib.ListN.{length, drop}
 use lib.Ieee.{Float}
-use borrow.Author.Tests.{le-leb, lt-leb, lt-ltb, le-ltb, eq-eqb, ne-eqb}
+use borrow.Author.Tests.{le-leb, lt-leb, lt-ltb, le-ltb}
+use Rattle.corners.specs.Corners.{whole, tooMany}
 use Rattle.imageview.specs.Image.{Image, isImage}
 use Rattle.saddle_fit.specs.declared.SaddlePointConfig.{SaddlePointConfig}
 use Rattle.saddle_point.specs.Refine.{goodLimits}
@@ -31,10 +32,10 @@ module _ (img : Image) (cfg : SaddlePointConfig) (corners out : List Float) wher
   sixth = cond (ltb (length out) (length corners)) (refused BadOut) last
 
   abbrev fifth : Way
-  fifth = cond (ltb 4096 (length corners / 3)) (refused TooMany) sixth
+  fifth = cond (tooMany (length corners)) (refused TooMany) sixth
 
   abbrev fourth : Way
-  fourth = cond (not (eqb (length corners % 3) 0)) (refused BadLength) fifth
+  fourth = cond (not (whole (length corners))) (refused BadLength) fifth
 
   abbrev third : Way
   third = cond (not (goodLimits cfg)) (refused BadLimit) fourth
@@ -75,19 +76,19 @@ module _ (img : Image) (cfg : SaddlePointConfig) (corners out : List Float) wher
         to-fourth : way ≡ fourth
         to-fourth = to-third ∙ goes (not (goodLimits cfg)) (refused BadLimit) fourth (ap not l)
 
-        pub bad-length : (length corners % 3 ≡ 0 → ⊥) → Done img cfg corners out (Refused BadLength) out
-        bad-length h = refuses BadLength (to-fourth ∙ stops (not (eqb (length corners % 3) 0)) (refused BadLength) fifth (ap not (ne-eqb (length corners % 3) 0 h)))
+        pub bad-length : whole (length corners) ≡ false → Done img cfg corners out (Refused BadLength) out
+        bad-length h = refuses BadLength (to-fourth ∙ stops (not (whole (length corners))) (refused BadLength) fifth (ap not h))
 
-        module _ (w : length corners % 3 ≡ 0) where
+        module _ (w : whole (length corners) ≡ true) where
           to-fifth : way ≡ fifth
-          to-fifth = to-fourth ∙ goes (not (eqb (length corners % 3) 0)) (refused BadLength) fifth (ap not (eq-eqb (length corners % 3) 0 w))
+          to-fifth = to-fourth ∙ goes (not (whole (length corners))) (refused BadLength) fifth (ap not w)
 
-          pub too-many : 4096 < length corners / 3 → Done img cfg corners out (Refused TooMany) out
-          too-many h = refuses TooMany (to-fifth ∙ stops (ltb 4096 (length corners / 3)) (refused TooMany) sixth (lt-ltb 4096 (length corners / 3) h))
+          pub too-many : tooMany (length corners) ≡ true → Done img cfg corners out (Refused TooMany) out
+          too-many h = refuses TooMany (to-fifth ∙ stops (tooMany (length corners)) (refused TooMany) sixth h)
 
-          module _ (f : length corners / 3 ≤ 4096) where
+          module _ (f : tooMany (length corners) ≡ false) where
             to-sixth : way ≡ sixth
-            to-sixth = to-fifth ∙ goes (ltb 4096 (length corners / 3)) (refused TooMany) sixth (le-ltb 4096 (length corners / 3) f)
+            to-sixth = to-fifth ∙ goes (tooMany (length corners)) (refused TooMany) sixth f
 
             pub bad-out : length out < length corners → Done img cfg corners out (Refused BadOut) out
             bad-out h = refuses BadOut (to-sixth ∙ stops (ltb (length out) (length corners)) (refused BadOut) last (lt-ltb (length out) (length corners) h))

@@ -3,13 +3,17 @@ use mathlib.Core.Path.{_≡_, refl, sym, ap, _∙_, subst}
 use mathlib.Core.Bool.{Bool, false}
 use mathlib.Core.List.{List, [], _∷_, _++_, append-assoc, append-nil}
 use Prim.Native.Nat.{ℕ, zero, suc, _+_, _-_, _*_, _/_, _≤_, _<_}
-use native.Mathlib.Nat.{le-trans, add-zero}
+use native.Mathlib.Nat.{le-trans, le-of-eq, add-zero}
 use native.Mathlib.Numerals.{add-one}
 use native.Mathlib.Omega.{arith}
-use lib.ListN.{length, set, take, drop, length-append, length-drop, take-append-drop}
-use lib.Seq.{sets, sets-eq, take-at, drop-append-add, drop-drop}
+use lib.ListN.{length, take, drop, length-append, length-drop, take-append-drop, drop-of-length-le}
+use lib.Seq.{take-all, take-at, drop-append-add, drop-drop}
 use lib.Ieee.{Float}
 use Rattle.shapes.specs.Numbers.{entry}
+use borrow.Rule.Slice.PartMut.{midOf, putMid}
+use Rattle.corners.specs.declared.Corner.{Corner}
+use Rattle.corners.specs.Corners.{corner, flat, recorded}
+use Rattle.corners.proofs.CornerLaws.{recorded-parts}
 use Rattle.imageview.specs.Image.{Image}
 use Rattle.saddle_fit.specs.declared.SaddlePointConfig.{SaddlePointConfig}
 use Rattle.saddle_point.specs.declared.Spot.{Spot}
@@ -20,22 +24,21 @@ use Rattle.detect.specs.Refining.{recordOf, spotFor, recordsOf}
 use Rattle.detect.specs.Steps.{Front, Filled, Usable, Going}
 
 -- ---- one record
-two-more : (n : ℕ) → suc (suc n) ≡ n + 2
-two-more n = omega arith
-
-pub set-three : (l : List Float) (w : ℕ) (x y s : Float) → w + 3 ≤ length l → set (set (set l w x) (w + 1) y) (w + 2) s ≡ take w l ++ ((x ∷ y ∷ s ∷ []) ++ drop (w + 3) l)
-set-three l w x y s h =
-    ap (λ (k : ℕ). set (set (set l w x) k y) (w + 2) s) (add-one w)
-    ∙ ap (λ (k : ℕ). set (set (set l w x) (suc w) y) k s) (sym (two-more w))
-    ∙ sets-eq (x ∷ y ∷ s ∷ []) l w h
-    ∙ append-assoc (take w l) (x ∷ y ∷ s ∷ []) (drop (w + 3) l)
+-- a corner written to the front of what stands behind the first w numbers
+written-at : (l : List Float) (w : ℕ) (c : Corner) → w + 3 ≤ length l → putMid w (length l - w) l (recorded (midOf w (length l - w) l) 0 c) ≡ take w l ++ (flat (c ∷ []) ++ drop (w + 3) l)
+written-at l w c h =
+    ap (λ (t : List Float). take w l ++ (recorded t 0 c ++ drop (length l - w) (drop w l))) (take-all (length l - w) (drop w l) (le-of-eq (length-drop w l)))
+    ∙ ap (λ (t : List Float). take w l ++ (recorded (drop w l) 0 c ++ t)) (drop-of-length-le (drop w l) (le-of-eq (length-drop w l)))
+    ∙ ap (λ (t : List Float). take w l ++ t) (append-nil (recorded (drop w l) 0 c) ∙ recorded-parts (drop w l) 0 c (omega (arith, length-drop w l)))
+    ∙ ap (λ (t : List Float). take w l ++ (flat (c ∷ []) ++ t)) (drop-drop 3 w l)
 
 -- what a spot writes
 abbrev Puts : List Float → ℕ → Spot → Float → ℕ → List Float → Type 0
 Puts l w p s n l' = (n ≡ w + length (recordOf p s)) × (l' ≡ take w l ++ (recordOf p s ++ drop (w + length (recordOf p s)) l))
 
-pub puts : (l : List Float) (w : ℕ) (p : Spot) (x y s : Float) → p ≡ At x y → w + 3 ≤ length l → Puts l w p s (w + 3) (set (set (set l w x) (w + 1) y) (w + 2) s)
-puts l w p x y s e h = subst (λ (q : Spot). Puts l w q s (w + 3) (set (set (set l w x) (w + 1) y) (w + 2) s)) (sym e) (refl, set-three l w x y s h)
+pub puts : (l : List Float) (w : ℕ) (p : Spot) (x y s : Float) (part : List Float) → p ≡ At x y → w + 3 ≤ length l → part ≡ recorded (midOf w (length l - w) l) 0 (corner x y s) → Puts l w p s (w + 3) (putMid w (length l - w) l part)
+puts l w p x y s part e h f =
+    subst (λ (q : Spot). Puts l w q s (w + 3) (putMid w (length l - w) l part)) (sym e) (refl, ap (putMid w (length l - w) l) f ∙ written-at l w (corner x y s) h)
 
 pub puts-none : (l : List Float) (w : ℕ) (p : Spot) (s : Float) → p ≡ Nowhere → Puts l w p s w l
 puts-none l w p s e = subst (λ (q : Spot). Puts l w q s w l) (sym e) (sym (add-zero w), sym (ap (λ (k : ℕ). take w l ++ drop k l) (add-zero w) ∙ take-append-drop w l))

@@ -3,11 +3,12 @@
 use mathlib.Core.Path.{_≡_}
 use mathlib.Core.Bool.{Bool, true, false, not, cond}
 use mathlib.Core.List.{List, [], _∷_, _++_}
-use Prim.Native.Nat.{ℕ, zero, suc, _+_, _*_, _/_, _%_}
-use lib.Dec.{leb, ltb, eqb}
-use lib.ListN.{length, drop, getD}
-use lib.Ieee.{Float, nan}
+use Prim.Native.Nat.{ℕ, zero, suc, _+_, _*_, _/_}
+use lib.Dec.{leb, ltb}
+use lib.ListN.{length, drop}
+use lib.Ieee.{Float}
 use Rattle.shapes.specs.Numbers.{entry}
+use Rattle.corners.specs.Corners.{whole, tooMany}
 use Rattle.refusals.specs.declared.Refusal.{Refusal}
 use Rattle.refusals.specs.declared.Refusal.the-variants.{BadImage, BadRadius, BadLimit, BadLength, TooMany, BadOut}
 use Rattle.refusals.specs.Numbers as Refusals
@@ -24,9 +25,6 @@ use Rattle.detect.specs.declared.Refinements.the-variants.{Refined, Refu
 abbrev pub numberOf : Refinements → ℕ
 numberOf (Refined n) = 0
 numberOf (Refused r) = Refusals.numberOf r
-
-abbrev pub entry : List Float → ℕ → Float
-entry l i = getD l i nan
 
 -- what is written of a seed: where it was refined to and its own strength, if it was accepted
 abbrev pub recordOf : Spot → Float → List Float
@@ -55,8 +53,8 @@ wayOf img cfg corners room =
     cond (not (isImage img)) (refused BadImage)
     (cond (not (leb (cfg .radius) 7)) (refused BadRadius)
     (cond (not (goodLimits cfg)) (refused BadLimit)
-    (cond (not (eqb (length corners % 3) 0)) (refused BadLength)
-    (cond (ltb 4096 (length corners / 3)) (refused TooMany)
+    (cond (not (whole (length corners))) (refused BadLength)
+    (cond (tooMany (length corners)) (refused TooMany)
     (cond (ltb room (length corners)) (refused BadOut)
     (wrote (recordsOf img cfg corners (length corners / 3))))))))
 

@@ -34,10 +34,10 @@ pub fn refine_corners_on_image(
         return Refinements::Refused(Refusal::BadLimit);
     }
     let len = corners.len();
-    if len % 3 != 0 {
+    if !corners::is_whole(len) {
         return Refinements::Refused(Refusal::BadLength);
     }
-    if 4096 < len / 3 {
+    if corners::too_many(len) {
         return Refinements::Refused(Refusal::TooMany);
     }
     if out.len() < len {

@@ -7,6 +7,7 @@ ghost use Rattle.imageview.specs.Image.{imageOf};
 ghost use Rattle.fit_operator.specs.Call.{built, wayOf, columnsAfter};
 ghost use Rattle.detect.specs.Refining.{recordOf};
 ghost use Rattle.detect.specs.Steps.{Front, Filled, Usable};
+use corners::Corner;
 use fit_operator::Operator;
 use imageview::Sizes;
 use saddle_fit::SaddlePointConfig;
@@ -71,9 +72,7 @@ fn put(out: &mut [f32], written: usize, spot: Spot, strength: f32) -> usize
 {
     match spot {
         Spot::At { x, y } => {
-            out[written] = x;
-            out[written + 1] = y;
-            out[written + 2] = strength;
+            corners::put(&mut out[written..], 0, Corner { x, y, strength });
             written + 3
         }
         Spot::Nowhere => written,

@@ -12,10 +12,10 @@ use lib.Seq.{drop-cons}
 use lib.Ieee.{Float}
 use borrow.Author.Tests.{lt-ltb, ltb-true}
 use Rattle.shapes.specs.Numbers.{lesser, greater}
-use Rattle.merge.specs.Corners.{Corner, cornersOf}
+use Rattle.corners.proofs.CornerLaws.{length-corners, corner-at}
+use Rattle.corners.specs.Corners.{cornersOf, nowhere, cornerAt}
+use Rattle.corners.specs.declared.Corner.{Corner}
 use Rattle.merge.specs.Meets.{Box, boxFrom}
-use Rattle.merge.specs.Claims.{nowhere, at}
-use Rattle.merge.proofs.FlatLaws.{length-corners, corner-at}
 use Rattle.merge.proofs.LeastLaws.{same-bool}
 
 pub cond-true : {A : Type 0} (b : Bool) (x y : A) → b ≡ true → x ≡ cond b x y
@@ -42,7 +42,7 @@ pub box-turn :
     → boxFrom (drop (i + 1) (cornersOf l)) b' ≡ boxFrom (drop i (cornersOf l)) b
 unfolding boxFrom
 box-turn l i d b b' h p q r s =
-    let c = at (cornersOf l) i in
+    let c = cornerAt (cornersOf l) i in
     let k = corner-at l i d h in
     let left = p ∙ ap (λ (z : Corner). lesser (z .x) (b .minX)) (sym k) in
     let top = q ∙ ap (λ (z : Corner). lesser (z .y) (b .minY)) (sym k) in

@@ -2,7 +2,7 @@
 use mathlib.Core.Path.{_≡_, refl, sym, ap, _∙_, subst}
 use mathlib.Core.Bool.{Bool, true, false, not, _||_, cond}
 use mathlib.Core.List.{List, _++_}
-use Prim.Native.Nat.{ℕ, _+_, _*_, _/_, _%_, _≤_, _<_}
+use Prim.Native.Nat.{ℕ, _+_, _*_, _/_, _≤_, _<_}
 use native.Mathlib.Nat.{le-trans, le-mul-of-pos-right, mul-comm}
 use native.Mathlib.Omega.{arith}
 use lib.Dec.{eqb, ltb}
@@ -12,14 +12,15 @@ use lib.Ieee.{Float, binary32, mul, le}
 use lib.Ieee.Scale.{finite}
 use borrow.Author.Tests.{eq-eqb, ne-eqb, lt-ltb, le-ltb, ltb-false}
 use Rattle.shapes.specs.Numbers.{plusZero}
+use Rattle.corners.specs.Corners.{whole, tooMany, cornersOf}
+use Rattle.corners.specs.declared.Corner.{Corner}
 use Rattle.merge.specs.declared.Merge.{Merge}
-use Rattle.merge.specs.declared.Merge.the-variants.{Merged}
+use Rattle.merge.specs.declared.Merge.the-variants.{Merged, BadLength, TooMany, BadScratch, GridTooBig}
 use Rattle.merge.specs.declared.Cells.{Cells}
 use Rattle.merge.specs.declared.Extent.{Extent}
-use Rattle.merge.specs.Corners.{Corner, cornersOf}
 use Rattle.merge.specs.Meets.{Box, boxOf, finiteBox, inverse, along, cellAlong, gridOf, cellsAcross, cellsDown, neighbours, plainMeets, gridMeets}
 use Rattle.merge.specs.Fold.{merged}
-use Rattle.merge.specs.Call.{Way, badLength, tooMany, badScratch, gridTooBig, unmerged, scanned, gridded, idle, mergingWay, wayOf, Done}
+use Rattle.merge.specs.Call.{Way, refused, unmerged, scanned, gridded, idle, mergingWay, wayOf, Done}
 use Rattle.merge.specs.Steps.{asBox, columnIn, rowIn, total, meetsIn, Roomy, Filled, Left}
 
 -- ---- the merge itself
@@ -35,15 +36,15 @@ module _ (l : List Corner) (radius : Float) (heads : ℕ) where
 
   pub way-plain : finiteBox (boxOf l) ≡ false → mergingWay l radius heads ≡ plain
   unfolding mergingWay
-  way-plain e = ap (λ (b : Bool). cond (not b) plain (cond (ltb heads cells) gridTooBig grid)) e
+  way-plain e = ap (λ (b : Bool). cond (not b) plain (cond (ltb heads cells) (refused GridTooBig) grid)) e
 
-  pub way-big : finiteBox (boxOf l) ≡ true → ltb heads cells ≡ true → mergingWay l radius heads ≡ gridTooBig
+  pub way-big : finiteBox (boxOf l) ≡ true → ltb heads cells ≡ true → mergingWay l radius heads ≡ refused GridTooBig
   unfolding mergingWay
-  way-big e f = ap (λ (b : Bool). cond (not b) plain (cond (ltb heads cells) gridTooBig grid)) e ∙ ap (λ (b : Bool). cond b gridTooBig grid) f
+  way-big e f = ap (λ (b : Bool). cond (not b) plain (cond (ltb heads cells) (refused GridTooBig) grid)) e ∙ ap (λ (b : Bool). cond b (refused GridTooBig) grid) f
 
   pub way-grid : finiteBox (boxOf l) ≡ true → ltb heads cells ≡ false → mergingWay l radius heads ≡ grid
   unfolding mergingWay
-  way-grid e f = ap (λ (b : Bool). cond (not b) plain (cond (ltb heads cells) gridTooBig grid)) e ∙ ap (λ (b : Bool). cond b gridTooBig grid) f
+  way-grid e f = ap (λ (b : Bool). cond (not b) plain (cond (ltb heads cells) (refused GridTooBig) grid)) e ∙ ap (λ (b : Bool). cond b (refused GridTooBig) grid) f
 
 -- the cells that the code works with are those of the grid
 module _ (radius : Float) (l : List Corner) (e : Extent) (across down : ℕ)
@@ -112,37 +113,39 @@ module _ (list : List Float) (radius : Float) (heads links : ℕ) where
   resting = cond (eqb (length list) 0 || idle radius) unmerged merging
 
   abbrev linked : Way
-  linked = cond (ltb links (length list / 3)) badScratch resting
+  linked = cond (ltb links (length list / 3)) (refused BadScratch) resting
 
   abbrev counted : Way
-  counted = cond (ltb 4096 (length list / 3)) tooMany linked
+  counted = cond (tooMany (length list)) (refused TooMany) linked
 
-  pub way-length : (length list % 3 ≡ 0 → ⊥) → wayOf list radius heads links ≡ badLength
+  pub way-length : whole (length list) ≡ false → wayOf list radius heads links ≡ refused BadLength
   unfolding wayOf
-  way-length h = ap (λ (b : Bool). cond (not b) badLength counted) (ne-eqb (length list % 3) 0 h)
+  way-length h = ap (λ (b : Bool). cond (not b) (refused BadLength) counted) h
 
-  whole : length list % 3 ≡ 0 → wayOf list radius heads links ≡ counted
-  unfolding wayOf
-  whole h = ap (λ (b : Bool). cond (not b) badLength counted) (eq-eqb (length list % 3) 0 h)
+  module _ (h : whole (length list) ≡ true) where
+    records : wayOf list radius heads links ≡ counted
+    unfolding wayOf
+    records = ap (λ (b : Bool). cond (not b) (refused BadLength) counted) h
 
-  pub way-many : length list % 3 ≡ 0 → 4096 < length list / 3 → wayOf list radius heads links ≡ tooMany
-  way-many h m = whole h ∙ ap (λ (b : Bool). cond b tooMany linked) (lt-ltb 4096 (length list / 3) m)
+    pub way-many : tooMany (length list) ≡ true → wayOf list radius heads links ≡ refused TooMany
+    way-many m = records ∙ ap (λ (b : Bool). cond b (refused TooMany) linked) m
 
-  few : length list % 3 ≡ 0 → length list / 3 ≤ 4096 → wayOf list radius heads links ≡ linked
-  few h m = whole h ∙ ap (λ (b : Bool). cond b tooMany linked) (le-ltb 4096 (length list / 3) m)
+    module _ (m : tooMany (length list) ≡ false) where
+      few : wayOf list radius heads links ≡ linked
+      few = records ∙ ap (λ (b : Bool). cond b (refused TooMany) linked) m
 
-  pub way-scratch : length list % 3 ≡ 0 → length list / 3 ≤ 4096 → links < length list / 3 → wayOf list radius heads links ≡ badScratch
-  way-scratch h m s = few h m ∙ ap (λ (b : Bool). cond b badScratch resting) (lt-ltb links (length list / 3) s)
+      pub way-scratch : links < length list / 3 → wayOf list radius heads links ≡ refused BadScratch
+      way-scratch s = few ∙ ap (λ (b : Bool). cond b (refused BadScratch) resting) (lt-ltb links (length list / 3) s)
 
-  roomy : length list % 3 ≡ 0 → length list / 3 ≤ 4096 → length list / 3 ≤ links → wayOf list radius heads links ≡ resting
-  roomy h m s = few h m ∙ ap (λ (b : Bool). cond b badScratch resting) (le-ltb links (length list / 3) s)
+  module _ (h : whole (length list) ≡ true) (m : tooMany (length list) ≡ false) (s : length list / 3 ≤ links) where
+    roomy : wayOf list radius heads links ≡ resting
+    roomy = few h m ∙ ap (λ (b : Bool). cond b (refused BadScratch) resting) (le-ltb links (length list / 3) s)
 
-  module _ (h : length list % 3 ≡ 0) (m : length list / 3 ≤ 4096) (s : length list / 3 ≤ links) where
     pub way-empty : length list ≡ 0 → wayOf list radius heads links ≡ unmerged
-    way-empty e = roomy h m s ∙ ap (λ (b : Bool). cond (b || idle radius) unmerged merging) (eq-eqb (length list) 0 e)
+    way-empty e = roomy ∙ ap (λ (b : Bool). cond (b || idle radius) unmerged merging) (eq-eqb (length list) 0 e)
 
     full : (length list ≡ 0 → ⊥) → wayOf list radius heads links ≡ cond (idle radius) unmerged merging
-    full e = roomy h m s ∙ ap (λ (b : Bool). cond (b || idle radius) unmerged merging) (ne-eqb (length list) 0 e)
+    full e = roomy ∙ ap (λ (b : Bool). cond (b || idle radius) unmerged merging) (ne-eqb (length list) 0 e)
 
     pub way-infinite : (length list ≡ 0 → ⊥) → finite radius ≡ false → wayOf list radius heads links ≡ unmerged
     way-infinite e f = full e ∙ ap (λ (b : Bool). cond (not b || le radius plusZero) unmerged merging) f

@@ -6,23 +6,23 @@ use mathlib.Core.List.{List, [], _∷_, _++_}
 use Prim.Native.Nat.{zero, suc, _≤_, _<_, zero-le, suc-le-suc}
 use native.Mathlib.Nat.{not-suc-le-zero, le-of-suc-le-suc}
 use lib.ListN.{length, set}
-use Rattle.merge.specs.Corners.{Corner}
+use Rattle.corners.specs.Corners.{cornerAt}
+use Rattle.corners.specs.declared.Corner.{Corner}
 use Rattle.merge.specs.Fold.{stronger, place, placeOf}
-use Rattle.merge.specs.Claims.{at}
 use Rattle.merge.specs.Steps.{least}
 use Rattle.merge.proofs.LeastLaws.{IsLeast, is-least}
 
 module _ (meets : Corner → Corner → Bool) (c : Corner) where
   -- a corner that meets one goes to its place
-  pub place-hit : (l : List Corner) → placeOf meets c l < length l → place meets c l ≡ set l (placeOf meets c l) (stronger c (at l (placeOf meets c l)))
+  pub place-hit : (l : List Corner) → placeOf meets c l < length l → place meets c l ≡ set l (placeOf meets c l) (stronger c (cornerAt l (placeOf meets c l)))
   unfolding place placeOf
   place-hit [] h = absurd (not-suc-le-zero h)
   place-hit (k ∷ l) h = go (place-hit l) (meets c k) h
     where
       go :
-          (placeOf meets c l < length l → place meets c l ≡ set l (placeOf meets c l) (stronger c (at l (placeOf meets c l)))) → (b : Bool)
+          (placeOf meets c l < length l → place meets c l ≡ set l (placeOf meets c l) (stronger c (cornerAt l (placeOf meets c l)))) → (b : Bool)
           → cond b zero (suc (placeOf meets c l)) < suc (length l)
-          → cond b (stronger c k ∷ l) (k ∷ place meets c l) ≡ set (k ∷ l) (cond b zero (suc (placeOf meets c l))) (stronger c (at (k ∷ l) (cond b zero (suc (placeOf meets c l)))))
+          → cond b (stronger c k ∷ l) (k ∷ place meets c l) ≡ set (k ∷ l) (cond b zero (suc (placeOf meets c l))) (stronger c (cornerAt (k ∷ l) (cond b zero (suc (placeOf meets c l)))))
       go ih true h = refl
       go ih false h = ap (λ (t : List Corner). k ∷ t) (ih (le-of-suc-le-suc h))
 
@@ -38,14 +38,14 @@ module _ (meets : Corner → Corner → Bool) (c : Corner) where
       go ih true h = absurd (not-suc-le-zero h)
       go ih false h = ap (λ (t : List Corner). k ∷ t) (ih (le-of-suc-le-suc h))
 
-  place-is : (l : List Corner) → IsLeast (λ j. meets c (at l j)) (length l) (length l) (placeOf meets c l)
+  place-is : (l : List Corner) → IsLeast (λ j. meets c (cornerAt l j)) (length l) (length l) (placeOf meets c l)
   unfolding placeOf
   place-is [] = record { lower = zero-le; below = λ j h. absurd (not-suc-le-zero h); found = inl refl }
   place-is (k ∷ l) = go (meets c k) refl (place-is l)
     where
       go :
-          (b : Bool) → meets c k ≡ b → IsLeast (λ j. meets c (at l j)) (length l) (length l) (placeOf meets c l)
-          → IsLeast (λ j. meets c (at (k ∷ l) j)) (suc (length l)) (suc (length l)) (cond b zero (suc (placeOf meets c l)))
+          (b : Bool) → meets c k ≡ b → IsLeast (λ j. meets c (cornerAt l j)) (length l) (length l) (placeOf meets c l)
+          → IsLeast (λ j. meets c (cornerAt (k ∷ l) j)) (suc (length l)) (suc (length l)) (cond b zero (suc (placeOf meets c l)))
       go true e ih = record { lower = zero-le; below = λ j h t. zero-le; found = inr (suc-le-suc zero-le, e) }
       go false e ih =
           record {
@@ -55,5 +55,5 @@ module _ (meets : Corner → Corner → Bool) (c : Corner) where
           }
 
   -- the place is the least number that is met
-  pub place-least : (l : List Corner) → placeOf meets c l ≡ least (λ j. meets c (at l j)) (length l) (length l)
-  place-least l = is-least (λ j. meets c (at l j)) (length l) (length l) (placeOf meets c l) (place-is l)
+  pub place-least : (l : List Corner) → placeOf meets c l ≡ least (λ j. meets c (cornerAt l j)) (length l) (length l)
+  place-least l = is-least (λ j. meets c (cornerAt l j)) (length l) (length l) (placeOf meets c l) (place-is l)

@@ -13,13 +13,13 @@ use lib.ListN.{length, getD, set, take, length-map, length-set, length-append}
 use lib.Seq.{length-take-le, getD-take, take-set-lt, take-suc-set, getD-set-same, getD-set-other, set-set, set-at, getD-at}
 use lib.Ieee.{Float, binary32, sub, mul, toUnsigned}
 use borrow.Author.Tests.{eq-eqb, ne-eqb, eqb-true, leb-true, le-leb}
+use Rattle.corners.proofs.CornerLaws.{length-corners}
+use Rattle.corners.specs.Corners.{cornersOf, nowhere, cornerAt}
+use Rattle.corners.specs.declared.Corner.{Corner}
 use Rattle.merge.specs.declared.Cells.{Cells}
 use Rattle.merge.specs.declared.Disc.{Disc}
-use Rattle.merge.specs.Corners.{Corner, cornersOf}
 use Rattle.merge.specs.Meets.{near, touch}
-use Rattle.merge.specs.Claims.{nowhere, at}
 use Rattle.merge.specs.Steps.{within, least, top, Chains, Falling, inCell, Walked, Member, Unlinked, Joinable, Linked, columnIn, rowIn, cellIn, total, cellsOf, meetsIn, Roomy, Chained, columnAt, rowAt, inOneCell, inThreeCells, inNineCells}
-use Rattle.merge.proofs.FlatLaws.{length-corners}
 use Rattle.merge.proofs.LeastLaws.{either-true, or-left, or-right, same-bool, least-three, least-same, least-none}
 use Rattle.merge.proofs.ChainLaws.{top-le, top-none, top-hit, top-above, chain-falling, chains-more}
 
@@ -139,12 +139,12 @@ module _ (g : Cells) (list : List Float) (n : ℕ) (there : 3 * n ≤ length lis
   pub cells-length : length (cellsOf g list n) ≡ n
   cells-length = length-map (take n (cornersOf list)) (cellIn g) ∙ counted
 
-  pub cells-at : (j : ℕ) → j < n → getD (cellsOf g list n) j 0 ≡ cellIn g (at (cornersOf list) j)
+  pub cells-at : (j : ℕ) → j < n → getD (cellsOf g list n) j 0 ≡ cellIn g (cornerAt (cornersOf list) j)
   cells-at j h = getD-map (cellIn g) (take n (cornersOf list)) j 0 nowhere (omega (arith, counted)) ∙ ap (cellIn g) (getD-take n (cornersOf list) j nowhere h)
 
   pub cells-in : 0 < g .across → 0 < g .down → (j : ℕ) → j < n → getD (cellsOf g list n) j 0 < total g
   cells-in wide high j h =
-      subst (λ (k : ℕ). k < total g) (sym (cells-at j h)) (cell-lt (g .across) (g .down) (rowAt g list j) (columnAt g list j) (row-lt g (at (cornersOf list) j .y) high) (column-lt g (at (cornersOf list) j .x) wide))
+      subst (λ (k : ℕ). k < total g) (sym (cells-at j h)) (cell-lt (g .across) (g .down) (rowAt g list j) (columnAt g list j) (row-lt g (cornerAt (cornersOf list) j .y) high) (column-lt g (cornerAt (cornersOf list) j .x) wide))
 
 -- ---- one cell, three cells, nine cells
 module _ {g : Cells} {list : List Float} {n : ℕ} {heads links : List ℕ} (k : Chained g list n heads links) where
@@ -166,7 +166,7 @@ module _ {g : Cells} {list : List Float} {n : ℕ} {heads links : List ℕ} (k :
     no-column column row e = other-column column row (λ j q. let z : ⊥ = omega arith in z)
 
     pub past-column : (column row : ℕ) → g .across < column → best ≡ least (inOneCell g list d column row) n best
-    past-column column row e = other-column column row (λ j q. let z : ⊥ = omega (arith, column-lt g (at (cornersOf list) j .x) (k .roomy .wide)) in z)
+    past-column column row e = other-column column row (λ j q. let z : ⊥ = omega (arith, column-lt g (cornerAt (cornersOf list) j .x) (k .roomy .wide)) in z)
 
     pub walked-in : (c r : ℕ) → c < total g → Walked list links (getD heads c 0) d best r → r ≡ least (inCell (cellsOf g list n) c (within d list)) n best
     walked-in c r l walked =
@@ -191,7 +191,7 @@ module _ {g : Cells} {list : List Float} {n : ℕ} {heads links : List ℕ} (k :
         same : (j : ℕ) → j < n → eqb (getD (cellsOf g list n) j 0) (row * g .across + (column - 1)) ≡ (eqb (columnAt g list j + 1) column && eqb (rowAt g list j) row)
         same j h =
             ap (λ (m : ℕ). eqb m (row * g .across + (column - 1))) (cells-at g list n (k .there) j h)
-            ∙ same-cell (g .across) (rowAt g list j) (columnAt g list j) row (column - 1) (column-lt g (at (cornersOf list) j .x) (k .roomy .wide)) (omega arith)
+            ∙ same-cell (g .across) (rowAt g list j) (columnAt g list j) row (column - 1) (column-lt g (cornerAt (cornersOf list) j .x) (k .roomy .wide)) (omega arith)
             ∙ ap (λ (t : Bool). t && eqb (rowAt g list j) row) (one-more (columnAt g list j) column low)
 
     other-row : (column row : ℕ) → ((j : ℕ) → rowAt g list j + 1 ≡ row → ⊥) → best ≡ least (inThreeCells g list d column row) n best
@@ -206,7 +206,7 @@ module _ {g : Cells} {list : List Float} {n : ℕ} {heads links : List ℕ} (k :
     no-row column row e = other-row column row (λ j q. let z : ⊥ = omega arith in z)
 
     pub past-row : (column row : ℕ) → g .down < row → best ≡ least (inThreeCells g list d column row) n best
-    past-row column row e = other-row column row (λ j q. let z : ⊥ = omega (arith, row-lt g (at (cornersOf list) j .y) (k .roomy .high)) in z)
+    past-row column row e = other-row column row (λ j q. let z : ⊥ = omega (arith, row-lt g (cornerAt (cornersOf list) j .y) (k .roomy .high)) in z)
 
     pub three-cells :
         (column row a b r : ℕ) → 0 < row → a ≡ least (inOneCell g list d column (row - 1)) n best
@@ -245,7 +245,7 @@ module _ {g : Cells} {list : List Float} {n : ℕ} {heads links : List ℕ} (k :
   all-in i h = cells-in g list n (k .there) (k .roomy .wide) (k .roomy .high) i (omega (arith, long))
 
   -- a kept corner stands in the chain of its cell
-  pub kept-member : (j : ℕ) → j < n → (c : ℕ) → c ≡ cellIn g (at (cornersOf list) j) → Member heads links c j
+  pub kept-member : (j : ℕ) → j < n → (c : ℕ) → c ≡ cellIn g (cornerAt (cornersOf list) j) → Member heads links c j
   kept-member j h c e =
       let here : getD (cellsOf g list n) j 0 ≡ c = cells-at g list n (k .there) j h ∙ sym e in
       let inside : c < total g = subst (λ (m : ℕ). m < total g) here (all-in j (omega (arith, long))) in
@@ -261,7 +261,7 @@ module _ {g : Cells} {list : List Float} {n : ℕ} {heads links : List ℕ} (k :
       }
 
   pub kept-leaves :
-      (j : ℕ) → j < n → (c : ℕ) → c ≡ cellIn g (at (cornersOf list) j) → (heads' links' : List ℕ)
+      (j : ℕ) → j < n → (c : ℕ) → c ≡ cellIn g (cornerAt (cornersOf list) j) → (heads' links' : List ℕ)
       → Unlinked heads links c j heads' links' → Chains (total g) (set (cellsOf g list n) j (total g)) heads' links'
   kept-leaves j h c e heads' links' unlinked =
       let here : getD (cellsOf g list n) j 0 ≡ c = cells-at g list n (k .there) j h ∙ sym e in
@@ -346,7 +346,7 @@ pub nine-meets :
     (g : Cells) (list : List Float) (new : Corner) (r2 : Float) (count column row met : ℕ)
     → column ≡ columnIn g (new .x) → row ≡ rowIn g (new .y)
     → met ≡ least (inNineCells g list (record { x = new .x; y = new .y; r2 = r2 }) column row) count count
-    → met ≡ least (λ j. meetsIn g r2 new (at (cornersOf list) j)) count count
+    → met ≡ least (λ j. meetsIn g r2 new (cornerAt (cornersOf list) j)) count count
 unfolding near within
 nine-meets g list new r2 count column row met ec er e =
     e

@@ -1,5 +1,5 @@
 -- Laws over the definitions of merging.
-pub mod FlatLaws
+pub mod FillLaws
 pub mod FoldLaws
 pub mod LeastLaws
 pub mod ChainLaws

@@ -9,55 +9,55 @@ use lib.ListN.{length, getD, set, take, drop, replicate, drop-of-length-le}
 use lib.Seq.{length-take-le, getD-take, take-set-lt, drop-set-lt, take-suc-set, set-getD, drop-cons}
 use lib.Ieee.{Float, lt}
 use Rattle.shapes.specs.Numbers.{plusZero}
-use Rattle.merge.specs.Corners.{Corner, cornersOf, flat}
+use Rattle.corners.proofs.CornerLaws.{length-corners, read, corner-at, take-flat}
+use Rattle.corners.specs.Corners.{cornersOf, flat, nowhere, cornerAt}
+use Rattle.corners.specs.declared.Corner.{Corner}
 use Rattle.merge.specs.Fold.{stronger, place, placeOf, mergeFrom, merged}
-use Rattle.merge.specs.Claims.{nowhere, at}
 use Rattle.merge.specs.Steps.{least, Stepped, Passed, Filled}
-use Rattle.merge.proofs.FlatLaws.{length-corners, read, corner-at, take-flat}
 use Rattle.merge.proofs.LeastLaws.{least-same}
 use Rattle.merge.proofs.FoldLaws.{place-hit, place-none, place-least}
 
 module _ (meets : Corner → Corner → Bool) (l : List Corner) (i count met : ℕ) (new : Corner)
-    (here : at l i ≡ new) (order : count ≤ i) (within : i < length l) (found : met ≡ least (λ j. meets new (at l j)) count count) where
+    (here : cornerAt l i ≡ new) (order : count ≤ i) (within : i < length l) (found : met ≡ least (λ j. meets new (cornerAt l j)) count count) where
   counted : length (take count l) ≡ count
   counted = length-take-le count l (omega arith)
 
-  kept-at : (j : ℕ) → j < count → at (take count l) j ≡ at l j
+  kept-at : (j : ℕ) → j < count → cornerAt (take count l) j ≡ cornerAt l j
   kept-at j h = getD-take count l j nowhere h
 
   -- where the corner goes
   goes : placeOf meets new (take count l) ≡ met
   goes =
       place-least meets new (take count l)
-      ∙ ap (λ (n : ℕ). least (λ j. meets new (at (take count l) j)) n n) counted
-      ∙ least-same (λ j. meets new (at (take count l) j)) (λ j. meets new (at l j)) count count (λ j h. ap (meets new) (kept-at j h))
+      ∙ ap (λ (n : ℕ). least (λ j. meets new (cornerAt (take count l) j)) n n) counted
+      ∙ least-same (λ j. meets new (cornerAt (take count l) j)) (λ j. meets new (cornerAt l j)) count count (λ j h. ap (meets new) (kept-at j h))
       ∙ sym found
 
   rest-of : (j : ℕ) → j ≤ i → drop (i + 1) (set l j new) ≡ drop (i + 1) l
   rest-of j h = drop-set-lt (i + 1) l j new (omega arith)
 
-  met-place : met < count → place meets (at l i) (take count l) ≡ set (take count l) met (stronger new (at l met))
+  met-place : met < count → place meets (cornerAt l i) (take count l) ≡ set (take count l) met (stronger new (cornerAt l met))
   met-place h =
       ap (λ (c : Corner). place meets c (take count l)) here
       ∙ place-hit meets new (take count l) (omega (arith, goes, counted))
-      ∙ ap (λ (p : ℕ). set (take count l) p (stronger new (at (take count l) p))) goes
+      ∙ ap (λ (p : ℕ). set (take count l) p (stronger new (cornerAt (take count l) p))) goes
       ∙ ap (λ (k : Corner). set (take count l) met (stronger new k)) (kept-at met h)
 
-  pub step-replaces : met < count → lt (at l met .strength) (new .strength) ≡ true → (after : List Corner) → after ≡ set l met new → Stepped meets i count l after count
+  pub step-replaces : met < count → lt (cornerAt l met .strength) (new .strength) ≡ true → (after : List Corner) → after ≡ set l met new → Stepped meets i count l after count
   step-replaces h weak after e =
       record {
-        kept = ap (take count) e ∙ take-set-lt count l met new h ∙ ap (λ (b : Bool). set (take count l) met (cond b new (at l met))) (sym weak) ∙ sym (met-place h);
+        kept = ap (take count) e ∙ take-set-lt count l met new h ∙ ap (λ (b : Bool). set (take count l) met (cond b new (cornerAt l met))) (sym weak) ∙ sym (met-place h);
         rest = ap (drop (i + 1)) e ∙ rest-of met (omega arith);
         bound = omega arith;
       }
 
-  pub step-stays : met < count → lt (at l met .strength) (new .strength) ≡ false → Stepped meets i count l l count
+  pub step-stays : met < count → lt (cornerAt l met .strength) (new .strength) ≡ false → Stepped meets i count l l count
   step-stays h strong =
       record {
         kept =
             sym (set-getD (take count l) met nowhere)
             ∙ ap (λ (k : Corner). set (take count l) met k) (kept-at met h)
-            ∙ ap (λ (b : Bool). set (take count l) met (cond b new (at l met))) (sym strong)
+            ∙ ap (λ (b : Bool). set (take count l) met (cond b new (cornerAt l met))) (sym strong)
             ∙ sym (met-place h);
         rest = refl;
         bound = omega arith;
@@ -83,7 +83,7 @@ pub pass-turn :
 unfolding mergeFrom
 pass-turn {meets} {i} {count} {before} {after} {count'} h s =
     ap (λ (k : List Corner). mergeFrom meets k (drop (i + 1) after)) (s .kept)
-    ∙ ap (mergeFrom meets (place meets (at before i) (take count before))) (s .rest ∙ ap (λ (n : ℕ). drop n before) (add-one i))
+    ∙ ap (mergeFrom meets (place meets (cornerAt before i) (take count before))) (s .rest ∙ ap (λ (n : ℕ). drop n before) (add-one i))
     ∙ ap (mergeFrom meets (take count before)) (sym (drop-cons before i nowhere h))
 
 pub pass-start : (meets : Corner → Corner → Bool) (l : List Corner) → mergeFrom meets (take 0 l) (drop 0 l) ≡ merged meets l
@@ -112,11 +112,11 @@ fill-kept {meets} {list} {list'} {list''} {count} p same e =
     }
 
 -- ---- the same, with the floats as they are read
-module _ (meets : Corner → Corner → Bool) (list : List Float) (i count met : ℕ) (d : Float) (order : count ≤ i) (room : 3 * i + 2 < length list) (found : met ≡ least (λ j. meets (read list i d) (at (cornersOf list) j)) count count) where
+module _ (meets : Corner → Corner → Bool) (list : List Float) (i count met : ℕ) (d : Float) (order : count ≤ i) (room : 3 * i + 2 < length list) (found : met ≡ least (λ j. meets (read list i d) (cornerAt (cornersOf list) j)) count count) where
   inside : i < length (cornersOf list)
   inside = omega (arith, length-corners list)
 
-  weaker : (b : Bool) → met < count → lt (getD list (3 * met + 2) d) (getD list (3 * i + 2) d) ≡ b → lt (at (cornersOf list) met .strength) (getD list (3 * i + 2) d) ≡ b
+  weaker : (b : Bool) → met < count → lt (getD list (3 * met + 2) d) (getD list (3 * i + 2) d) ≡ b → lt (cornerAt (cornersOf list) met .strength) (getD list (3 * i + 2) d) ≡ b
   weaker b h e = ap (λ (k : Corner). lt (k .strength) (getD list (3 * i + 2) d)) (corner-at list met d (omega arith)) ∙ e
 
   pub replaces :

@@ -3,15 +3,16 @@
 use mathlib.Core.Path.{_≡_}
 use mathlib.Core.Bool.{Bool, not, _||_, cond}
 use mathlib.Core.List.{List, _++_}
-use Prim.Native.Nat.{ℕ, _-_, _*_, _/_, _%_}
+use Prim.Native.Nat.{ℕ, _-_, _*_, _/_}
 use lib.Dec.{eqb, ltb}
 use lib.ListN.{length, replicate}
 use lib.Ieee.{Float, binary32, mul, le}
 use lib.Ieee.Scale.{finite}
 use Rattle.shapes.specs.Numbers.{plusZero}
+use Rattle.corners.specs.Corners.{whole, tooMany, cornersOf, flat}
+use Rattle.corners.specs.declared.Corner.{Corner}
 use Rattle.merge.specs.declared.Merge.{Merge}
 use Rattle.merge.specs.declared.Merge.the-variants.{Merged, BadLength, TooMany, BadScratch, GridTooBig}
-use Rattle.merge.specs.Corners.{Corner, cornersOf, flat}
 use Rattle.merge.specs.Meets.{boxOf, finiteBox, gridOf, cellsAcross, cellsDown, plainMeets, gridMeets}
 use Rattle.merge.specs.Fold.{merged}
 
@@ -24,7 +25,7 @@ numberOf BadScratch = 18
 numberOf GridTooBig = 17
 
 pub data Way : Type 0 where
-  badLength tooMany badScratch gridTooBig : Way
+  refused : Merge → Way
   unmerged : Way
   scanned : List Corner → Way
   gridded : List Corner → Way
@@ -38,23 +39,20 @@ mergingWay l radius heads =
     let g = gridOf radius l in
     let r2 = mul binary32 radius radius in
     cond (not (finiteBox (boxOf l))) (scanned (merged (plainMeets r2) l))
-    (cond (ltb heads (cellsAcross g * cellsDown g)) gridTooBig
+    (cond (ltb heads (cellsAcross g * cellsDown g)) (refused GridTooBig)
     (gridded (merged (gridMeets g r2) l)))
 
 unfoldable pub wayOf : List Float → Float → ℕ → ℕ → Way
 unfolding mergingWay
 wayOf list radius heads links =
-    cond (not (eqb (length list % 3) 0)) badLength
-    (cond (ltb 4096 (length list / 3)) tooMany
-    (cond (ltb links (length list / 3)) badScratch
+    cond (not (whole (length list))) (refused BadLength)
+    (cond (tooMany (length list)) (refused TooMany)
+    (cond (ltb links (length list / 3)) (refused BadScratch)
     (cond (eqb (length list) 0 || idle radius) unmerged
     (mergingWay (cornersOf list) radius heads))))
 
 abbrev pub answerOf : List Float → Way → Merge
-answerOf list badLength = BadLength
-answerOf list tooMany = TooMany
-answerOf list badScratch = BadScratch
-answerOf list gridTooBig = GridTooBig
+answerOf list (refused r) = r
 answerOf list unmerged = Merged (length list / 3)
 answerOf list (scanned kept) = Merged (length kept)
 answerOf list (gridded kept) = Merged (length kept)
@@ -64,20 +62,14 @@ abbrev pub filled : List Float → List Corner → List Float
 filled list kept = flat kept ++ replicate (length list - 3 * length kept) plusZero
 
 abbrev pub listAfter : List Float → Way → List Float
-listAfter list badLength = list
-listAfter list tooMany = list
-listAfter list badScratch = list
-listAfter list gridTooBig = list
+listAfter list (refused r) = list
 listAfter list unmerged = list
 listAfter list (scanned kept) = filled list kept
 listAfter list (gridded kept) = filled list kept
 
 -- of heads and of links
 abbrev pub scratchAfter : List ℕ → Way → List ℕ
-scratchAfter s badLength = s
-scratchAfter s tooMany = s
-scratchAfter s badScratch = s
-scratchAfter s gridTooBig = s
+scratchAfter s (refused r) = s
 scratchAfter s unmerged = s
 scratchAfter s (scanned kept) = s
 scratchAfter s (gridded kept) = replicate (length s) 0

@@ -4,31 +4,24 @@ use mathlib.Core.Path.{_≡_}
 use mathlib.Core.Logic.{_⊎_}
 use mathlib.Core.Bool.{Bool, true, false}
 use mathlib.Core.List.{List}
-use Prim.Native.Nat.{ℕ, _≤_, _<_}
-use lib.IntN.{pos}
+use Prim.Native.Nat.{ℕ, _<_}
 use lib.ListN.{length, getD}
-use lib.Ieee.{fin, lt}
-use Rattle.merge.specs.Corners.{Corner}
+use lib.Ieee.{lt}
+use Rattle.corners.specs.Corners.{cornerAt}
+use Rattle.corners.specs.declared.Corner.{Corner}
 use Rattle.merge.specs.Fold.{merged, places}
-
--- what stands past the end of a list; no claim is about it
-abbrev pub nowhere : Corner
-nowhere = record { x = fin false 0 (pos 0); y = fin false 0 (pos 0); strength = fin false 0 (pos 0) }
-
-abbrev pub at : List Corner → ℕ → Corner
-at l i = getD l i nowhere
 
 abbrev pub placeAt : (Corner → Corner → Bool) → List Corner → ℕ → ℕ
 placeAt meets l i = getD (places meets l) i 0
 
 -- no corner of the list meets an earlier one
 abbrev pub Separated : (Corner → Corner → Bool) → List Corner → Type 0
-Separated meets l = (i j : ℕ) → i < j → j < length l → meets (at l j) (at l i) ≡ false
+Separated meets l = (i j : ℕ) → i < j → j < length l → meets (cornerAt l j) (cornerAt l i) ≡ false
 
 -- a chain of corners of the list, each meeting the next, whichever of the two comes first
 pub data Joined (meets : Corner → Corner → Bool) (l : List Corner) : ℕ → ℕ → Type 0 where
   here : {i : ℕ} → Joined meets l i i
-  next : {i k : ℕ} (j : ℕ) → j < length l → (meets (at l i) (at l j) ≡ true) ⊎ (meets (at l j) (at l i) ≡ true) → Joined meets l j k → Joined meets l i k
+  next : {i k : ℕ} (j : ℕ) → j < length l → (meets (cornerAt l i) (cornerAt l j) ≡ true) ⊎ (meets (cornerAt l j) (cornerAt l i) ≡ true) → Joined meets l j k → Joined meets l i k
 
 -- Separated corners stay.
 abbrev pub Stays : (Corner → Corner → Bool) → List Corner → Type 0
@@ -42,7 +35,7 @@ Local meets l = (i j : ℕ) → i < length l → j < length l → placeAt meets 
 pub record Kept (meets : Corner → Corner → Bool) (l : List Corner) (p : ℕ) : Type 0 where
   pub from : ℕ
   pub within : from < length l
-  pub same : at (merged meets l) p ≡ at l from
+  pub same : cornerAt (merged meets l) p ≡ cornerAt l from
   pub went : placeAt meets l from ≡ p
 
 abbrev pub Uninvented : (Corner → Corner → Bool) → List Corner → Type 0
@@ -60,11 +53,11 @@ Ordered meets l = (i p : ℕ) → i < length l → p < placeAt meets l i → Ear
 -- Every corner's place is there at the end, and holds a corner that is not weaker. Where a strength is a NaN, neither is weaker than the other.
 pub record Held (meets : Corner → Corner → Bool) (l : List Corner) (i : ℕ) : Type 0 where
   pub there : placeAt meets l i < length (merged meets l)
-  pub strong : lt (at (merged meets l) (placeAt meets l i) .strength) (at l i .strength) ≡ false
+  pub strong : lt (cornerAt (merged meets l) (placeAt meets l i) .strength) (cornerAt l i .strength) ≡ false
 
 abbrev pub StrongHeld : (Corner → Corner → Bool) → List Corner → Type 0
 StrongHeld meets l = (i : ℕ) → i < length l → Held meets l i
 
 -- One rule stands in for another on a list where they say the same of every two corners.
 abbrev pub Alike : (Corner → Corner → Bool) → (Corner → Corner → Bool) → List Corner → Type 0
-Alike meets meets' l = (i j : ℕ) → i < length l → j < length l → meets (at l i) (at l j) ≡ meets' (at l i) (at l j)
+Alike meets meets' l = (i j : ℕ) → i < length l → j < length l → meets (cornerAt l i) (cornerAt l j) ≡ meets' (cornerAt l i) (cornerAt l j)

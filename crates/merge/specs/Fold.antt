@@ -1,10 +1,10 @@
 -- Merging is a fold over the corners in order, whoever meets whom: each corner meets the lowest-numbered kept corner that it can, and takes
 -- its place only if it is strictly stronger; a corner that meets none is kept behind the others.
-use mathlib.Core.Bool.{Bool, true, false, cond}
+use mathlib.Core.Bool.{Bool, cond}
 use mathlib.Core.List.{List, [], _∷_}
 use Prim.Native.Nat.{ℕ, zero, suc}
 use lib.Ieee.{lt}
-use Rattle.merge.specs.Corners.{Corner}
+use Rattle.corners.specs.declared.Corner.{Corner}
 
 -- of a corner that comes and the one that is there
 abbrev pub stronger : Corner → Corner → Corner

@@ -1,5 +1,4 @@
 -- What merging means: corners in a flat list, the two rules by which corners meet, the fold that merges, and what the public call answers and leaves behind.
-pub mod Corners
 pub mod Meets
 pub mod Fold
 pub mod Call

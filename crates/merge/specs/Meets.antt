@@ -1,22 +1,21 @@
--- Which corners meet. `near` is the test of both routines: dx² + dy² <= r² in binary32, one rounding an operation.
+-- Which corners meet. `near` is the test of both routines: the squared distance is at most r².
 -- The plain scan asks nothing else. The grid asks besides that the two lie in cells that touch: cells are squares with the radius for a side,
 -- laid from the least x and y on, and a corner beyond the last cell counts to the last.
 use mathlib.Core.Bool.{Bool, true, false, _&&_}
 use mathlib.Core.List.{List, [], _∷_}
 use Prim.Native.Nat.{ℕ, _+_, _-_, min}
 use lib.Dec.{leb}
-use lib.Ieee.{Float, inf, binary32, add, sub, mul, div, le, toUnsigned}
+use lib.Ieee.{Float, inf, binary32, sub, mul, div, le, toUnsigned}
 use lib.Ieee.Scale.{finite}
 use Rattle.floats.specs.Whole.{floor}
 use Rattle.shapes.specs.Numbers.{one, lesser, greater}
-use Rattle.merge.specs.Corners.{Corner}
+use Rattle.corners.specs.declared.Corner.{Corner}
+use Rattle.corners.specs.Corners.{squaredDistance}
 
 -- a corner that comes, and one that is kept
 unfoldable pub near : Float → Corner → Corner → Bool
-near r2 c k =
-    let dx = sub binary32 (c .x) (k .x) in
-    let dy = sub binary32 (c .y) (k .y) in
-    le (add binary32 (mul binary32 dx dx) (mul binary32 dy dy)) r2
+unfolding squaredDistance
+near r2 c k = le (squaredDistance (c .x) (c .y) (k .x) (k .y)) r2
 
 -- ---- the box: the least and the greatest x and y. A NaN is neither less nor greater, so it does not stretch the box
 pub record Box : Type 0 where

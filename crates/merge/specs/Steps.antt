@@ -9,18 +9,15 @@ use lib.Dec.{eqb, ltb}
 use lib.ListN.{length, getD, set, take, drop}
 use lib.Ieee.{Float, binary32, sub, mul, toUnsigned}
 use Rattle.shapes.specs.Numbers.{plusZero}
+use Rattle.corners.specs.Corners.{cornersOf, cornerAt, corner}
+use Rattle.corners.specs.declared.Corner.{Corner}
 use Rattle.merge.specs.declared.Merge.{Merge}
 use Rattle.merge.specs.declared.Disc.{Disc}
 use Rattle.merge.specs.declared.Cells.{Cells}
 use Rattle.merge.specs.declared.Extent.{Extent}
-use Rattle.merge.specs.Corners.{Corner, cornersOf}
 use Rattle.merge.specs.Meets.{near, touch, Box}
 use Rattle.merge.specs.Fold.{place, merged}
 use Rattle.merge.specs.Call.{Way, answerOf, listAfter, scratchAfter, filled}
-use Rattle.merge.specs.Claims.{at}
-
-abbrev pub corner : Float → Float → Float → Corner
-corner a b s = record { x = a; y = b; strength = s }
 
 -- ---- whom a place meets; the strength does not matter there
 abbrev pub point : Float → Float → Corner
@@ -29,7 +26,7 @@ point a b = corner a b plusZero
 -- whether corner j of a flat list lies in a disc
 unfoldable pub within : Disc → List Float → ℕ → Bool
 unfolding near
-within d list j = near (d .r2) (point (d .x) (d .y)) (at (cornersOf list) j)
+within d list j = near (d .r2) (point (d .x) (d .y)) (cornerAt (cornersOf list) j)
 
 abbrev pub pick : Disc → List Float → ℕ → ℕ → ℕ
 pick d list j best = cond (within d list j && ltb j best) j best
@@ -137,10 +134,10 @@ Among g list j heads links = (n : ℕ) × Chained g list n heads links × (j < n
 
 -- ---- what is looked for in one cell, in the three of a row, and in all nine; a column or a row is one more than the cell's where it is one of several
 abbrev pub columnAt : Cells → List Float → ℕ → ℕ
-columnAt g list j = columnIn g (at (cornersOf list) j .x)
+columnAt g list j = columnIn g (cornerAt (cornersOf list) j .x)
 
 abbrev pub rowAt : Cells → List Float → ℕ → ℕ
-rowAt g list j = rowIn g (at (cornersOf list) j .y)
+rowAt g list j = rowIn g (cornerAt (cornersOf list) j .y)
 
 abbrev pub inOneCell : Cells → List Float → Disc → ℕ → ℕ → ℕ → Bool
 inOneCell g list d column row j = eqb (columnAt g list j + 1) column && eqb (rowAt g list j) row && within d list j
@@ -180,7 +177,7 @@ Sought list heads links notes k d best r =
 -- ---- one corner, all corners, and the whole merge
 -- corner i found its place among the first `count`
 pub record Stepped (meets : Corner → Corner → Bool) (i count : ℕ) (before after : List Corner) (count' : ℕ) : Type 0 where
-  pub kept : take count' after ≡ place meets (at before i) (take count before)
+  pub kept : take count' after ≡ place meets (cornerAt before i) (take count before)
   pub rest : drop (i + 1) after ≡ drop (i + 1) before
   pub bound : count' ≤ i + 1
 

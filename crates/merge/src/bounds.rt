@@ -3,7 +3,7 @@ use crate::Extent;
 ghost use mathlib.Core.Path.{_≡_};
 ghost use Prim.Native.Nat.{_+_};
 ghost use Rattle.shapes.specs.Numbers.{lesser, greater};
-ghost use Rattle.merge.specs.Corners.{cornersOf};
+ghost use Rattle.corners.specs.Corners.{cornersOf};
 ghost use Rattle.merge.specs.Meets.{boxOf, finiteBox, along};
 ghost use Rattle.merge.specs.Steps.{asBox};
 

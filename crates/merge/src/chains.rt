@@ -1,6 +1,6 @@
 // Chains of kept corners, one a cell, each from the highest number down. A link is lower than the number that bears it, so a walk ends.
 use crate::Disc;
-use crate::corners;
+use crate::list;
 ghost use mathlib.Core.Path.{_≡_};
 ghost use Prim.Native.Nat.{_+_, _*_, _<_, _≤_};
 ghost use lib.ListN.{length, replicate};
@@ -22,7 +22,7 @@ fn lower(corners: &[f32], j: usize, disc: Disc, best: usize) -> usize
     requires { ⌜ 3 * j + 2 < length (now corners) ⌝ }
     ensures { λ r. ⌜ r ≡ pick disc (now (corners .entry)) j best ⌝ }
 {
-    if corners::near(corners, j, disc) {
+    if list::near(corners, j, disc) {
         if j < best {
             return j;
         }

@@ -2,14 +2,15 @@
 use crate::Cells;
 use crate::Disc;
 use crate::chains;
-use crate::corners;
+use crate::list;
 use crate::seek;
+use corners::Corner;
 ghost use mathlib.Core.Path.{_≡_};
 ghost use Prim.Native.Nat.{ℕ, _+_, _*_, _<_, _≤_, min};
 ghost use lib.ListN.{length, set, replicate};
-ghost use Rattle.merge.specs.Corners.{cornersOf};
+ghost use Rattle.corners.specs.Corners.{cornersOf, corner};
 ghost use Rattle.merge.specs.Fold.{merged};
-ghost use Rattle.merge.specs.Steps.{Few, Roomy, Chains, Chained, Among, Joinable, Linked, total, cellsOf, columnIn, rowIn, cellIn, corner, meetsIn, Stepped, Passed, Filled};
+ghost use Rattle.merge.specs.Steps.{Few, Roomy, Chains, Chained, Among, Joinable, Linked, total, cellsOf, columnIn, rowIn, cellIn, meetsIn, Stepped, Passed, Filled};
 
 // Only the heads of the grid's cells are cleared before, since a link is written before it is read; all of both after.
 pub fn merge(
@@ -27,7 +28,7 @@ pub fn merge(
     let total = cells.across * cells.down;
     chains::clear(&mut heads[..total]);
     let count = pass(corners, r2, cells, heads, links);
-    corners::zero_from(corners, 3 * count);
+    list::zero_from(corners, 3 * count);
     chains::clear(heads);
     chains::clear(links);
     count
@@ -134,7 +135,7 @@ fn join(
     ensures { λ _. ⌜ cornersOf (now (corners .exit)) ≡ set (cornersOf (now (corners .entry))) j (corner x y strength) ⌝ }
     ensures { λ _. ⌜ Linked (now (heads .entry)) (now (links .entry)) cell j (now (heads .exit)) (now (links .exit)) ⌝ }
 {
-    corners::put(corners, j, x, y, strength);
+    corners::put(corners, j, Corner { x, y, strength });
     chains::link(heads, links, cell, j);
 }
 

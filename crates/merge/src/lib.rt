@@ -2,8 +2,8 @@
 // Corners are x, y, strength triples in one list. Kept corners move to the front of it: there are never more of them than corners read.
 mod bounds;
 mod chains;
-mod corners;
 mod grid;
+mod list;
 mod scan;
 mod seek;
 
@@ -11,7 +11,7 @@ ghost use mathlib.Core.Path.{_≡_};
 ghost use lib.Dec.{ltb};
 ghost use Prim.Native.Nat.{_+_, _*_, _<_};
 ghost use lib.ListN.{length};
-ghost use Rattle.merge.specs.Corners.{cornersOf};
+ghost use Rattle.corners.specs.Corners.{cornersOf};
 ghost use Rattle.merge.specs.Call.{Done, mergingWay};
 ghost use Rattle.merge.specs.Steps.{Few, Left};
 
@@ -58,13 +58,13 @@ pub fn merge_corners_simple(
     ensures { λ r. ⌜ Done (now (corners .entry)) radius (now (heads .entry)) (now (links .entry)) r (now (corners .exit)) (now (heads .exit)) (now (links .exit)) ⌝ }
 {
     let len = corners.len();
-    if len % 3 != 0 {
+    if !corners::is_whole(len) {
         return Merge::BadLength;
     }
-    let n = len / 3;
-    if 4096 < n {
+    if corners::too_many(len) {
         return Merge::TooMany;
     }
+    let n = len / 3;
     if links.len() < n {
         return Merge::BadScratch;
     }

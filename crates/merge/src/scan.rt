@@ -1,10 +1,11 @@
 // The plain scan: every kept corner is looked at, from the first on.
 use crate::Disc;
-use crate::corners;
+use crate::list;
+use corners::Corner;
 ghost use mathlib.Core.Path.{_≡_};
 ghost use Prim.Native.Nat.{_+_, _*_, _<_, _≤_};
 ghost use lib.ListN.{length};
-ghost use Rattle.merge.specs.Corners.{cornersOf};
+ghost use Rattle.corners.specs.Corners.{cornersOf};
 ghost use Rattle.merge.specs.Meets.{plainMeets};
 ghost use Rattle.merge.specs.Fold.{merged};
 ghost use Rattle.merge.specs.Steps.{least, within, Stepped, Passed, Filled};
@@ -13,7 +14,7 @@ pub fn merge(corners: &mut [f32], r2: f32) -> usize
     ensures { λ r. ⌜ Filled (now (corners .entry)) (merged (plainMeets r2) (cornersOf (now (corners .entry)))) r (now (corners .exit)) ⌝ }
 {
     let count = pass(corners, r2);
-    corners::zero_from(corners, 3 * count);
+    list::zero_from(corners, 3 * count);
     count
 }
 
@@ -41,12 +42,12 @@ fn step(corners: &mut [f32], i: usize, count: usize, r2: f32) -> usize
     let met = first_near(corners, count, Disc { x, y, r2 });
     if met < count {
         if corners[3 * met + 2] < strength {
-            corners::put(corners, met, x, y, strength);
+            corners::put(corners, met, Corner { x, y, strength });
             return count;
         }
         return count;
     }
-    corners::put(corners, count, x, y, strength);
+    corners::put(corners, count, Corner { x, y, strength });
     count + 1
 }
 
@@ -57,7 +58,7 @@ fn first_near(corners: &[f32], count: usize, disc: Disc) -> usize
 {
     let mut j = 0;
     while j < count {
-        if corners::near(corners, j, disc) {
+        if list::near(corners, j, disc) {
             return j;
         }
         j += 1;

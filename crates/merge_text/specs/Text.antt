@@ -6,6 +6,7 @@ use Prim.Native.Nat.{ℕ, _+_, _*_, _/_, _%_}
 use lib.Dec.{ltb}
 use lib.Ieee.{Float, binary32, ofBits}
 use Rattle.shapes.specs.Lists.{tabulated}
+use Rattle.corners.specs.Corners.{mostCorners}
 use Rattle.words.specs.Words.{wordAt}
 
 -- the first n numbers of a file
@@ -31,4 +32,4 @@ shown w end =
 
 -- the refusal of a file of so many bytes: 19 where it is not made of whole records, else 16 where there are over 4,096, else 0
 unfoldable pub refusal : ℕ → ℕ
-refusal n = cond (ltb 0 (n % 12)) 19 (cond (ltb 4096 (n / 12)) 16 0)
+refusal n = cond (ltb 0 (n % 12)) 19 (cond (ltb mostCorners (n / 12)) 16 0)

@@ -2,12 +2,13 @@
 use mathlib.Core.Path.{_≡_, refl, sym, ap, _∙_, subst}
 use mathlib.Core.Bool.{Bool, true, false, _&&_, not, cond, and-false}
 use mathlib.Core.List.{List}
-use Prim.Native.Nat.{ℕ, _/_, _%_, _≤_, _<_}
-use lib.Dec.{T, leb, ltb, eqb}
+use Prim.Native.Nat.{ℕ, _/_, _≤_, _<_}
+use lib.Dec.{T, leb, ltb}
 use lib.ListN.{length}
 use lib.Ieee.{Float}
 use lib.Ieee.Scale.{finite}
-use borrow.Author.Tests.{lt-leb, le-leb, leb-true, lt-ltb, le-ltb, eq-eqb, ne-eqb}
+use borrow.Author.Tests.{lt-leb, le-leb, leb-true, lt-ltb, le-ltb}
+use Rattle.corners.specs.Corners.{whole}
 use Rattle.imageview.specs.Image.{sizesFit}
 use Rattle.imageview.proofs.ImageLaws.{counted}
 use Rattle.peaks.specs.declared.Peaks.{Peaks}
@@ -83,11 +84,11 @@ module _ (s : Scan) (room : ℕ) where
   abbrev fitting : Way
   fitting = cond (ltb (room / 3) (length (peaksOf s))) (refused TooMany) (found (peaksOf s))
 
-  abbrev whole : Way
-  whole = cond (not (eqb (room % 3) 0)) (refused BadLength) fitting
+  abbrev shaped : Way
+  shaped = cond (not (whole room)) (refused BadLength) fitting
 
   abbrev limited : Way
-  limited = cond (not (finite (s .threshold))) (refused BadLimit) whole
+  limited = cond (not (finite (s .threshold))) (refused BadLimit) shaped
 
   abbrev ranged : Way
   ranged = cond (not (radiiFit s)) (refused BadRadius) limited
@@ -111,18 +112,18 @@ module _ (s : Scan) (room : ℕ) where
       is-ranged = is-image ∙ ap (λ (z : Bool). cond (not z) (refused BadRadius) limited) radii
 
       pub way-limit : finite (s .threshold) ≡ false → wayOf s room ≡ refused BadLimit
-      way-limit e = is-ranged ∙ ap (λ (z : Bool). cond (not z) (refused BadLimit) whole) e
+      way-limit e = is-ranged ∙ ap (λ (z : Bool). cond (not z) (refused BadLimit) shaped) e
 
       module _ (limit : finite (s .threshold) ≡ true) where
-        is-limited : wayOf s room ≡ whole
-        is-limited = is-ranged ∙ ap (λ (z : Bool). cond (not z) (refused BadLimit) whole) limit
+        is-limited : wayOf s room ≡ shaped
+        is-limited = is-ranged ∙ ap (λ (z : Bool). cond (not z) (refused BadLimit) shaped) limit
 
-        pub way-length : (room % 3 ≡ 0 → ⊥) → wayOf s room ≡ refused BadLength
-        way-length e = is-limited ∙ ap (λ (z : Bool). cond (not z) (refused BadLength) fitting) (ne-eqb (room % 3) 0 e)
+        pub way-length : whole room ≡ false → wayOf s room ≡ refused BadLength
+        way-length e = is-limited ∙ ap (λ (z : Bool). cond (not z) (refused BadLength) fitting) e
 
-        module _ (records : room % 3 ≡ 0) where
+        module _ (records : whole room ≡ true) where
           is-whole : wayOf s room ≡ fitting
-          is-whole = is-limited ∙ ap (λ (z : Bool). cond (not z) (refused BadLength) fitting) (eq-eqb (room % 3) 0 records)
+          is-whole = is-limited ∙ ap (λ (z : Bool). cond (not z) (refused BadLength) fitting) records
 
           pub way-many : room / 3 < length (peaksOf s) → wayOf s room ≡ refused TooMany
           way-many h = is-whole ∙ ap (λ (z : Bool). cond z (refused TooMany) (found (peaksOf s))) (lt-ltb (room / 3) (length (peaksOf s)) h)

@@ -2,19 +2,21 @@
 use mathlib.Core.Path.{_≡_, refl, sym, ap, _∙_, subst}
 use mathlib.Core.Logic.{⊎-elim}
 use mathlib.Core.Bool.{Bool, true, false, cond}
-use mathlib.Core.List.{List, [], _∷_, _++_, append-nil}
+use mathlib.Core.List.{List, [], _∷_, _++_, append-nil, append-assoc}
 use Prim.Native.Nat.{ℕ, zero, suc, _+_, _-_, _*_, _/_, _%_, _≤_, _<_}
 use native.Mathlib.Nat.{add-zero, add-suc, div-add-mod', not-suc-le-zero}
 use native.Mathlib.Numerals.{add-one}
 use native.Mathlib.Omega.{arith}
 use lib.IntN.{pos}
 use lib.ListN.{length, getD, set, drop, take, length-append, length-drop, length-set, List·getD-append}
-use lib.Seq.{sets-eq, take-suc, take-suc-set, length-take-le, getD-take, getD-append-add, take-at, drop-drop, drop-append-add}
+use lib.Seq.{take-suc, take-suc-set, length-take-le, getD-take, getD-append-add, take-at, drop-drop, drop-append-add}
 use lib.Ieee.{Float, nan, binary32, ofInt}
+use Rattle.corners.specs.Corners.{corner, recorded}
+use Rattle.corners.proofs.CornerLaws.{recorded-parts}
 use Rattle.peaks.specs.Peak.{Scan, valueAt}
 use Rattle.peaks.proofs.PeakLaws.{lt-or-le}
 use Rattle.peaks.specs.Call.{chosen, peakAt, peaksOf, recordsOf}
-use Rattle.peaks.specs.Steps.{Sound, Next, Stands, Listed, Noteworthy, recorded, Written, filled}
+use Rattle.peaks.specs.Steps.{Sound, Next, Stands, Listed, Noteworthy, Written, filled}
 
 module _ (p : ℕ → Bool) where
   chosen-none : chosen 0 p ≡ []
@@ -139,16 +141,15 @@ module _ (s : Scan) where
 
   -- the record of one more peak
   pub put-record : (out : List Float) (l : List ℕ) (k n : ℕ) → n ≡ length l → 3 * n + 2 < length out
-      → recorded (recordsOf s l ++ drop (3 * n) out) n (ofInt binary32 (pos (k % s .width))) (ofInt binary32 (pos (k / s .width))) (getD (s .values) k nan)
+      → recorded (recordsOf s l ++ drop (3 * n) out) n (corner (ofInt binary32 (pos (k % s .width))) (ofInt binary32 (pos (k / s .width))) (getD (s .values) k nan))
       ≡ recordsOf s (l ++ (k ∷ [])) ++ drop (3 * (n + 1)) out
   put-record out l k n e h =
       let r = recordsOf s l in
       let x = ofInt binary32 (pos (k % s .width)) in
       let y = ofInt binary32 (pos (k / s .width)) in
       let v = getD (s .values) k nan in
-      ap (λ (i : ℕ). set (set (set (r ++ drop (3 * n) out) (3 * n) x) i y) (3 * n + 2) v) (add-one (3 * n))
-      ∙ ap (λ (i : ℕ). set (set (set (r ++ drop (3 * n) out) (3 * n) x) (suc (3 * n)) y) i v) (let q : 3 * n + 2 ≡ suc (suc (3 * n)) = omega arith in q)
-      ∙ sets-eq (three k) (r ++ drop (3 * n) out) (3 * n) (omega (arith, length-append r (drop (3 * n) out), length-drop (3 * n) out, same))
+      recorded-parts (r ++ drop (3 * n) out) n (corner x y v) (omega (arith, length-append r (drop (3 * n) out), length-drop (3 * n) out, same))
+      ∙ sym (append-assoc (take (3 * n) (r ++ drop (3 * n) out)) (three k) (drop (3 * n + 3) (r ++ drop (3 * n) out)))
       ∙ ap (λ (a : List Float). a ++ three k ++ drop (3 * n + 3) (r ++ drop (3 * n) out)) (take-at r (drop (3 * n) out) (3 * n) same)
       ∙ ap (λ (a : List Float). r ++ three k ++ a) past
       ∙ ap (λ (a : List Float). a ++ drop (3 * (n + 1)) out) (sym (records-more l k))
@@ -166,9 +167,9 @@ module _ (s : Scan) where
   Out = Written s
 
   pub out-next : (out out' out'' : List Float) (n k : ℕ) {r : ℕ} → At n k → k < length (s .values) → Next s (k + 1) r → 3 * n + 2 < length out → Out out n k out'
-      → out'' ≡ recorded out' n (ofInt binary32 (pos (k % s .width))) (ofInt binary32 (pos (k / s .width))) (getD (s .values) k nan) → Out out (n + 1) r out''
+      → out'' ≡ recorded out' n (corner (ofInt binary32 (pos (k % s .width))) (ofInt binary32 (pos (k / s .width))) (getD (s .values) k nan)) → Out out (n + 1) r out''
   out-next out out' out'' n k (a, b, c) h m l e f =
-      f ∙ ap (λ (z : List Float). recorded z n (ofInt binary32 (pos (k % s .width))) (ofInt binary32 (pos (k / s .width))) (getD (s .values) k nan)) e
+      f ∙ ap (λ (z : List Float). recorded z n (corner (ofInt binary32 (pos (k % s .width))) (ofInt binary32 (pos (k / s .width))) (getD (s .values) k nan))) e
       ∙ put-record out (upTo k) k n a l ∙ ap (λ (z : List ℕ). recordsOf s z ++ drop (3 * (n + 1)) out) (sym (one-before k (c h) m))
 
   pub out-last : (out out' : List Float) (n k : ℕ) → Sound s → At n k → length (s .values) ≤ k → Out out n k out' → out' ≡ filled s out
@@ -204,11 +205,11 @@ module _ (s : Scan) where
 
   -- one more note written
   pub noted-more : (out out' out'' : List Float) (notes : List ℕ) (i : ℕ) → i < length notes → 3 * i + 2 < length out → out' ≡ recordsOf s (take i notes) ++ drop (3 * i) out
-      → out'' ≡ recorded out' i (ofInt binary32 (pos (getD notes i 0 % s .width))) (ofInt binary32 (pos (getD notes i 0 / s .width))) (getD (s .values) (getD notes i 0) nan)
+      → out'' ≡ recorded out' i (corner (ofInt binary32 (pos (getD notes i 0 % s .width))) (ofInt binary32 (pos (getD notes i 0 / s .width))) (getD (s .values) (getD notes i 0) nan))
       → out'' ≡ recordsOf s (take (i + 1) notes) ++ drop (3 * (i + 1)) out
   noted-more out out' out'' notes i l h e f =
       let k = getD notes i 0 in
-      f ∙ ap (λ (z : List Float). recorded z i (ofInt binary32 (pos (k % s .width))) (ofInt binary32 (pos (k / s .width))) (getD (s .values) k nan)) e
+      f ∙ ap (λ (z : List Float). recorded z i (corner (ofInt binary32 (pos (k % s .width))) (ofInt binary32 (pos (k / s .width))) (getD (s .values) k nan))) e
       ∙ put-record out (take i notes) k i (sym (length-take-le i notes (let q : i ≤ length notes = omega arith in q))) h
       ∙ ap (λ (z : List ℕ). recordsOf s z ++ drop (3 * (i + 1)) out) (sym (ap (λ (n : ℕ). take n notes) (add-one i) ∙ take-suc notes i 0 l))
 

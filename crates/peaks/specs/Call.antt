@@ -1,14 +1,15 @@
 -- The public call: document 01's tests in their order (`wayOf`), what each way answers and leaves in the lent output. No refusal writes; elements past
 -- the last record stay.
 use mathlib.Core.Path.{_≡_}
-use mathlib.Core.Bool.{Bool, true, false, _&&_, not, cond}
+use mathlib.Core.Bool.{Bool, _&&_, not, cond}
 use mathlib.Core.List.{List, [], _∷_, _++_}
 use Prim.Native.Nat.{ℕ, zero, suc, _*_, _/_, _%_}
-use lib.Dec.{leb, ltb, eqb}
+use lib.Dec.{leb, ltb}
 use lib.IntN.{pos}
 use lib.ListN.{length, drop}
 use lib.Ieee.{Float, binary32, ofInt}
 use lib.Ieee.Scale.{finite}
+use Rattle.corners.specs.Corners.{whole}
 use Rattle.imageview.specs.Image.{sizesFit}
 use Rattle.peaks.specs.declared.Peaks.{Peaks}
 use Rattle.peaks.specs.declared.Peaks.the-variants.{Found, BadImage, BadRadius, BadLimit, BadLength, TooMany}
@@ -57,7 +58,7 @@ wayOf s room =
     cond (not (sizesFit (length (s .values)) (s .width) (s .height))) (refused BadImage)
     (cond (not (radiiFit s)) (refused BadRadius)
     (cond (not (finite (s .threshold))) (refused BadLimit)
-    (cond (not (eqb (room % 3) 0)) (refused BadLength)
+    (cond (not (whole room)) (refused BadLength)
     (cond (ltb (room / 3) (length (peaksOf s))) (refused TooMany)
     (found (peaksOf s))))))
 

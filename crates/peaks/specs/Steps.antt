@@ -3,7 +3,7 @@ use mathlib.Core.Path.{_≡_}
 use mathlib.Core.Bool.{true, false}
 use mathlib.Core.List.{List, _++_}
 use Prim.Native.Nat.{ℕ, _+_, _*_, _/_, _%_, _≤_, _<_}
-use lib.ListN.{length, getD, set, take, drop}
+use lib.ListN.{length, getD, take, drop}
 use lib.Ieee.{Float, lt}
 use Rattle.shapes.specs.Numbers.{entry}
 use Rattle.peaks.specs.declared.Rule.{Rule}
@@ -129,10 +129,6 @@ pub record Noteworthy (s : Scan) (notes : List ℕ) (n : ℕ) : Type 0 where
 pub record Tallied (s : Scan) (room r : ℕ) : Type 0 where
   pub few : r ≤ room → r ≡ length (peaksOf s)
   pub many : room < r → room < length (peaksOf s)
-
--- a record's three floats, the record by its number
-abbrev pub recorded : List Float → ℕ → Float → Float → Float → List Float
-recorded out n x y v = set (set (set out (3 * n) x) (3 * n + 1) y) (3 * n + 2) v
 
 -- the output after the n peaks before k
 abbrev pub Written : Scan → List Float → ℕ → ℕ → List Float → Type 0

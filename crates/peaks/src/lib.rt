@@ -57,7 +57,7 @@ pub fn detect_peaks_from_response_with_refine_radius(
     if !floats::is_finite_f32(threshold) {
         return Peaks::BadLimit;
     }
-    if out.len() % 3 != 0 {
+    if !corners::is_whole(out.len()) {
         return Peaks::BadLength;
     }
     let rule = Rule {

@@ -2,6 +2,7 @@
 use crate::Noted;
 use crate::Rule;
 use crate::window;
+use corners::Corner;
 ghost use mathlib.Core.Path.{_≡_};
 ghost use mathlib.Core.Bool.{cond};
 ghost use mathlib.Core.List.{List, _++_};
@@ -10,9 +11,10 @@ ghost use lib.IntN.{pos};
 ghost use lib.ListN.{length, take, drop};
 ghost use lib.Ieee.{Float, lt, ofInt, binary32};
 ghost use Rattle.shapes.specs.Numbers.{plusZero};
+ghost use Rattle.corners.specs.Corners.{corner, recorded};
 ghost use Rattle.peaks.specs.Peak.{border, isPeak};
 ghost use Rattle.peaks.specs.Call.{peaksOf, recordsOf};
-ghost use Rattle.peaks.specs.Steps.{scanOf, Sound, Bordered, Within, Ahead, Low, FirstIn, InRow, Next, Stands, Listed, Noteworthy, Tallied, recorded, Written, filled, Recorded};
+ghost use Rattle.peaks.specs.Steps.{scanOf, Sound, Bordered, Within, Ahead, Low, FirstIn, InRow, Next, Stands, Listed, Noteworthy, Tallied, Written, filled, Recorded};
 
 // max(threshold, 0).
 fn floor_of(threshold: f32) -> f32
@@ -227,11 +229,11 @@ fn tally(response: &[f32], rule: Rule, room: usize, n: usize, from: usize) -> us
 // Writes the record of number n.
 fn put(out: &mut [f32], n: usize, x: usize, y: usize, v: f32)
     requires { ⌜ (3 * n + 2 < length (now out)) × (x < 4096) × (y < 4096) ⌝ }
-    ensures { λ _. ⌜ now (out .exit) ≡ recorded (now (out .entry)) n (ofInt binary32 (pos x)) (ofInt binary32 (pos y)) v ⌝ }
+    ensures { λ _. ⌜ now (out .exit) ≡ recorded (now (out .entry)) n (corner (ofInt binary32 (pos x)) (ofInt binary32 (pos y)) v) ⌝ }
 {
-    out[3 * n] = x as u16 as f32;
-    out[3 * n + 1] = y as u16 as f32;
-    out[3 * n + 2] = v;
+    let x = x as u16 as f32;
+    let y = y as u16 as f32;
+    corners::put(out, n, Corner { x, y, strength: v });
 }
 
 // Writes the records of the first n places noted.

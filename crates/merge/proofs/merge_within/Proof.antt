@@ -6,7 +6,8 @@ use lib.Dec.{ltb}
 use lib.ListN.{length}
 use lib.Ieee.{binary32, mul, ofBits}
 use borrow.Author.Tests.{not-true, not-false}
-use Rattle.merge.specs.Corners.{Corner, cornersOf}
+use Rattle.corners.specs.Corners.{cornersOf}
+use Rattle.corners.specs.declared.Corner.{Corner}
 use Rattle.merge.specs.Meets.{boxOf, finiteBox, gridOf, cellsAcross, cellsDown}
 use Rattle.merge.specs.Steps.{Filled}
 use Rattle.merge.proofs.CallLaws.{way-plain, way-big, way-grid, cells-count, grid-rule, few-cells, left-by, left-plain, left-grid}

@@ -1,72 +1,112 @@
 -- `peaks::detect_peaks_from_response_with_refine_radius` meets its contract: each test that decides is the way's own.
-use mathlib.Core.Path.{sym, _∙_, subst}
+use mathlib.Core.Path.{_≡_, sym, _∙_, subst}
+use mathlib.Core.Bool.{true}
 use Prim.Native.Nat.{ℕ, _/_, _≤_}
 use lib.ListN.{length}
+use lib.Ieee.Scale.{finite}
 use borrow.Author.Needs.{needs}
 use borrow.Author.Tests.{not-true, not-false}
+use Rattle.corners.specs.Corners.{whole}
+use Rattle.imageview.specs.Image.{sizesFit}
+use Rattle.peaks.specs.Peak.{Scan}
+use Rattle.peaks.specs.Call.{radiiFit}
 use Rattle.peaks.proofs.CallLaws.{scanFor, sound, way-image, way-radius, way-limit, way-length, way-many, way-found, done-refused, done-kept, done-found}
 use Rattle.peaks.proofs.detect_peaks_from_response_with_refine_radius.Statement.{statement}
 use Rattle.peaks.proofs.detect_peaks_from_response_with_refine_radius.Tie as tie
+
+abbrev scanned : tie.Start → Scan
+scanned c = let a = c .args in scanFor (a .response .now) (a .width) (a .height) (a .ring-radius) (a .window-radius) (a .refine-radius) (a .threshold) (a .min-cluster-size)
+
+abbrev room : tie.Start → ℕ
+room c = length (c .args .out .now)
+
+-- what each test that was passed says
+abbrev start : tie.Else1 → tie.Start
+start c = c .before .before .before .before
+
+is-sized : (c : tie.Else1) → sizesFit (length (scanned (start c) .values)) (scanned (start c) .width) (scanned (start c) .height) ≡ true
+is-sized c = sym (c .before .fits2 .ensures) ∙ not-false (c .before .fits2 .result) (c .if1 .left)
+
+is-ranged : (c : tie.Else2) → radiiFit (scanned (start (c .before .before))) ≡ true
+is-ranged c = sym (c .before .radii-fit .ensures) ∙ not-false (c .before .radii-fit .result) (c .if2 .left)
+
+is-limited : (c : tie.Else3) → finite (scanned (start (c .before .before .before .before)) .threshold) ≡ true
+is-limited c = sym (c .before .is-finite-f32 .ensures) ∙ not-false (c .before .is-finite-f32 .result) (c .if3 .left)
+
+is-shaped : (c : tie.Else4) → whole (room (start (c .before .before .before .before .before .before))) ≡ true
+is-shaped c = sym (c .before .is-whole .ensures) ∙ not-false (c .before .is-whole .result) (c .if4 .left)
 
 fits-requires : tie.Need-fits-requires
 fits-requires c κs = search needs
 
 returns : tie.Need-returns
 returns c =
-    let a = c .before .before .before .before .args in
-    let s = scanFor (a .response .now) (a .width) (a .height) (a .ring-radius) (a .window-radius) (a .refine-radius) (a .threshold) (a .min-cluster-size) in
-    done-refused {s = s} (way-image s (length (a .out .now)) (sym (c .before .fits2 .ensures) ∙ not-true (c .before .fits2 .result) (c .if1 .taken)))
+    let s = c .before .before .before .before in
+    done-refused {s = scanned s} (way-image (scanned s) (room s) (sym (c .before .fits2 .ensures) ∙ not-true (c .before .fits2 .result) (c .if1 .taken)))
 
 radii-fit-requires : tie.Need-radii-fit-requires
 radii-fit-requires c κs = search needs
 
 returns-2 : tie.Need-returns-2
 returns-2 c =
-    let a = c .before .before .before .before .before .before .args in
-    let s = scanFor (a .response .now) (a .width) (a .height) (a .ring-radius) (a .window-radius) (a .refine-radius) (a .threshold) (a .min-cluster-size) in
-    done-refused {s = s} (way-radius s (length (a .out .now)) (sym (c .before .before .before .fits2 .ensures) ∙ not-false (c .before .before .before .fits2 .result) (c .before .before .if1 .left)) (sym (c .before .radii-fit .ensures) ∙ not-true (c .before .radii-fit .result) (c .if2 .taken)))
+    let e = c .before .before in
+    let s = start e in
+    done-refused {s = scanned s} (way-radius (scanned s) (room s) (is-sized e) (sym (c .before .radii-fit .ensures) ∙ not-true (c .before .radii-fit .result) (c .if2 .taken)))
 
 is-finite-f32-requires : tie.Need-is-finite-f32-requires
 is-finite-f32-requires c κs = search needs
 
 returns-3 : tie.Need-returns-3
 returns-3 c =
-    let a = c .before .before .before .before .before .before .before .before .args in
-    let s = scanFor (a .response .now) (a .width) (a .height) (a .ring-radius) (a .window-radius) (a .refine-radius) (a .threshold) (a .min-cluster-size) in
-    done-refused {s = s} (way-limit s (length (a .out .now)) (sym (c .before .before .before .before .before .fits2 .ensures) ∙ not-false (c .before .before .before .before .before .fits2 .result) (c .before .before .before .before .if1 .left)) (sym (c .before .before .before .radii-fit .ensures) ∙ not-false (c .before .before .before .radii-fit .result) (c .before .before .if2 .left)) (sym (c .before .is-finite-f32 .ensures) ∙ not-true (c .before .is-finite-f32 .result) (c .if3 .taken)))
+    let f = c .before .before in
+    let e = f .before .before in
+    let s = start e in
+    done-refused {s = scanned s} (way-limit (scanned s) (room s) (is-sized e) (is-ranged f) (sym (c .before .is-finite-f32 .ensures) ∙ not-true (c .before .is-finite-f32 .result) (c .if3 .taken)))
+
+is-whole-requires : tie.Need-is-whole-requires
+is-whole-requires c κs = search needs
 
 returns-4 : tie.Need-returns-4
 returns-4 c =
-    let a = c .before .before .before .before .before .before .before .before .before .args in
-    let s = scanFor (a .response .now) (a .width) (a .height) (a .ring-radius) (a .window-radius) (a .refine-radius) (a .threshold) (a .min-cluster-size) in
-    done-refused {s = s} (way-length s (length (a .out .now)) (sym (c .before .before .before .before .before .before .fits2 .ensures) ∙ not-false (c .before .before .before .before .before .before .fits2 .result) (c .before .before .before .before .before .if1 .left)) (sym (c .before .before .before .before .radii-fit .ensures) ∙ not-false (c .before .before .before .before .radii-fit .result) (c .before .before .before .if2 .left)) (sym (c .before .before .is-finite-f32 .ensures) ∙ not-false (c .before .before .is-finite-f32 .result) (c .before .if3 .left)) (c .if4 .taken))
+    let g = c .before .before in
+    let f = g .before .before in
+    let e = f .before .before in
+    let s = start e in
+    done-refused {s = scanned s} (way-length (scanned s) (room s) (is-sized e) (is-ranged f) (is-limited g) (sym (c .before .is-whole .ensures) ∙ not-true (c .before .is-whole .result) (c .if4 .taken)))
 
 record-all-requires : tie.Need-record-all-requires
 record-all-requires c κs =
-    let a = c .before .before .before .before .before .before .before .before .before .before .args in
-    let s = scanFor (a .response .now) (a .width) (a .height) (a .ring-radius) (a .window-radius) (a .refine-radius) (a .threshold) (a .min-cluster-size) in
-    sound s (sym (c .before .before .before .before .before .before .before .fits2 .ensures) ∙ not-false (c .before .before .before .before .before .before .before .fits2 .result) (c .before .before .before .before .before .before .if1 .left)) (sym (c .before .before .before .before .before .radii-fit .ensures) ∙ not-false (c .before .before .before .before .before .radii-fit .result) (c .before .before .before .before .if2 .left))
+    let h = c .before in
+    let f = h .before .before .before .before in
+    let e = f .before .before in
+    sound (scanned (start e)) (is-sized e) (is-ranged f)
 
 same-length : tie.Need-same-length
 same-length c = search needs
 
 returns-5 : tie.Need-returns-5
 returns-5 c =
-    let a = c .before .before .before .before .before .before .before .before .before .before .before .before .before .before .args in
-    let s = scanFor (a .response .now) (a .width) (a .height) (a .ring-radius) (a .window-radius) (a .refine-radius) (a .threshold) (a .min-cluster-size) in
+    let h = c .before .before .before .before .before in
+    let g = h .before .before in
+    let f = g .before .before in
+    let e = f .before .before in
+    let s = start e in
     let t = c .before .before .before .record-all .ensures in
-    done-kept {s = s} (way-many s (length (a .out .now)) (sym (c .before .before .before .before .before .before .before .before .before .before .before .fits2 .ensures) ∙ not-false (c .before .before .before .before .before .before .before .before .before .before .before .fits2 .result) (c .before .before .before .before .before .before .before .before .before .before .if1 .left)) (sym (c .before .before .before .before .before .before .before .before .before .radii-fit .ensures) ∙ not-false (c .before .before .before .before .before .before .before .before .before .radii-fit .result) (c .before .before .before .before .before .before .before .before .if2 .left)) (sym (c .before .before .before .before .before .before .before .is-finite-f32 .ensures) ∙ not-false (c .before .before .before .before .before .before .before .is-finite-f32 .result) (c .before .before .before .before .before .before .if3 .left)) (c .before .before .before .before .before .if4 .left) (t .tallied .many (c .if5 .taken))) (t .kept (c .if5 .taken))
+    done-kept {s = scanned s} (way-many (scanned s) (room s) (is-sized e) (is-ranged f) (is-limited g) (is-shaped h) (t .tallied .many (c .if5 .taken))) (t .kept (c .if5 .taken))
 
 same-length-2 : tie.Need-same-length-2
 same-length-2 c = search needs
 
 returns-6 : tie.Need-returns-6
 returns-6 c =
-    let a = c .before .before .before .before .before .before .before .before .before .before .before .before .before .before .args in
-    let s = scanFor (a .response .now) (a .width) (a .height) (a .ring-radius) (a .window-radius) (a .refine-radius) (a .threshold) (a .min-cluster-size) in
+    let h = c .before .before .before .before .before in
+    let g = h .before .before in
+    let f = g .before .before in
+    let e = f .before .before in
+    let s = start e in
     let t = c .before .before .before .record-all .ensures in
     let n = t .tallied .few (c .if5 .left) in
-    done-found {s = s} (way-found s (length (a .out .now)) (sym (c .before .before .before .before .before .before .before .before .before .before .before .fits2 .ensures) ∙ not-false (c .before .before .before .before .before .before .before .before .before .before .before .fits2 .result) (c .before .before .before .before .before .before .before .before .before .before .if1 .left)) (sym (c .before .before .before .before .before .before .before .before .before .radii-fit .ensures) ∙ not-false (c .before .before .before .before .before .before .before .before .before .radii-fit .result) (c .before .before .before .before .before .before .before .before .if2 .left)) (sym (c .before .before .before .before .before .before .before .is-finite-f32 .ensures) ∙ not-false (c .before .before .before .before .before .before .before .is-finite-f32 .result) (c .before .before .before .before .before .before .if3 .left)) (c .before .before .before .before .before .if4 .left) (subst (λ (m : ℕ). m ≤ length (a .out .now) / 3) n (c .if5 .left))) n (t .wrote (c .if5 .left))
+    done-found {s = scanned s} (way-found (scanned s) (room s) (is-sized e) (is-ranged f) (is-limited g) (is-shaped h) (subst (λ (m : ℕ). m ≤ room s / 3) n (c .if5 .left))) n (t .wrote (c .if5 .left))
 
 pub detect-peaks-from-response-with-refine-radius-spec : {M : Type 1} → statement M
 detect-peaks-from-response-with-refine-radius-spec =
@@ -78,6 +118,7 @@ detect-peaks-from-response-with-refine-radius-spec =
     returns-2
     is-finite-f32-requires
     returns-3
+    is-whole-requires
     returns-4
     record-all-requires
     same-length

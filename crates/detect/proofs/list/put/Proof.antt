@@ -1,6 +1,4 @@
--- `detect::list::put` meets its contract: three stores, or none.
-use native.Mathlib.Omega.{arith}
-use lib.ListN.{length-set}
+-- `detect::list::put` meets its contract: a corner written, or none.
 use borrow.Author.Needs.{needs}
 use Rattle.detect.proofs.ListLaws.{puts, puts-none}
 use Rattle.detect.proofs.list.put.Statement.{statement}
@@ -9,29 +7,20 @@ use Rattle.detect.proofs.list.put.Tie as tie
 enum-known-spot : tie.Need-enum-known-spot
 enum-known-spot c = search needs
 
-mul-out : tie.Need-mul-out
-mul-out c = search needs
+mul-put : tie.Need-mul-put
+mul-put c = search needs
 
-slice-write-out : tie.Need-slice-write-out
-slice-write-out c = search needs
+sub-put : tie.Need-sub-put
+sub-put c = search needs
 
-add-out : tie.Need-add-out
-add-out c = search needs
+part-put-start : tie.Need-part-put-start
+part-put-start c = search needs
 
-mul-out-2 : tie.Need-mul-out-2
-mul-out-2 c = search needs
+part-put-end : tie.Need-part-put-end
+part-put-end c = search needs
 
-slice-write-out-2 : tie.Need-slice-write-out-2
-slice-write-out-2 c = simp length-set (omega arith)
-
-add-out-2 : tie.Need-add-out-2
-add-out-2 c = search needs
-
-mul-out-3 : tie.Need-mul-out-3
-mul-out-3 c = search needs
-
-slice-write-out-3 : tie.Need-slice-write-out-3
-slice-write-out-3 c = simp length-set (omega arith)
+put-requires : tie.Need-put-requires
+put-requires c κs = search needs
 
 add-result : tie.Need-add-result
 add-result c = search needs
@@ -44,12 +33,15 @@ same-length c = search needs
 
 returns : tie.Need-returns
 returns c =
-    let a = c .before .before .before .args in
-    puts (a .out .now) (a .written) (a .spot) (c .before .spot .given .0 .0) (c .before .spot .given .0 .1 .0) (a .strength) (c .before .spot .given .1) (c .before .before .before .pre)
+    let p = c .before .before in
+    let g = p .before .before .before in
+    let b = g .before .before .before in
+    let a = b .args in
+    puts (a .out .now) (a .written) (a .spot) (g .spot .given .0 .0) (g .spot .given .0 .1 .0) (a .strength) (p .put .last .0) (g .spot .given .1) (b .pre) (p .put .ensures)
 
 returns-2 : tie.Need-returns-2
 returns-2 c =
-    let a = c .before .before .args in
+    let a = c .before .before .before .args in
     puts-none (a .out .now) (a .written) (a .spot) (a .strength) (c .enum-told .given .1)
 
 pub put-spec : {M : Type 1} → statement M
@@ -57,14 +49,11 @@ put-spec =
     tie.close
     (tie.spec
     enum-known-spot
-    mul-out
-    slice-write-out
-    add-out
-    mul-out-2
-    slice-write-out-2
-    add-out-2
-    mul-out-3
-    slice-write-out-3
+    mul-put
+    sub-put
+    part-put-start
+    part-put-end
+    put-requires
     add-result
     enum-told
     same-length

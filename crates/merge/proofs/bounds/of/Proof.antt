@@ -3,7 +3,7 @@ use mathlib.Core.Path.{_≡_, refl, sym, _∙_}
 use Prim.Native.Nat.{_-_}
 use lib.ListN.{drop}
 use lib.Ieee.{nan, ofBits, neg, div}
-use Rattle.merge.specs.Corners.{cornersOf}
+use Rattle.corners.specs.Corners.{cornersOf}
 use Rattle.merge.specs.Meets.{boxFrom, boxOf}
 use Rattle.merge.specs.Steps.{asBox}
 use Rattle.merge.proofs.BoxLaws.{box-turn, box-end}

@@ -4,7 +4,7 @@ use mathlib.Core.List.{_++_}
 use Prim.Native.Nat.{ℕ, _-_}
 use native.Mathlib.Nat.{sub-zero}
 use lib.ListN.{length, take, replicate, length-set}
-use Rattle.merge.proofs.FlatLaws.{fill-turn, fill-end}
+use Rattle.merge.proofs.FillLaws.{fill-turn, fill-end}
 use native.Mathlib.Omega.{arith}
 use Rattle.merge.proofs.chains.clear.Statement.{statement}
 use Rattle.merge.proofs.chains.clear.Tie as tie

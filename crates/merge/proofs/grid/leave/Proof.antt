@@ -3,10 +3,9 @@ use mathlib.Core.Path.{_≡_, sym, ap, _∙_}
 use Prim.Native.Nat.{_+_, _*_, _<_}
 use lib.ListN.{length}
 use lib.Ieee.{nan}
-use Rattle.merge.specs.Corners.{cornersOf}
-use Rattle.merge.specs.Claims.{at}
+use Rattle.corners.proofs.CornerLaws.{read, corner-at}
+use Rattle.corners.specs.Corners.{cornersOf, cornerAt}
 use Rattle.merge.specs.Steps.{cellIn}
-use Rattle.merge.proofs.FlatLaws.{read, corner-at}
 use Rattle.merge.proofs.GridLaws.{placed-room, cell-of, kept-member, kept-leaves}
 use native.Mathlib.Omega.{arith}
 use borrow.Author.Needs.{needs}
@@ -15,7 +14,7 @@ use Rattle.merge.proofs.grid.leave.Statement.{statement}
 use Rattle.merge.proofs.grid.leave.Tie as tie
 
 -- the column and the row that were worked out are those of the corner's cell
-lies : (c : tie.After-row-of) → let s = c .before .before .before .before .before .before .before in c .row-of .result * s .args .cells .across + c .before .before .column-of .result ≡ cellIn (s .args .cells) (at (cornersOf (s .args .corners .now)) (s .args .j))
+lies : (c : tie.After-row-of) → let s = c .before .before .before .before .before .before .before in c .row-of .result * s .args .cells .across + c .before .before .column-of .result ≡ cellIn (s .args .cells) (cornerAt (cornersOf (s .args .corners .now)) (s .args .j))
 lies c =
     let s = c .before .before .before .before .before .before .before in
     let a = s .args in

@@ -1,6 +1,6 @@
 -- `merge::grid::replace` meets its contract: a corner that left its chain joins the one of its new cell.
 use mathlib.Core.Path.{_∙_}
-use Rattle.merge.specs.Steps.{corner}
+use Rattle.corners.specs.Corners.{corner}
 use Rattle.merge.proofs.GridLaws.{cell-inside, left-joins, joined-again}
 use native.Mathlib.Omega.{arith}
 use borrow.Author.Needs.{needs}

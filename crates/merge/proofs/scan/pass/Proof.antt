@@ -3,10 +3,10 @@ use mathlib.Core.Path.{_≡_, refl, _∙_}
 use Prim.Native.Nat.{_-_, _/_, _≤_}
 use lib.ListN.{length, take, drop}
 use native.Mathlib.Nat.{le-refl}
-use Rattle.merge.specs.Corners.{cornersOf}
+use Rattle.corners.proofs.CornerLaws.{length-corners}
+use Rattle.corners.specs.Corners.{cornersOf}
 use Rattle.merge.specs.Meets.{plainMeets}
 use Rattle.merge.specs.Fold.{mergeFrom, merged}
-use Rattle.merge.proofs.FlatLaws.{length-corners}
 use Rattle.merge.proofs.StepLaws.{pass-start, pass-turn, pass-end}
 use native.Mathlib.Omega.{arith}
 use Rattle.merge.proofs.scan.pass.Statement.{statement}

@@ -1,6 +1,8 @@
 -- `merge::scan::step` meets its contract: the first corner met, or none, decides.
+use mathlib.Core.Path.{ap, _∙_}
 use lib.Ieee.{nan}
-use Rattle.merge.specs.Corners.{cornersOf}
+use Rattle.corners.specs.Corners.{cornersOf}
+use Rattle.corners.proofs.CornerLaws.{read, corners-recorded}
 use Rattle.merge.specs.Meets.{near, plainMeets}
 use Rattle.merge.specs.Steps.{within}
 use Rattle.merge.proofs.StepLaws.{replaces, stays, adds}
@@ -73,7 +75,7 @@ returns c =
     let s = f .before .before .before .before .before .before in
     let a = s .args in
     replaces (plainMeets (a .r2)) (a .corners .now) (a .i) (a .count) (f .first-near .result) nan (s .pre .0) (s .pre .1) (f .first-near .ensures)
-    (m .if1 .taken) (t .if2 .taken) (cornersOf (p .put .last .0)) (p .put .ensures)
+    (m .if1 .taken) (t .if2 .taken) (cornersOf (p .put .last .0)) (ap cornersOf (p .put .ensures) ∙ corners-recorded (a .corners .now) (f .first-near .result) (read (a .corners .now) (a .i) nan) (omega arith))
 
 same-length-2 : tie.Need-same-length-2
 same-length-2 c = search needs
@@ -106,7 +108,7 @@ returns-3 c =
     let s = f .before .before .before .before .before .before in
     let a = s .args in
     adds (plainMeets (a .r2)) (a .corners .now) (a .i) (a .count) (f .first-near .result) nan (s .pre .0) (s .pre .1) (f .first-near .ensures)
-    (m .if1 .left) (cornersOf (p .put2 .last .0)) (p .put2 .ensures)
+    (m .if1 .left) (cornersOf (p .put2 .last .0)) (ap cornersOf (p .put2 .ensures) ∙ corners-recorded (a .corners .now) (a .count) (read (a .corners .now) (a .i) nan) (omega arith))
 
 pub step-spec : {M : Type 1} → statement M
 step-spec =

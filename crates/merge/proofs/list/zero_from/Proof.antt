@@ -1,14 +1,14 @@
--- `merge::corners::zero_from` meets its contract: filled from `i` on, the list is what it is to be.
+-- `merge::list::zero_from` meets its contract: filled from `i` on, the list is what it is to be.
 use mathlib.Core.Path.{_≡_, refl, sym, _∙_}
 use mathlib.Core.List.{_++_}
 use Prim.Native.Nat.{_-_}
 use lib.Ieee.{ofBits}
 use lib.ListN.{length, take, replicate, length-set}
 use Rattle.shapes.specs.Numbers.{plusZero}
-use Rattle.merge.proofs.FlatLaws.{fill-turn, fill-end}
+use Rattle.merge.proofs.FillLaws.{fill-turn, fill-end}
 use native.Mathlib.Omega.{arith}
-use Rattle.merge.proofs.corners.zero_from.Statement.{statement}
-use Rattle.merge.proofs.corners.zero_from.Tie as tie
+use Rattle.merge.proofs.list.zero_from.Statement.{statement}
+use Rattle.merge.proofs.list.zero_from.Tie as tie
 
 abbrev Inv-loop : tie.InvT-loop
 Inv-loop corners₀ from i₀ corners i = (length corners ≡ length corners₀) × (take i corners ++ replicate (length corners - i) plusZero ≡ take from corners₀ ++ replicate (length corners₀ - from) plusZero)

@@ -1,0 +1,2 @@
+-- Laws of corners in a flat list.
+pub mod CornerLaws

@@ -1,0 +1,2 @@
+-- Corners in a flat list.
+pub mod Corners
