@@ -1,4 +1,5 @@
 // The end of a run: the estimate, whether it converged, and its covariance where that is wanted.
+use super::Ended;
 use super::Estimate;
 use super::Sloping;
 use crate::steps;
@@ -190,6 +191,28 @@ fn at_centre(
     estimate_at(seed, 0.0, 0.0, first, false, 0, Covariance::Unknown)
 }
 
+// Where the steps settled: the slope is that of the window between pixels.
+fn at_window(seed: Seed, overlap: &[f32; 225], wanted: bool, e: Ended) -> Estimate
+    requires { ⌜ (seed .«centre_x» < 4096) × (seed .«centre_y» < 4096) ⌝ }
+    ensures { λ r. ⌜ Closes (centred seed) (now (overlap .entry)) wanted (e .ox) (e .oy) (e .tx) (e .ty) (e .fit) (e .tries) (Sensitivity.slopeWithin (e .corners) (e .tx) (e .ty)) r ⌝ }
+{
+    let corners = e.corners;
+    let fit = e.fit;
+    let slope = between::slope_within(corners, e.tx, e.ty);
+    closed(
+        seed,
+        overlap,
+        wanted,
+        e.ox,
+        e.oy,
+        e.tx,
+        e.ty,
+        fit,
+        e.tries,
+        slope,
+    )
+}
+
 // From the first fit, whose saddle is `first`.
 pub fn estimate(
     img: &[u8],
@@ -210,21 +233,7 @@ pub fn estimate(
     }
     let e = steps::run(img, sizes, columns, cfg, seed, first);
     if e.settled {
-        let corners = e.corners;
-        let fit = e.fit;
-        let slope = between::slope_within(corners, e.tx, e.ty);
-        return closed(
-            seed,
-            overlap,
-            wanted,
-            e.ox,
-            e.oy,
-            e.tx,
-            e.ty,
-            fit,
-            e.tries,
-            slope,
-        );
+        return at_window(seed, overlap, wanted, e);
     }
     single_at(seed, first, e.tries)
 }

@@ -51,6 +51,22 @@ fn later_move(fit: PatchSaddle, corners: Corners, tx: f32, ty: f32) -> Move
     sensitivity::newton_step(m, fit)
 }
 
+// An end that is not settled: of the rest only the tries are asked then.
+fn not_settled(tries: u32, fit: PatchSaddle, corners: Corners) -> Ended
+    ensures { λ r. ⌜ (r .settled ≡ false) × (r .tries ≡ tries) ⌝ }
+{
+    Ended {
+        settled: false,
+        tries,
+        ox: 0.0,
+        oy: 0.0,
+        tx: 0.0,
+        ty: 0.0,
+        fit,
+        corners,
+    }
+}
+
 // From the first fit's saddle, which is not settled. `left` steps may follow the present one, `halvings` candidates are left of it.
 pub fn run(
     img: &[u8],
@@ -98,16 +114,7 @@ pub fn run(
                 };
             }
             if left == 0 {
-                return Ended {
-                    settled: false,
-                    tries,
-                    ox: nx,
-                    oy: ny,
-                    tx: w.tx,
-                    ty: w.ty,
-                    fit,
-                    corners,
-                };
+                return not_settled(tries, fit, corners);
             }
             step = later_move(fit, corners, w.tx, w.ty);
             ox = nx;
@@ -121,14 +128,5 @@ pub fn run(
         }
     }
     let corners = fits.corners;
-    Ended {
-        settled: false,
-        tries,
-        ox,
-        oy,
-        tx: 0.0,
-        ty: 0.0,
-        fit,
-        corners,
-    }
+    not_settled(tries, fit, corners)
 }
