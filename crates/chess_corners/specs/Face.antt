@@ -1,4 +1,4 @@
--- The exported face: each function returns document 01's number of the wrapped call's answer, 0 where it is done, and writes its further answers
+-- The exported face: each function returns the number of the wrapped call's answer, 0 where it is done, and writes its further answers
 -- through references only then. The lent buffers are as the wrapped call leaves them.
 use mathlib.Core.Path.{_≡_}
 use mathlib.Core.List.{List}

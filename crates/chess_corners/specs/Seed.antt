@@ -1,4 +1,4 @@
--- The exported refiner of one seed. Numbers 0 to 3 write x, y and score, document 01's values of the case; 0 also writes whether it converged, the tries and
+-- The exported refiner of one seed. Numbers 0 to 3 write x, y and score, the values of the case; 0 also writes whether it converged, the tries and
 -- whether there is a covariance, and that where there is one. A number from 10 up writes nothing. And the operator, which is built once for many seeds.
 use mathlib.Core.Path.{_≡_}
 use mathlib.Core.Bool.{Bool, true, false, not, cond}

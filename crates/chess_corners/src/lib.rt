@@ -1,5 +1,5 @@
-// The public face for C and Rust: one exported function a call, over numbers, references and slices. Each returns document 01's number, 0 where it is
-// done, and writes its further answers only then.
+// The public face for C and Rust: one exported function a call, over numbers, references and slices. Each returns the number of docs/RULES.md, 0 where it is
+// done. Further answers are written where the number is 0; one seed's place and score with 1 to 3 too.
 mod seed;
 
 use detect::Refinements;

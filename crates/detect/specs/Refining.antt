@@ -1,4 +1,4 @@
--- Refining a list of corners, x, y and strength of each: document 01's tests in their order (`wayOf`), what each way answers and leaves in the lent
+-- Refining a list of corners, x, y and strength of each: the tests of docs/RULES.md in their order (`wayOf`), what each way answers and leaves in the lent
 -- output. No refusal writes; elements past the last record stay.
 use mathlib.Core.Path.{_≡_}
 use mathlib.Core.Bool.{Bool, true, false, not, cond}

@@ -1,4 +1,4 @@
--- The call: the clamped region's size, the values by the ring itself, the list that is written, and document 01's tests in their order.
+-- The call: the clamped region's size, the values by the ring itself, the list that is written, and the tests in their order.
 use mathlib.Core.Path.{_≡_, refl, sym, ap, _∙_, subst}
 use mathlib.Core.Logic.{⊎-elim}
 use mathlib.Core.Bool.{Bool, true, false, not, _&&_, _||_, cond}

@@ -1,4 +1,4 @@
--- The public call: document 01's tests in their order, the answer, and what it leaves in the lent buffer. No refusal writes.
+-- The public call: the tests of docs/RULES.md in their order, the answer, and what it leaves in the lent buffer. No refusal writes.
 use mathlib.Core.Path.{_≡_}
 use mathlib.Core.Bool.{Bool, not, _&&_, _||_, cond}
 use mathlib.Core.List.{List}

@@ -1,4 +1,4 @@
--- Document 01's marked examples P1 to P12, one table over the definitions: what each asks, and its answer in document 01's own numbers.
+-- The marked examples P1 to P12 of docs/RULES.md, one table over the definitions: what each asks, and its answer in the numbers of that page.
 use mathlib.Core.Path.{_≡_, refl}
 use mathlib.Core.Bool.{true, false, cond}
 use mathlib.Core.List.{List, [], _∷_, map}
@@ -18,7 +18,7 @@ use Rattle.merge.specs.Meets.{near, neighbours, boxOf}
 use Rattle.merge.specs.Fold.{merged}
 use Rattle.merge.specs.Call.{wayOf, listAfter}
 
--- ---- numbers as they stand in document 01
+-- ---- numbers as they stand there
 abbrev minus : ℕ → ℤ
 minus zero = pos 0
 minus (suc n) = negsuc n

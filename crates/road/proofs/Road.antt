@@ -19,6 +19,7 @@ use Rattle.pixel_response.specs.Samples.{gain, loss}
 use Rattle.response.specs.Region.{Region, isEmpty, widthOf, heightOf, ringFits, ringSample, crossSample}
 use Rattle.response.specs.Demand.{columnAt, rowAt, fitsAt, gainAt, lossAt, DemandThree}
 use Rattle.peaks.specs.Peak.{Scan, valueAt, border, inside, least, side, cells, middle, neighbour, every, beats, highest, positives, isPeak}
+use Rattle.road.specs.Claims.{whole, Positive, Exceeds, scanAt, StrongestIsPeak}
 use Rattle.peaks.proofs.CountLaws.{both, first-of, second-of}
 use Rattle.peaks.proofs.PeakLaws.{peak-by}
 
@@ -28,17 +29,6 @@ every-all zero p h = refl
 every-all (suc n) p h = both (every-all n p (λ j l. h j (omega arith))) (h n (omega arith))
 
 module _ (img : Image) (ring : List ℤ) (radius : ℕ) where
-  -- the whole image
-  abbrev pub whole : Region
-  whole = record { x0 = 0; y0 = 0; x1 = img .width; y1 = img .height }
-
-  -- N of the pixel (x, y) is above zero, and above that of (a, b)
-  abbrev pub Positive : ℕ → ℕ → Type 0
-  Positive x y = loss (ringSample img ring x y) (crossSample img x y) < gain (ringSample img ring x y)
-
-  abbrev pub Exceeds : ℕ → ℕ → ℕ → ℕ → Type 0
-  Exceeds x y a b = gain (ringSample img ring a b) + loss (ringSample img ring x y) (crossSample img x y) < gain (ringSample img ring x y) + loss (ringSample img ring a b) (crossSample img a b)
-
   -- a pixel about which the ring fits
   record Clear (a b : ℕ) : Type 0 where
     pub left : radius ≤ a
@@ -56,58 +46,58 @@ module _ (img : Image) (ring : List ℤ) (radius : ℕ) where
     in-row : b < img .height
     in-row = omega (arith, c .below)
 
-    some : isEmpty whole ≡ false
+    some : isEmpty (whole img) ≡ false
     some =
         ap (λ (v : Bool). v || leb (img .height) 0) (lt-leb (img .width) 0 (omega (arith, in-column))) ∙ lt-leb (img .height) 0 (omega (arith, in-row))
 
-    width-is : widthOf whole ≡ img .width
+    width-is : widthOf (whole img) ≡ img .width
     width-is = ap (λ (v : Bool). cond v 0 (img .width - 0)) some ∙ sub-zero (img .width)
 
-    height-is : heightOf whole ≡ img .height
+    height-is : heightOf (whole img) ≡ img .height
     height-is = ap (λ (v : Bool). cond v 0 (img .height - 0)) some ∙ sub-zero (img .height)
 
-    column-is : columnAt whole index ≡ a
-    column-is = zero-add (index % widthOf whole) ∙ ap (λ (w : ℕ). index % w) width-is ∙ digits-mod b in-column
+    column-is : columnAt (whole img) index ≡ a
+    column-is = zero-add (index % widthOf (whole img)) ∙ ap (λ (w : ℕ). index % w) width-is ∙ digits-mod b in-column
 
-    row-is : rowAt whole index ≡ b
-    row-is = zero-add (index / widthOf whole) ∙ ap (λ (w : ℕ). index / w) width-is ∙ digits-div b in-column
+    row-is : rowAt (whole img) index ≡ b
+    row-is = zero-add (index / widthOf (whole img)) ∙ ap (λ (w : ℕ). index / w) width-is ∙ digits-div b in-column
 
     ring-fits : ringFits img radius a b ≡ true
     unfolding ringFits
     ring-fits =
         both (both (both (le-leb radius a (c .left)) (lt-ltb (a + radius) (img .width) (c .right))) (le-leb radius b (c .above))) (lt-ltb (b + radius) (img .height) (c .below))
 
-    fits : fitsAt img radius whole index
+    fits : fitsAt img radius (whole img) index
     fits = (
-      subst (λ (n : ℕ). index < n) (sym (ap (λ (w : ℕ). w * heightOf whole) width-is ∙ ap (λ (h : ℕ). img .width * h) height-is ∙ turned)) (digits-lt in-row in-column),
-      subst T (sym (ap (λ (x : ℕ). ringFits img radius x (rowAt whole index)) column-is ∙ ap (λ (y : ℕ). ringFits img radius a y) row-is ∙ ring-fits)) tt,
+      subst (λ (n : ℕ). index < n) (sym (ap (λ (w : ℕ). w * heightOf (whole img)) width-is ∙ ap (λ (h : ℕ). img .width * h) height-is ∙ turned)) (digits-lt in-row in-column),
+      subst T (sym (ap (λ (x : ℕ). ringFits img radius x (rowAt (whole img) index)) column-is ∙ ap (λ (y : ℕ). ringFits img radius a y) row-is ∙ ring-fits)) tt,
     )
       where
         turned : img .width * img .height ≡ img .height * img .width
         turned = native.Mathlib.Nat.mul-comm (img .width) (img .height)
 
-    gain-is : gainAt img ring whole index ≡ gain (ringSample img ring a b)
-    gain-is = ap (λ (x : ℕ). gain (ringSample img ring x (rowAt whole index))) column-is ∙ ap (λ (y : ℕ). gain (ringSample img ring a y)) row-is
+    gain-is : gainAt img ring (whole img) index ≡ gain (ringSample img ring a b)
+    gain-is = ap (λ (x : ℕ). gain (ringSample img ring x (rowAt (whole img) index))) column-is ∙ ap (λ (y : ℕ). gain (ringSample img ring a y)) row-is
 
-    loss-is : lossAt img ring whole index ≡ loss (ringSample img ring a b) (crossSample img a b)
+    loss-is : lossAt img ring (whole img) index ≡ loss (ringSample img ring a b) (crossSample img a b)
     loss-is =
-        ap (λ (x : ℕ). loss (ringSample img ring x (rowAt whole index)) (crossSample img x (rowAt whole index))) column-is
+        ap (λ (x : ℕ). loss (ringSample img ring x (rowAt (whole img) index)) (crossSample img x (rowAt (whole img) index))) column-is
         ∙ ap (λ (y : ℕ). loss (ringSample img ring a y) (crossSample img a y)) row-is
 
-  module _ (values : List Float) (window refine cluster : ℕ) (d : DemandThree img ring radius whole values) (size : length values ≡ img .height * img .width) where
-    abbrev pub scan : Scan
-    scan = record { values = values; width = img .width; height = img .height; ring = radius; window = window; refine = refine; threshold = plusZero; cluster = cluster }
+  module _ (values : List Float) (window refine cluster : ℕ) (d : DemandThree img ring radius (whole img) values) (size : length values ≡ img .height * img .width) where
+    abbrev scan : Scan
+    scan = scanAt img radius values window refine cluster
 
     value-is : (a b : ℕ) → Clear a b → valueAt scan a b ≡ getD values (b * img .width + a) plusZero
     unfolding valueAt
     value-is a b c = getD-inside values (b * img .width + a) nan plusZero (subst (λ (n : ℕ). b * img .width + a < n) (sym size) (digits-lt (in-row a b c) (in-column a b c)))
 
-    above-zero : (x y : ℕ) → Clear x y → Positive x y → lt plusZero (valueAt scan x y) ≡ true
+    above-zero : (x y : ℕ) → Clear x y → Positive img ring x y → lt plusZero (valueAt scan x y) ≡ true
     above-zero x y c p =
         ap (λ (v : Float). lt plusZero v) (value-is x y c)
-        ∙ d .stands (index x y c) (fits x y c) .above (subst (λ (n : ℕ). lossAt img ring whole (index x y c) < n) (sym (gain-is x y c)) (subst (λ (n : ℕ). n < gain (ringSample img ring x y)) (sym (loss-is x y c)) p))
+        ∙ d .stands (index x y c) (fits x y c) .above (subst (λ (n : ℕ). lossAt img ring (whole img) (index x y c) < n) (sym (gain-is x y c)) (subst (λ (n : ℕ). n < gain (ringSample img ring x y)) (sym (loss-is x y c)) p))
 
-    beaten : (x y a b : ℕ) → Clear x y → Clear a b → Exceeds x y a b → lt (valueAt scan a b) (valueAt scan x y) ≡ true
+    beaten : (x y a b : ℕ) → Clear x y → Clear a b → Exceeds img ring x y a b → lt (valueAt scan a b) (valueAt scan x y) ≡ true
     beaten x y a b c e p =
         ap (λ (v : Float). lt v (valueAt scan x y)) (value-is a b e)
         ∙ ap (λ (v : Float). lt (getD values (b * img .width + a) plusZero) v) (value-is x y c)
@@ -139,10 +129,10 @@ module _ (img : Image) (ring : List ℤ) (radius : ℕ) where
           }
 
       -- the pixel number j of the window
-      abbrev pub column : ℕ → ℕ
+      abbrev column : ℕ → ℕ
       column j = x + j % side scan - window
 
-      abbrev pub row : ℕ → ℕ
+      abbrev row : ℕ → ℕ
       row j = y + j / side scan - window
 
       reaches : (x k r w f n : ℕ) → r + w + f ≤ x → x + (r + w + f) < n → k < 2 * w + 1 → (r ≤ x + k - w) × (x + k - w + r < n)
@@ -165,7 +155,7 @@ module _ (img : Image) (ring : List ℤ) (radius : ℕ) where
           let r = reaches y (j / side scan) radius window refine (img .height) (f .above) (f .below) (div-lt-iff-lt-mul {k = side scan} {x = j} {y = side scan} (omega arith) .1 h) in
           record { left = c .0; right = c .1; above = r .0; below = r .1 }
 
-      module _ (most : (j : ℕ) → j < cells scan → (j ≡ middle scan → ⊥) → Exceeds x y (column j) (row j)) where
+      module _ (most : (j : ℕ) → j < cells scan → (j ≡ middle scan → ⊥) → Exceeds img ring x y (column j) (row j)) where
         wins : (j : ℕ) → j < cells scan → (eqb j (middle scan) || beats scan j (valueAt scan x y) (neighbour scan x y j)) ≡ true
         unfolding beats neighbour
         wins j h = by (eqb j (middle scan)) refl
@@ -174,7 +164,10 @@ module _ (img : Image) (ring : List ℤ) (radius : ℕ) where
             by true e = refl
             by false e = beaten x y (column j) (row j) here-clear (window-clear j h) (most j h (eqb-false j (middle scan) e))
 
-        pub strongest-is-peak : Positive x y → leb cluster (positives scan x y) ≡ true → isPeak scan x y ≡ true
+        strongest : Positive img ring x y → leb cluster (positives scan x y) ≡ true → isPeak scan x y ≡ true
         unfolding highest lt
-        strongest-is-peak p c =
+        strongest p c =
             sym (peak-by scan x y here (above-zero x y here-clear p) (every-all (cells scan) (λ j. eqb j (middle scan) || beats scan j (valueAt scan x y) (neighbour scan x y j)) wins)) ∙ c
+
+pub strongest-is-peak : StrongestIsPeak
+strongest-is-peak img ring radius values window refine cluster d size x y here most p c = strongest img ring radius values window refine cluster d size x y here most p c

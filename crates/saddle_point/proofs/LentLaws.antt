@@ -23,6 +23,7 @@ use Rattle.saddle_point.specs.declared.Spot.{Spot}
 use Rattle.saddle_point.specs.declared.Spot.the-variants.{Nowhere}
 use Rattle.saddle_point.specs.Refine.{admitOf, answered, refineLent, refineOf, refineWith, lentWith, withOperator}
 use Rattle.saddle_point.specs.Spot.{spotOf}
+use Rattle.saddle_point.specs.Claims.{LentIsBuilt}
 use Rattle.fit_operator.proofs.Cases.{radius-0}
 use Rattle.saddle_point.proofs.ColumnLaws.{isSingular, fresh-built, fresh-singular, fresh-bad}
 
@@ -38,9 +39,9 @@ module _ (img : Image) (cfg : SaddlePointConfig) (x y : Float) (wanted : Bool) (
   by-tests e (Admitted.Unmoved why) = refl
   by-tests e (Admitted.Refused f) = refl
 
-  pub lent-is-built : r ≡ Answer.Built → refineLent img cfg x y wanted columns' overlap' ≡ refineOf img cfg x y wanted
+  lent-as-built : r ≡ Answer.Built → refineLent img cfg x y wanted columns' overlap' ≡ refineOf img cfg x y wanted
   unfolding refineLent refineOf
-  lent-is-built e = by-tests e (admitOf img cfg x y)
+  lent-as-built e = by-tests e (admitOf img cfg x y)
 
   -- ---- without an operator no seed is accepted
   without : (a : Refined) → spotOf a ≡ Nowhere → ((seed : Seed) → a ≡ withOperator img cfg seed wanted (Operator.wayOf (cfg .radius))) → (d : Admitted) → spotOf (answered d (λ seed. withOperator img cfg seed wanted (Operator.wayOf (cfg .radius)))) ≡ Nowhere
@@ -55,3 +56,6 @@ module _ (img : Image) (cfg : SaddlePointConfig) (x y : Float) (wanted : Bool) (
   pub none-bad : r ≡ Answer.BadRadius → spotOf (refineOf img cfg x y wanted) ≡ Nowhere
   unfolding refineOf
   none-bad e = without (Refused BadRadius) refl (λ seed. fresh-bad img cfg seed wanted old overlap columns' overlap' r done e) (admitOf img cfg x y)
+
+pub lent-is-built : LentIsBuilt
+lent-is-built img cfg x y wanted columns overlap columns' overlap' r done e = lent-as-built img cfg x y wanted columns overlap columns' overlap' r done e

@@ -34,26 +34,12 @@ use Rattle.saddle_point.specs.declared.Why.the-variants.{Rejected}
 use Rattle.fit_cache.specs.declared.Seed.{Seed}
 use Rattle.fit_cache.specs.Tries.{taskAt}
 use Rattle.saddle_point.specs.Refine.{single, estimate, closed, closedAt, finished, fromSaddle, centreOf, seedOf, answered, goodLimits, withOperator, refineOf}
+use Rattle.saddle_point.specs.Claims.{Solves, Boxed, EndsBoxed, Scored, RunsBoxed, AcceptedScored}
 use Rattle.saddle_point.proofs.EntryLaws.{chosen}
-
--- a saddle of some fit
-pub record Solves (cfg : SaddlePointConfig) (f : PatchSaddle) : Type 0 where
-  pub fit : List Float
-  pub is : solve cfg fit ≡ Saddle f
-
--- where a run stands, it stands at a saddle in the box about the seed
-pub record Boxed (t : Task) (s : Stand) : Type 0 where
-  pub solves : Solves (t .cfg) (s .fit)
-  pub near : nearSeed t (s .ox ⊕ s .fit .ux) (s .oy ⊕ s .fit .uy) ≡ true
 
 abbrev OfTried : Task → Tried → Type 0
 OfTried t passed = Unit
 OfTried t (taken s) = Boxed t s
-
--- how a run ends: at a stand in the box, after at most so many tries
-abbrev pub EndsBoxed : Task → ℕ → Finish → Type 0
-EndsBoxed t most (atStart n) = n ≤ most
-EndsBoxed t most (atStand s n) = Boxed t s × (n ≤ most)
 
 module _ (t : Task) where
   -- ---- one candidate
@@ -120,9 +106,9 @@ module _ (t : Task) where
       (b, here n (suc left) most h)
       (picked-within most (r .outcome) (λ s'. stepsFrom left t s' (n + r .count)) (atStand s (n + r .count)) (search-boxed 4 (s .fit) (s .ox) (s .oy) (laterMove s) one) (λ s' b'. steps-within most left s' (n + r .count) b' k) (b, here (n + r .count) left most k))
 
-  pub run-within : (f : PatchSaddle) → EndsBoxed t 64 (runOf t f)
+  boxed : (f : PatchSaddle) → EndsBoxed t 64 (runOf t f)
   unfolding runOf
-  run-within f =
+  boxed f =
       let m : Move = record { x = f .ux; y = f .uy } in
       let r = searchFrom 4 t f plusZero plusZero m one in
       let k : r .count ≤ 4 = search-few 4 f plusZero plusZero m one in
@@ -137,12 +123,8 @@ module _ (t : Task) where
       top n h = omega arith
 
 -- ---- the end
-pub record Sound (e : Estimate) : Type 0 where
-  pub score : lt plusZero (e .score) ≡ true
-  pub tries : e .tries ≤ 64
-
 abbrev Answers : Refined → Type 0
-Answers (Accepted e) = Sound e
+Answers (Accepted e) = Scored e
 Answers (Unmoved why score) = Unit
 Answers (Refined.Refused r) = Unit
 
@@ -150,21 +132,21 @@ module _ (t : Task) (overlap : List Float) (wanted : Bool) (good : goodLimit (t 
   scored : (f : PatchSaddle) → Solves (t .cfg) f → lt plusZero (scoreOf f) ≡ true
   scored f s = score-above-zero (t .cfg) (s .fit) f good (s .is)
 
-  pick : (b : Bool) (e f : Estimate) → Sound e → Sound f → Sound (cond b e f)
+  pick : (b : Bool) (e f : Estimate) → Scored e → Scored f → Scored (cond b e f)
   pick true e f p q = p
   pick false e f p q = q
 
-  closed-sound : (ox oy : Float) (w : Place) (f : PatchSaddle) (n : ℕ) (s : Slope) → Solves (t .cfg) f → n ≤ 64 → Sound (closed t overlap wanted ox oy w f n s)
+  closed-sound : (ox oy : Float) (w : Place) (f : PatchSaddle) (n : ℕ) (s : Slope) → Solves (t .cfg) f → n ≤ 64 → Scored (closed t overlap wanted ox oy w f n s)
   closed-sound ox oy w f n s p h =
       let j = saddleJacobian f in
       let m = sensitivity j s in
       pick (regular m) (estimate t ox oy f true n (cond wanted (covarianceOf overlap (w .tx) (w .ty) j m) Unknown)) (estimate t ox oy f false n Unknown) (record { score = scored f p; tries = h }) (record { score = scored f p; tries = h })
 
-  centre-sound : (w : Place) (f : PatchSaddle) (n : ℕ) (s : Sloped) → Solves (t .cfg) f → n ≤ 64 → Sound (closedAt t overlap wanted w f n s)
+  centre-sound : (w : Place) (f : PatchSaddle) (n : ℕ) (s : Sloped) → Solves (t .cfg) f → n ≤ 64 → Scored (closedAt t overlap wanted w f n s)
   centre-sound w f n noSlope p h = record { score = scored f p; tries = h }
   centre-sound w f n (sloped s) p h = closed-sound plusZero plusZero w f n s p h
 
-  finished-sound : (f : PatchSaddle) (e : Finish) → Solves (t .cfg) f → EndsBoxed t 64 e → Sound (finished t overlap wanted f e)
+  finished-sound : (f : PatchSaddle) (e : Finish) → Solves (t .cfg) f → EndsBoxed t 64 e → Scored (finished t overlap wanted f e)
   finished-sound f (atStart n) p h =
       let l = slopeAt (t .img) (t .columns) (t .cfg .radius) (t .centreX) (t .centreY) in
       let w = placeOf (t .centreX) (t .centreY) plusZero plusZero in
@@ -173,13 +155,13 @@ module _ (t : Task) (overlap : List Float) (wanted : Bool) (good : goodLimit (t 
       pick (settled (s .fit)) (closed t overlap wanted (s .ox) (s .oy) (s .place) (s .fit) n (slopeWithin (s .corners) (s .place .tx) (s .place .ty))) (single t f n)
       (closed-sound (s .ox) (s .oy) (s .place) (s .fit) n (slopeWithin (s .corners) (s .place .tx) (s .place .ty)) (h .0 .solves) (h .1)) (record { score = scored f p; tries = h .1 })
 
-  by-box : (b : Bool) (e : Estimate) (d : Float) → Sound e → Answers (cond b (Accepted e) (Unmoved Rejected d))
+  by-box : (b : Bool) (e : Estimate) (d : Float) → Scored e → Answers (cond b (Accepted e) (Unmoved Rejected d))
   by-box true e d p = p
   by-box false e d p = tt
 
   saddle-sound : (v : Solved) (l : List Float) → solve (t .cfg) l ≡ v → Answers (fromSaddle t overlap wanted v)
   saddle-sound (Refused d) l e = tt
-  saddle-sound (Saddle f) l e = by-box (nearSeed t (f .ux) (f .uy)) (finished t overlap wanted f (runOf t f)) (f .«det_h») (finished-sound f (runOf t f) (record { fit = l; is = e }) (run-within t f))
+  saddle-sound (Saddle f) l e = by-box (nearSeed t (f .ux) (f .uy)) (finished t overlap wanted f (runOf t f)) (f .«det_h») (finished-sound f (runOf t f) (record { fit = l; is = e }) (boxed t f))
 
 -- ---- with the tests before it
 module _ (img : Image) (cfg : SaddlePointConfig) (x y : Float) (wanted : Bool) where
@@ -203,6 +185,9 @@ module _ (img : Image) (cfg : SaddlePointConfig) (x y : Float) (wanted : Bool) w
       by-bools (isImage img) (leb (cfg .radius) 7) (goodLimits cfg) (supportsPatch img (cfg .radius) (centreOf x) (centreOf y)) (seedOf x y) (λ seed. withOperator img cfg seed wanted (Operator.wayOf (cfg .radius)))
       (λ g. by-way (seedOf x y) (Operator.wayOf (cfg .radius)) (and-eq-true-iff (goodLimit (cfg .«det_margin»)) (goodLimit (cfg .«max_offset»)) .0 (and-eq-true-iff (goodLimit (cfg .«det_margin») && goodLimit (cfg .«max_offset»)) (goodLimit (cfg .«min_abs_det»)) .0 g .0) .0))
 
-  -- every accepted score is above zero, and the tries are at most 64
-  pub accepted-sound : (e : Estimate) → refineOf img cfg x y wanted ≡ Accepted e → Sound e
-  accepted-sound e h = subst Answers h sound
+-- ---- the claims
+pub run-within : RunsBoxed
+run-within t f = boxed t f
+
+pub accepted-sound : AcceptedScored
+accepted-sound img cfg x y wanted e h = subst Answers h (sound img cfg x y wanted)

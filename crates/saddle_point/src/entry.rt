@@ -1,4 +1,4 @@
-// One seed: document 01's tests in their order, the first fit, and what follows from it.
+// One seed: its tests in their order, the first fit, and what follows from it.
 use super::Admitted;
 use super::Refined;
 use super::Why;
@@ -105,7 +105,7 @@ fn good_limit(v: f32) -> bool
     false
 }
 
-// Document 01's test of the settings.
+// The test of the settings.
 pub fn good_limits(cfg: SaddlePointConfig) -> bool
     ensures { λ r. ⌜ r ≡ goodLimits cfg ⌝ }
 {

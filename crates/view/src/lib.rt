@@ -32,7 +32,7 @@ pub fn from_u8_slice<'a>(data: &'a [u8], width: usize, height: usize) -> ImageVi
     }
 }
 
-// Document 01's test of an image: where it fails the calls answer refusal 10.
+// The test of an image: where it fails the calls answer refusal 10.
 pub fn is_image<'a>(view: ImageView<'a>) -> bool
     ensures { λ r. ⌜ r ≡ isImage (imageIn (view .entry)) ⌝ }
 {

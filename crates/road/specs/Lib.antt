@@ -1,0 +1,2 @@
+-- What is claimed over several crates.
+pub mod Claims
