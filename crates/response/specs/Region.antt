@@ -11,7 +11,7 @@ use Rattle.shapes.specs.Numbers.{plusZero}
 use Rattle.imageview.specs.Image.{Image, pixel}
 use Rattle.pixel_response.specs.Samples.{responseOf}
 
--- a coordinate moved by a component
+-- a coordinate moved by a component; it stays at 0 or above where the ring fits, and is asked nowhere else
 abbrev pub moved : ℕ → ℤ → ℕ
 moved x (pos n) = x + n
 moved x (negsuc n) = x - suc n
@@ -20,7 +20,7 @@ unfoldable pub ringSample : Image → List ℤ → ℕ → ℕ → ℕ → ℕ
 unfolding pixel
 ringSample img ring x y k = pixel img (moved x (getD ring (2 * k) (pos 0))) (moved y (getD ring (2 * k + 1) (pos 0)))
 
--- the pixel, above, below, right, left
+-- the pixel, above, below, right, left; all five lie in the image where the ring fits
 unfoldable pub crossSample : Image → ℕ → ℕ → ℕ → ℕ
 unfolding pixel
 crossSample img x y zero = pixel img x y

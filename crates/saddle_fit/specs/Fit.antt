@@ -13,7 +13,7 @@ use Rattle.imageview.specs.Patch.{supportsPatch}
 use Rattle.fit_operator.specs.Basis.{side, samples}
 use Rattle.saddle_fit.specs.Numbers.{_⊕_, _⊖_, _⊗_}
 
--- the sample k of the patch about (x, y), as a float
+-- the sample k of the patch about (x, y), as a float; the patch lies in the image, so that x and y are at least the radius
 unfoldable pub sampleOf : Image → ℕ → ℕ → ℕ → ℕ → Float
 unfolding pixel
 sampleOf img radius x y k = ofInt binary32 (pos (pixel img (x - radius + k % side radius) (y - radius + k / side radius)))
