@@ -13,7 +13,8 @@ use borrow.Author.Tests.{eqb-true, eqb-false, leb-false, ltb-true, ltb-false, le
 use Rattle.shapes.specs.Numbers.{entry}
 use Rattle.shapes.specs.Lists.{tabulated}
 use Rattle.saddle_fit.specs.declared.Corners.{Corners}
-use Rattle.saddle_fit.specs.Between.{Fits, lacking, four, fits4, cornersAt}
+use Rattle.fit_cache.specs.Windows.{lacking, four, fits4, cornersAt}
+use Rattle.fit_cache.specs.Fit.{Fit, noFit, fitted, fitAt, coefficients}
 use lib.ListN.{length, getD, set, length-set}
 use lib.Seq.{getD-set-same, getD-set-other}
 use lib.Ieee.{Float, nan}
@@ -25,7 +26,6 @@ use Rattle.imageview.specs.Patch.{inside, supportsPatch}
 use Rattle.imageview.proofs.PatchLaws.{before}
 use Rattle.fit_cache.specs.Adding.{Sound, PatchWithin, FourWithin, hasRoom}
 use Rattle.saddle_fit.proofs.Choice.{and-both, and-first, and-second}
-use Rattle.saddle_fit.specs.Fit.{Fit, noFit, fitted, fitAt, coefficients}
 use Rattle.fit_cache.specs.Cache.{fitIn, centreX, centreY, named, filled, Shaped, Kept, Slot, Counted, Found, fitsOf, Surrounds}
 
 -- ---- the count

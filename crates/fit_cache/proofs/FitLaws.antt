@@ -18,7 +18,7 @@ use Rattle.imageview.proofs.ImageLaws.{index}
 use Rattle.fit_operator.specs.Basis.{side, samples}
 use Rattle.fit_cache.specs.declared.Sums.{Sums}
 use Rattle.saddle_fit.specs.Numbers.{_⊕_, _⊖_, _⊗_}
-use Rattle.saddle_fit.specs.Fit.{sampleOf, coefficient, coefficients}
+use Rattle.fit_cache.specs.Fit.{sampleOf, coefficient, coefficients}
 use Rattle.fit_cache.specs.Adding.{added, rowAdded, term, sumsOf, PatchWithin}
 
 -- ---- a row

@@ -22,10 +22,10 @@ use borrow.Author.Tests.{lt-ltb, le-ltb, ltb-true, ltb-false}
 use Rattle.imageview.specs.Image.{Image}
 use Rattle.imageview.specs.Patch.{inside, supportsPatch}
 use Rattle.fit_operator.proofs.BasisLaws.{sub-small}
-use Rattle.saddle_fit.specs.Fit.{Fit, noFit, fitAt, fitWithin}
-use Rattle.saddle_fit.specs.Between.{Place, baseOf, placeOf, Fits, lacking, fits4, cornersAt}
-use Rattle.fit_cache.specs.Adding.{Sound}
+use Rattle.fit_cache.specs.Fit.{Fit, noFit, fitAt, fitWithin}
+use Rattle.fit_cache.specs.Windows.{baseOf, placeOf, Fits, lacking, cornersAt}
 use Rattle.fit_cache.specs.Tries.{pixelOf, windowOf}
+use Rattle.fit_cache.specs.Adding.{Sound}
 use Rattle.fit_cache.proofs.CacheLaws.{none-first, behind}
 
 -- ---- the sum

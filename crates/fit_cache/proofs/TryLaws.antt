@@ -19,12 +19,13 @@ use Rattle.fit_cache.specs.declared.Candidate.{Candidate}
 use Rattle.fit_cache.specs.declared.Around.{Around}
 use Rattle.fit_cache.specs.declared.IntegerFits.{IntegerFits}
 use Rattle.saddle_fit.specs.Numbers.{_⊕_}
-use Rattle.saddle_fit.specs.Solve.{solve}
-use Rattle.saddle_fit.specs.Between.{Place, placeOf, Fits, lacking, four, cornersAt, blend}
-use Rattle.saddle_fit.specs.Run.{Task, Stand, Tried, passed, taken, nearAlong, nearSeed, norm2, judged, weighed, candidate}
+use Rattle.saddle_fit.specs.Solve.{solve, norm2}
+use Rattle.fit_cache.specs.Windows.{Place, placeOf, Fits, four, cornersAt}
+use Rattle.saddle_fit.specs.Between.{blend}
+use Rattle.fit_cache.specs.Candidate.{Tried, passed, taken, nearAlong, nearSeed, judged, weighed, candidate, taskAt}
+use Rattle.fit_cache.specs.Tries.{windowOf, Weighs, Tries}
 use Rattle.fit_cache.specs.Adding.{Sound}
 use Rattle.fit_cache.specs.Cache.{Kept, fitsOf, Surrounds}
-use Rattle.fit_cache.specs.Tries.{pixelOf, windowOf, taskAt, triedBy, Weighs, Tries}
 use Rattle.saddle_fit.proofs.Choice.{and-both, and-first, and-second}
 use Rattle.fit_cache.proofs.PlaceLaws.{same-corners}
 

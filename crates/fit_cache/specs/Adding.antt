@@ -14,7 +14,7 @@ use Rattle.imageview.specs.Steps.{Tested}
 use Rattle.fit_operator.specs.Basis.{samples}
 use Rattle.fit_cache.specs.declared.Sums.{Sums}
 use Rattle.saddle_fit.specs.Numbers.{_⊕_, _⊖_, _⊗_}
-use Rattle.saddle_fit.specs.Fit.{sampleOf}
+use Rattle.fit_cache.specs.Fit.{sampleOf}
 
 -- with the sample k, which is z above the centre's
 abbrev pub added : List Float → ℕ → Float → Sums → Sums

@@ -13,8 +13,9 @@ use Rattle.saddle_fit.specs.declared.Corners.{Corners}
 use Rattle.fit_cache.specs.declared.Around.{Around}
 use Rattle.fit_cache.specs.declared.IntegerFits.{IntegerFits}
 use Rattle.fit_cache.specs.declared.Looked.{Looked}
-use Rattle.saddle_fit.specs.Fit.{coefficients}
-use Rattle.saddle_fit.specs.Between.{Fits, lacking, four, cornersAt}
+use Rattle.fit_cache.specs.Fit.{coefficients}
+use Rattle.fit_cache.specs.Windows.{Fits, lacking, four, cornersAt}
+
 
 -- the fit in a slot, and its centre
 abbrev pub fitIn : List Float → ℕ → List Float

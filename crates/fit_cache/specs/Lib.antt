@@ -1,4 +1,7 @@
--- The fits: what a fit asks of a patch, the nine kept ones, and one candidate.
+-- The fit on a patch, the window between pixels, one candidate of a run; and what the steps of the work promise: the sums, the nine kept fits, a candidate's outcome.
+pub mod Fit
+pub mod Windows
+pub mod Candidate
 pub mod Adding
 pub mod Cache
 pub mod Tries

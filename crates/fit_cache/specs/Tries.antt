@@ -1,6 +1,6 @@
 -- One candidate as the code has it: a base as a pixel's number, and what a candidate that is taken or passed hands on.
 use mathlib.Core.Path.{_≡_}
-use mathlib.Core.Bool.{Bool, true, false, cond}
+use mathlib.Core.Bool.{Bool, cond}
 use mathlib.Core.List.{List}
 use Prim.Native.Nat.{ℕ}
 use lib.Dec.{ltb}
@@ -14,8 +14,8 @@ use Rattle.fit_cache.specs.declared.Window.{Window}
 use Rattle.fit_cache.specs.declared.Seed.{Seed}
 use Rattle.fit_cache.specs.declared.Weighed.{Weighed}
 use Rattle.fit_cache.specs.declared.Candidate.{Candidate}
-use Rattle.saddle_fit.specs.Between.{Place, placeOf, four}
-use Rattle.saddle_fit.specs.Run.{Task, Stand, Tried, passed, taken, weighed, candidate}
+use Rattle.fit_cache.specs.Windows.{Place, placeOf, four}
+use Rattle.fit_cache.specs.Candidate.{taskAt, Task, Tried, passed, taken, weighed, candidate}
 use Rattle.fit_cache.specs.Cache.{Kept}
 
 -- a whole number as a pixel's number; 8192 is none, since no image is as wide
@@ -25,9 +25,6 @@ pixelOf (negsuc n) = 8192
 
 abbrev pub windowOf : Place → Window
 windowOf p = record { «base_x» = pixelOf (p .baseX); «base_y» = pixelOf (p .baseY); tx = p .tx; ty = p .ty }
-
-abbrev pub taskAt : Image → List Float → SaddlePointConfig → Seed → Task
-taskAt img columns cfg seed = record { img = img; columns = columns; cfg = cfg; centreX = pos (seed .«centre_x»); centreY = pos (seed .«centre_y»); seedX = seed .x; seedY = seed .y }
 
 abbrev pub triedBy : Bool → Float → Float → Place → Corners → PatchSaddle → Tried
 triedBy b ox oy w c f = cond b (taken (record { ox = ox; oy = oy; place = w; corners = c; fit = f })) passed

@@ -5,7 +5,7 @@ ghost use mathlib.Core.Path.{_≡_};
 ghost use Prim.Native.Nat.{_+_, _*_, _<_, _≤_};
 ghost use lib.ListN.{length};
 ghost use Rattle.imageview.specs.Image.{imageOf};
-ghost use Rattle.saddle_fit.specs.Fit.{coefficients};
+ghost use Rattle.fit_cache.specs.Fit.{coefficients};
 ghost use Rattle.fit_cache.specs.Adding.{added, rowAdded, PatchWithin};
 
 // The sums with the sample k, which is z above the centre's.

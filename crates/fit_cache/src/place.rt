@@ -3,8 +3,9 @@ use super::Window;
 ghost use mathlib.Core.Path.{_≡_};
 ghost use Prim.Native.Nat.{_<_};
 ghost use lib.IntN.{pos, _+ℤ_};
-ghost use Rattle.saddle_fit.specs.Between.{placeOf};
+ghost use Rattle.fit_cache.specs.Windows.{placeOf};
 ghost use Rattle.fit_cache.specs.Tries.{pixelOf, windowOf};
+
 
 // The pixel `by` away from `from`.
 fn moved(from: usize, by: i32) -> usize

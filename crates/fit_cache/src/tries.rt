@@ -16,10 +16,11 @@ ghost use mathlib.Core.Bool.{_&&_};
 ghost use Prim.Native.Nat.{_<_, _≤_};
 ghost use lib.IntN.{pos};
 ghost use Rattle.imageview.specs.Image.{imageOf};
-ghost use Rattle.saddle_fit.specs.Run.{halfSide, nearAlong};
+ghost use Rattle.fit_cache.specs.Candidate.{halfSide, nearAlong, taskAt};
+ghost use Rattle.fit_cache.specs.Tries.{Weighs, Tries};
 ghost use Rattle.fit_cache.specs.Adding.{Sound};
 ghost use Rattle.fit_cache.specs.Cache.{Kept};
-ghost use Rattle.fit_cache.specs.Tries.{taskAt, Weighs, Tries};
+
 
 // Half the side of the box about the seed.
 fn half_side(cfg: SaddlePointConfig) -> f32

@@ -14,11 +14,13 @@ use Rattle.imageview.specs.Patch.{supportsPatch}
 use Rattle.fit_operator.specs.Call.{wayOf}
 use Rattle.fit_operator.specs.Inverse.{inverseNormalMatrix, pivotOf, swapped, scaled, cleared}
 use Rattle.fit_operator.specs.Rows.{columnsOf, overlapOf}
-use Rattle.saddle_fit.specs.Fit.{fitAt}
+use Rattle.fit_cache.specs.Fit.{fitAt}
 use Rattle.saddle_fit.specs.Solve.{solve}
-use Rattle.saddle_fit.specs.Between.{placeOf, cornersAt, blend}
-use Rattle.saddle_fit.specs.Sensitivity.{slopeWithin, slopeAt, saddleJacobian, sensitivity, newtonStep}
-use Rattle.saddle_fit.specs.Run.{runOf}
+use Rattle.fit_cache.specs.Windows.{placeOf, cornersAt}
+use Rattle.saddle_fit.specs.Between.{blend}
+use Rattle.saddle_fit.specs.Sensitivity.{slopeWithin, saddleJacobian, sensitivity, newtonStep}
+use Rattle.saddle_point.specs.PixelSlope.{slopeAt}
+use Rattle.saddle_point.specs.Run.{runOf}
 use Rattle.saddle_fit.specs.Covariance.{covarianceOf}
 use Rattle.saddle_fit.specs.declared.Covariance.{Covariance}
 use Rattle.saddle_fit.specs.declared.Covariance.the-variants.{Known, Unknown}

@@ -1,33 +1,10 @@
--- A window between pixels: the pixel below and before it, and how far on it lies; the bilinear blend of the four fits about it; its saddle.
+-- The bilinear blend of the four fits about a window between pixels.
 use mathlib.Core.List.{List}
-use Prim.Native.Nat.{ℕ}
-use lib.IntN.{ℤ, pos, _+ℤ_}
-use lib.Ieee.{Float, binary32, toSigned}
-use Rattle.floats.specs.Whole.{floor}
+use lib.Ieee.{Float}
 use Rattle.shapes.specs.Lists.{tabulated}
 use Rattle.shapes.specs.Numbers.{one, entry}
-use Rattle.imageview.specs.Image.{Image}
 use Rattle.saddle_fit.specs.Numbers.{_⊕_, _⊖_, _⊗_}
-use Rattle.saddle_fit.specs.Fit.{Fit, noFit, fitted, fitAt}
 use Rattle.saddle_fit.specs.declared.Corners.{Corners}
-
--- the place of a window: the base in whole pixels, which need not fit 32 bits, and the fractions
-pub record Place : Type 0 where
-  pub baseX : ℤ
-  pub baseY : ℤ
-  pub tx : Float
-  pub ty : Float
-
--- the base along an axis, from the centre and the offset, and the fraction
-abbrev pub baseOf : ℤ → Float → ℤ
-baseOf centre offset = centre +ℤ toSigned 31 (floor binary32 offset)
-
-abbrev pub fractionOf : Float → Float
-fractionOf offset = offset ⊖ floor binary32 offset
-
-unfoldable pub placeOf : ℤ → ℤ → Float → Float → Place
-unfolding floor
-placeOf cx cy ox oy = record { baseX = baseOf cx ox; baseY = baseOf cy oy; tx = fractionOf ox; ty = fractionOf oy }
 
 -- ---- the weights of the four pixels
 abbrev pub weight00 : Float → Float → Float
@@ -41,23 +18,6 @@ weight01 tx ty = (one ⊖ tx) ⊗ ty
 
 abbrev pub weight11 : Float → Float → Float
 weight11 tx ty = tx ⊗ ty
-
--- the four fits about a base: here, right, below, below right
-pub data Fits : Type 0 where
-  lacking : Fits
-  four : Corners → Fits
-
-abbrev pub fits4 : Fit → Fit → Fit → Fit → Fits
-fits4 (fitted a) (fitted b) (fitted c) (fitted d) = four (record { c00 = a; c10 = b; c01 = c; c11 = d })
-fits4 (fitted a) (fitted b) (fitted c) noFit = lacking
-fits4 (fitted a) (fitted b) noFit d = lacking
-fits4 (fitted a) noFit c d = lacking
-fits4 noFit b c d = lacking
-
-unfoldable pub cornersAt : Image → List Float → ℕ → ℤ → ℤ → Fits
-unfolding fitAt
-cornersAt img columns radius x y =
-    fits4 (fitAt img columns radius x y) (fitAt img columns radius (x +ℤ pos 1) y) (fitAt img columns radius x (y +ℤ pos 1)) (fitAt img columns radius (x +ℤ pos 1) (y +ℤ pos 1))
 
 unfoldable pub blend : Corners → Float → Float → List Float
 unfolding tabulated

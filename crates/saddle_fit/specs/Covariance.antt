@@ -17,6 +17,7 @@ use Rattle.saddle_fit.specs.Numbers.{_⊕_, _⊗_, _⊘_}
 use Rattle.saddle_fit.specs.Between.{weight00, weight10, weight01, weight11}
 use Rattle.saddle_fit.specs.Sensitivity.{matrixDet, dot}
 
+
 -- the weight of the pixel (i, j) of the four, by 2 · j + i
 abbrev pub weight : Float → Float → ℕ → Float
 weight tx ty zero = weight00 tx ty

@@ -1,14 +1,11 @@
 -- How the saddle moves with the window: the slope of the coefficients along each axis, the Jacobian of the saddle, their product, and the Newton step.
 use mathlib.Core.Bool.{Bool, _&&_, not, cond}
 use mathlib.Core.List.{List, [], _∷_}
-use Prim.Native.Nat.{ℕ, zero}
-use lib.IntN.{ℤ, pos, negsuc, _+ℤ_}
 use lib.Ieee.{Float, binary32, ofBits, lt, eq, neg}
 use lib.Ieee.Scale.{finite}
 use Rattle.shapes.specs.Lists.{tabulated}
 use Rattle.shapes.specs.Numbers.{plusZero, minusZero, one, entry}
 use Rattle.shapes.specs.Turns.{turns}
-use Rattle.imageview.specs.Image.{Image}
 use Rattle.saddle_fit.specs.declared.PatchSaddle.{PatchSaddle}
 use Rattle.saddle_fit.specs.declared.Corners.{Corners}
 use Rattle.saddle_fit.specs.declared.Slope.{Slope}
@@ -16,7 +13,7 @@ use Rattle.saddle_fit.specs.declared.Jacobian.{Jacobian}
 use Rattle.saddle_fit.specs.declared.Matrix.{Matrix}
 use Rattle.saddle_fit.specs.declared.Move.{Move}
 use Rattle.saddle_fit.specs.Numbers.{_⊕_, _⊖_, _⊗_, _⊘_, two}
-use Rattle.saddle_fit.specs.Fit.{Fit, noFit, fitted, fitAt}
+
 
 -- within four fits
 unfoldable pub slopeWithin : Corners → Float → Float → Slope
@@ -26,34 +23,9 @@ slopeWithin c tx ty = record {
   y = tabulated 5 (λ k. (one ⊖ tx) ⊗ (entry (c .c01) k ⊖ entry (c .c00) k) ⊕ tx ⊗ (entry (c .c11) k ⊖ entry (c .c10) k));
 }
 
--- ---- at a pixel: the difference to the next fit, or from the one before where the next leaves the image
-pub data Sloped : Type 0 where
-  noSlope : Sloped
-  sloped : Slope → Sloped
-
+-- ---- from one fit to the next
 abbrev pub difference : List Float → List Float → List Float
 difference high low = tabulated 5 (λ k. plusZero ⊕ one ⊗ (entry high k ⊖ entry low k))
-
-pub data Along : Type 0 where
-  noWay : Along
-  way : List Float → Along
-
-abbrev pub along : Fit → Fit → Fit → Along
-along (fitted here) (fitted next) before = way (difference next here)
-along (fitted here) noFit (fitted before) = way (difference here before)
-along (fitted here) noFit noFit = noWay
-along noFit next before = noWay
-
-abbrev pub both : Along → Along → Sloped
-both (way x) (way y) = sloped (record { x = x; y = y })
-both (way x) noWay = noSlope
-both noWay y = noSlope
-
-unfoldable pub slopeAt : Image → List Float → ℕ → ℤ → ℤ → Sloped
-unfolding fitAt
-slopeAt img columns radius x y =
-    both (along (fitAt img columns radius x y) (fitAt img columns radius (x +ℤ pos 1) y) (fitAt img columns radius (x +ℤ negsuc 0) y))
-    (along (fitAt img columns radius x y) (fitAt img columns radius x (y +ℤ pos 1)) (fitAt img columns radius x (y +ℤ negsuc 0)))
 
 -- ---- the Jacobian of the saddle by the coefficients, two rows of five
 abbrev pub rowX : PatchSaddle → List Float

@@ -1,7 +1,7 @@
 -- The saddle of a fitted quadratic, or the determinant where it is refused: above minus the margin, too small, or with an offset that is not finite.
 use mathlib.Core.Bool.{Bool, _&&_, _||_, not, cond}
 use mathlib.Core.List.{List}
-use lib.Ieee.{Float, binary32, lt, neg}
+use lib.Ieee.{Float, binary32, ofBits, lt, neg}
 use lib.Ieee.Scale.{finite}
 use Rattle.floats.specs.Magnitude.{magnitude}
 use Rattle.floats.specs.Root.{sqrt}
@@ -10,7 +10,7 @@ use Rattle.saddle_fit.specs.declared.SaddlePointConfig.{SaddlePointConfi
 use Rattle.saddle_fit.specs.declared.PatchSaddle.{PatchSaddle}
 use Rattle.saddle_fit.specs.declared.Solved.{Solved}
 use Rattle.saddle_fit.specs.declared.Solved.the-variants.{Refused, Saddle}
-use Rattle.saddle_fit.specs.Numbers.{_⊖_, _⊗_, _⊘_, two, four}
+use Rattle.saddle_fit.specs.Numbers.{_⊕_, _⊖_, _⊗_, _⊘_, two, four}
 
 -- det H = 4ac - b²
 abbrev pub determinant : Float → Float → Float → Float
@@ -45,3 +45,14 @@ scoreOf f = sqrt binary32 (neg (f .«det_h»))
 -- a setting that can be used: finite and not below zero; -0.0 is not below it
 abbrev pub goodLimit : Float → Bool
 goodLimit v = finite v && not (lt v plusZero)
+
+-- |u|²
+abbrev pub norm2 : PatchSaddle → Float
+norm2 f = f .ux ⊗ f .ux ⊕ f .uy ⊗ f .uy
+
+-- the tolerance 1e-3, squared
+abbrev pub tolerance : Float
+tolerance = ofBits binary32 0x3A83126F ⊗ ofBits binary32 0x3A83126F
+
+abbrev pub settled : PatchSaddle → Bool
+settled f = lt (norm2 f) tolerance

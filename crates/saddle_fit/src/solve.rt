@@ -4,7 +4,6 @@ use super::SaddlePointConfig;
 use super::Solved;
 ghost use mathlib.Core.Path.{_≡_};
 ghost use Rattle.saddle_fit.specs.Solve as Spec;
-ghost use Rattle.saddle_fit.specs.Run as Run;
 
 // A tie at a limit is not refused.
 pub fn solve(cfg: SaddlePointConfig, coefs: [f32; 5]) -> Solved
@@ -42,14 +41,14 @@ pub fn solve(cfg: SaddlePointConfig, coefs: [f32; 5]) -> Solved
 
 // |u|².
 pub fn norm2(f: PatchSaddle) -> f32
-    ensures { λ r. ⌜ r ≡ Run.norm2 f ⌝ }
+    ensures { λ r. ⌜ r ≡ Spec.norm2 f ⌝ }
 {
     f.ux * f.ux + f.uy * f.uy
 }
 
 // Within a thousandth of a pixel of the window's centre.
 pub fn settled(f: PatchSaddle) -> bool
-    ensures { λ r. ⌜ r ≡ Run.settled f ⌝ }
+    ensures { λ r. ⌜ r ≡ Spec.settled f ⌝ }
 {
     f.ux * f.ux + f.uy * f.uy < 1e-3f32 * 1e-3f32
 }

@@ -26,14 +26,16 @@ use Rattle.saddle_fit.specs.declared.Covariance.{Covariance}
 use Rattle.saddle_fit.specs.declared.Covariance.the-variants.{Unknown}
 use Rattle.saddle_fit.specs.declared.SaddlePointConfig.{SaddlePointConfig}
 use Rattle.saddle_fit.specs.Numbers.{_⊕_}
-use Rattle.saddle_fit.specs.Fit.{Fit, noFit, fitted, fitAt, fitWithin, coefficients}
-use Rattle.saddle_fit.specs.Between.{Place, placeOf}
-use Rattle.saddle_fit.specs.Sensitivity.{regular, Along, noWay, way, along, both, difference, slopeAt, slopeWithin, saddleJacobian, sensitivity, Sloped}
+use Rattle.fit_cache.specs.Fit.{Fit, noFit, fitted, fitAt, fitWithin, coefficients}
+use Rattle.fit_cache.specs.Windows.{Place, placeOf}
+use Rattle.saddle_fit.specs.Sensitivity.{regular, difference, slopeWithin, saddleJacobian, sensitivity}
+use Rattle.saddle_point.specs.PixelSlope.{Along, noWay, way, along, both, slopeAt}
+use Rattle.fit_cache.specs.Candidate.{Task, taskAt}
+use Rattle.saddle_point.specs.Run.{Finish, atStart, runOf, picked, stepsFrom, searchFrom}
+use Rattle.saddle_fit.specs.Solve.{settled}
 use Rattle.saddle_fit.specs.Covariance.{covarianceOf}
-use Rattle.saddle_fit.specs.Run.{Task, Finish, atStart, settled, runOf, picked, stepsFrom, searchFrom}
 use Rattle.saddle_point.specs.Refine.{single, estimate, closed, closedAt, finished}
 use Rattle.fit_cache.specs.Adding.{Sound, PatchWithin}
-use Rattle.fit_cache.specs.Tries.{taskAt}
 use Rattle.saddle_point.specs.Ending.{Ends, centred, Closes, wayOf, GoesX, GoesY}
 use Rattle.fit_cache.proofs.CacheLaws.{there, behind}
 use Rattle.fit_cache.proofs.PlaceLaws.{never}

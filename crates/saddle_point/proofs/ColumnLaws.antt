@@ -30,12 +30,13 @@ use Rattle.saddle_point.specs.declared.Refined.the-variants as Refined
 use Rattle.saddle_point.specs.declared.Why.the-variants.{Rejected, IllConditioned}
 use Rattle.refusals.specs.declared.Refusal.the-variants.{BadRadius}
 use Rattle.saddle_fit.specs.Numbers.{_⊕_, _⊖_, _⊗_, half}
-use Rattle.saddle_fit.specs.Fit.{sampleOf, coefficient, coefficients, Fit, noFit, fitted, fitWithin, fitAt}
-use Rattle.saddle_fit.specs.Solve.{solve}
-use Rattle.saddle_fit.specs.Between.{Place, placeOf, Fits, lacking, four, fits4, cornersAt, blend}
-use Rattle.saddle_fit.specs.Sensitivity.{Sloped, noSlope, sloped, along, both, slopeAt}
-use Rattle.saddle_fit.specs.Run.{Task, nearSeed, settled, norm2, Stand, Tried, passed, taken, judged, weighed, candidate, Search, orElse, searchFrom, Finish, atStart, atStand, picked, laterMove, stepsFrom, runOf}
-use Rattle.fit_cache.specs.Tries.{taskAt}
+use Rattle.fit_cache.specs.Fit.{sampleOf, coefficient, coefficients, Fit, noFit, fitted, fitWithin, fitAt}
+use Rattle.saddle_fit.specs.Solve.{solve, settled}
+use Rattle.fit_cache.specs.Windows.{Place, placeOf, Fits, lacking, four, fits4, cornersAt}
+use Rattle.saddle_fit.specs.Between.{blend}
+use Rattle.saddle_point.specs.PixelSlope.{Sloped, noSlope, sloped, along, both, slopeAt}
+use Rattle.fit_cache.specs.Candidate.{Task, nearSeed, Stand, Tried, passed, taken, judged, weighed, candidate, taskAt}
+use Rattle.saddle_point.specs.Run.{Search, orElse, searchFrom, Finish, atStart, atStand, picked, laterMove, stepsFrom, runOf}
 use Rattle.saddle_point.specs.Refine.{single, closed, closedAt, finished, fromSaddle, refineWith, withOperator}
 
 -- ---- two images and two operators that give the same fit entry every pixel

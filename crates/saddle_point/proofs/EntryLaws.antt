@@ -33,10 +33,10 @@ use Rattle.saddle_point.specs.declared.Why.the-variants.{Rejected, OutOf
 use Rattle.refusals.specs.declared.Refusal.the-variants.{BadImage, BadRadius, BadLimit}
 use Rattle.fit_operator.specs.Call as Operator
 use Rattle.saddle_fit.specs.Solve.{solve}
-use Rattle.saddle_fit.specs.Run.{Task, nearAlong, nearSeed, runOf}
+use Rattle.fit_cache.specs.Candidate.{Task, nearAlong, nearSeed, taskAt}
+use Rattle.saddle_point.specs.Run.{runOf}
 use Rattle.saddle_point.specs.Refine.{goodLimits, centreOf, seedOf, admitOf, answered, finished, fromSaddle, refineWith, lentWith, refineLent, withOperator, refineOf}
 use Rattle.fit_cache.specs.Adding.{Sound, PatchWithin}
-use Rattle.fit_cache.specs.Tries.{taskAt}
 use Rattle.saddle_point.proofs.StepLaws.{no, yes, differs}
 
 -- ---- a centre inside

@@ -19,11 +19,11 @@ use Rattle.fit_operator.specs.Basis.{side, samples}
 use Rattle.fit_operator.specs.Call as Operator
 use Rattle.saddle_fit.specs.declared.SaddlePointConfig.{SaddlePointConfig}
 use Rattle.saddle_fit.specs.Numbers.{_⊕_, _⊖_, _⊗_}
-use Rattle.saddle_fit.specs.Fit.{sampleOf, coefficient, coefficients, Fit, noFit, fitted, fitWithin, fitAt}
+use Rattle.fit_cache.specs.Fit.{sampleOf, coefficient, coefficients, noFit, fitted, fitAt}
 use Rattle.saddle_fit.specs.Solve.{solve}
+use Rattle.fit_cache.specs.Candidate.{taskAt}
 use Rattle.fit_cache.specs.declared.Seed.{Seed}
 use Rattle.fit_cache.specs.Adding.{PatchWithin}
-use Rattle.fit_cache.specs.Tries.{taskAt}
 use Rattle.saddle_point.specs.declared.Refined.{Refined}
 use Rattle.saddle_point.specs.declared.Admitted.{Admitted}
 use Rattle.saddle_point.specs.declared.Admitted.the-variants as Admitted

@@ -18,12 +18,13 @@ use Rattle.saddle_fit.specs.declared.Solved.the-variants.{Refused, Saddle}
 use Rattle.saddle_fit.specs.declared.Covariance.{Covariance}
 use Rattle.saddle_fit.specs.declared.Covariance.the-variants.{Unknown}
 use Rattle.saddle_fit.specs.Numbers.{_⊕_}
-use Rattle.saddle_fit.specs.Solve.{solve}
-use Rattle.saddle_fit.specs.Between.{Place, placeOf}
-use Rattle.saddle_fit.specs.Sensitivity.{regular, Sloped, noSlope, sloped, slopeAt, slopeWithin, saddleJacobian, sensitivity}
+use Rattle.saddle_fit.specs.Solve.{solve, settled}
+use Rattle.fit_cache.specs.Windows.{Place, placeOf}
+use Rattle.saddle_fit.specs.Sensitivity.{regular, slopeWithin, saddleJacobian, sensitivity}
+use Rattle.saddle_point.specs.PixelSlope.{Sloped, noSlope, sloped, slopeAt}
+use Rattle.fit_cache.specs.Candidate.{Task, nearAlong, taskAt}
+use Rattle.saddle_point.specs.Run.{runOf, searchFrom, stepsFrom, picked, Finish, atStart}
 use Rattle.saddle_fit.specs.Covariance.{covarianceOf}
-use Rattle.saddle_fit.specs.Run.{Task, nearAlong, nearSeed, settled, runOf, searchFrom, stepsFrom, picked, Finish, atStart}
-use Rattle.fit_cache.specs.Tries.{taskAt}
 use Rattle.saddle_point.specs.declared.Ended.{Ended}
 use Rattle.saddle_point.specs.declared.Estimate.{Estimate}
 use Rattle.saddle_point.specs.declared.Refined.{Refined}

@@ -12,16 +12,19 @@ use Rattle.saddle_fit.specs.declared.PatchSaddle.{PatchSaddle}
 use Rattle.saddle_fit.specs.declared.Move.{Move}
 use Rattle.saddle_point.specs.declared.Estimate.{Estimate}
 use Rattle.saddle_fit.specs.Numbers.{_⊕_, _⊗_, half}
-use Rattle.saddle_fit.specs.Between.{placeOf}
-use Rattle.saddle_fit.specs.Sensitivity.{slopeWithin, slopeAt, saddleJacobian, sensitivity, newtonStep}
-use Rattle.saddle_fit.specs.Run.{Task, Stand, Tried, passed, taken, Search, Finish, atStart, atStand, settled, picked, orElse, laterMove, candidate, searchFrom, stepsFrom, runOf}
+use Rattle.fit_cache.specs.Windows.{placeOf}
+use Rattle.saddle_fit.specs.Sensitivity.{slopeWithin, saddleJacobian, sensitivity, newtonStep}
+use Rattle.saddle_point.specs.PixelSlope.{slopeAt}
+use Rattle.fit_cache.specs.Candidate.{Task, Stand, Tried, passed, taken, candidate}
+use Rattle.saddle_point.specs.Run.{Finish, atStart, atStand, picked, orElse, laterMove, searchFrom, stepsFrom, runOf}
+use Rattle.saddle_fit.specs.Solve.{settled}
+use Rattle.fit_cache.specs.Tries.{Tries}
 use Rattle.saddle_point.specs.Refine.{single, closed, closedAt, finished}
 use Rattle.saddle_point.specs.declared.Ended.{Ended}
 use Rattle.fit_cache.specs.declared.Candidate.{Candidate}
 use Rattle.fit_cache.specs.declared.Window.{Window}
 use Rattle.fit_cache.specs.declared.IntegerFits.{IntegerFits}
 use Rattle.fit_cache.specs.Cache.{Shaped, Kept, Fresh}
-use Rattle.fit_cache.specs.Tries.{Tries}
 use Rattle.saddle_point.specs.Ending.{onward, from, Going, Ends}
 
 pub no : {A : Type 0} (b : Bool) (x y : A) → b ≡ false → cond b x y ≡ y

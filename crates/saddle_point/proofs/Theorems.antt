@@ -19,12 +19,15 @@ use Rattle.saddle_fit.specs.declared.Solved.the-variants.{Refused, Saddle}
 use Rattle.saddle_fit.specs.declared.Covariance.{Covariance}
 use Rattle.saddle_fit.specs.declared.Covariance.the-variants.{Unknown}
 use Rattle.saddle_fit.specs.Numbers.{_⊕_, _⊗_, half}
-use Rattle.saddle_fit.specs.Fit.{coefficients}
-use Rattle.saddle_fit.specs.Solve.{solve, scoreOf, goodLimit}
-use Rattle.saddle_fit.specs.Between.{Place, placeOf, Fits, lacking, four, cornersAt, blend}
+use Rattle.fit_cache.specs.Fit.{coefficients}
+use Rattle.saddle_fit.specs.Solve.{solve, scoreOf, goodLimit, settled, norm2}
+use Rattle.fit_cache.specs.Windows.{Place, placeOf, Fits, lacking, four, cornersAt}
+use Rattle.saddle_fit.specs.Between.{blend}
+use Rattle.saddle_fit.specs.Sensitivity.{regular, slopeWithin, saddleJacobian, sensitivity}
+use Rattle.saddle_point.specs.PixelSlope.{Sloped, noSlope, sloped, slopeAt}
+use Rattle.fit_cache.specs.Candidate.{Task, nearSeed, Stand, Tried, passed, taken, judged, weighed, candidate, taskAt}
+use Rattle.saddle_point.specs.Run.{Search, orElse, searchFrom, Finish, atStart, atStand, picked, laterMove, stepsFrom, runOf}
 use Rattle.saddle_fit.specs.Covariance.{covarianceOf}
-use Rattle.saddle_fit.specs.Sensitivity.{regular, Sloped, noSlope, sloped, slopeAt, slopeWithin, saddleJacobian, sensitivity}
-use Rattle.saddle_fit.specs.Run.{Task, nearSeed, settled, norm2, Stand, Tried, passed, taken, judged, weighed, candidate, Search, orElse, searchFrom, Finish, atStart, atStand, picked, laterMove, stepsFrom, runOf}
 use Rattle.saddle_fit.proofs.SolveLaws.{score-above-zero}
 use Rattle.saddle_point.specs.declared.Estimate.{Estimate}
 use Rattle.saddle_point.specs.declared.Refined.{Refined}
@@ -32,7 +35,6 @@ use Rattle.saddle_point.specs.declared.Refined.the-variants.{Accepted, U
 use Rattle.saddle_point.specs.declared.Refined.the-variants as Refined
 use Rattle.saddle_point.specs.declared.Why.the-variants.{Rejected}
 use Rattle.fit_cache.specs.declared.Seed.{Seed}
-use Rattle.fit_cache.specs.Tries.{taskAt}
 use Rattle.saddle_point.specs.Refine.{single, estimate, closed, closedAt, finished, fromSaddle, centreOf, seedOf, answered, goodLimits, withOperator, refineOf}
 use Rattle.saddle_point.specs.Claims.{Solves, Boxed, EndsBoxed, Scored, RunsBoxed, AcceptedScored}
 use Rattle.saddle_point.proofs.EntryLaws.{chosen}

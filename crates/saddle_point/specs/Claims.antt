@@ -15,7 +15,8 @@ use Rattle.saddle_fit.specs.declared.PatchSaddle.{PatchSaddle}
 use Rattle.saddle_fit.specs.declared.Solved.the-variants.{Saddle}
 use Rattle.saddle_fit.specs.Numbers.{_⊕_}
 use Rattle.saddle_fit.specs.Solve.{solve}
-use Rattle.saddle_fit.specs.Run.{Task, nearSeed, Stand, Finish, atStart, atStand, runOf}
+use Rattle.fit_cache.specs.Candidate.{Task, nearSeed, Stand}
+use Rattle.saddle_point.specs.Run.{Finish, atStart, atStand, runOf}
 use Rattle.saddle_point.specs.declared.Estimate.{Estimate}
 use Rattle.saddle_point.specs.declared.Refined.the-variants.{Accepted}
 use Rattle.saddle_point.specs.Refine.{refineOf, refineLent}

@@ -12,16 +12,16 @@ use Rattle.saddle_point.specs.declared.Estimate.{Estimate}
 use Rattle.saddle_point.specs.declared.Ended.{Ended}
 use Rattle.fit_cache.specs.declared.IntegerFits.{IntegerFits}
 use Rattle.fit_cache.specs.Cache.{Kept}
-use Rattle.saddle_fit.specs.Between.{Place, placeOf}
+use Rattle.fit_cache.specs.Windows.{Place, placeOf}
+use Rattle.fit_cache.specs.Fit.{fitAt}
+use Rattle.fit_cache.specs.Candidate.{taskAt, Task, Stand, Tried, passed, taken}
+use Rattle.saddle_fit.specs.Sensitivity.{slopeWithin}
+use Rattle.saddle_point.specs.Run.{searchFrom, stepsFrom, runOf}
 use Rattle.imageview.specs.Image.{Image, imageOf, sizesOf}
 use Rattle.saddle_point.specs.declared.Sloping.{Sloping}
 use Rattle.saddle_fit.specs.declared.Slope.{Slope}
 use Rattle.fit_cache.specs.declared.Seed.{Seed}
-use Rattle.saddle_fit.specs.Fit.{fitAt}
-use Rattle.fit_cache.specs.Tries.{taskAt}
-use Rattle.saddle_fit.specs.Sensitivity as Sensitivity
-use Rattle.saddle_fit.specs.Sensitivity.{slopeWithin}
-use Rattle.saddle_fit.specs.Run.{Task, Stand, Tried, passed, taken, Search, searchFrom, stepsFrom, runOf}
+use Rattle.saddle_point.specs.PixelSlope.{Along, noWay, way, along}
 use Rattle.saddle_point.specs.Refine.{single, closed, finished}
 
 -- what is handed on is what the whole run's end gives, whatever the operator's overlaps and whether the covariance is wanted
@@ -63,11 +63,11 @@ pub record Closes (t : Task) (overlap : List Float) (wanted : Bool) (ox oy tx ty
   pub is : (w : Place) → tx ≡ w .tx → ty ≡ w .ty → r ≡ closed t overlap wanted ox oy w f n s
 
 -- the slope along an axis at a pixel
-abbrev pub wayOf : Sloping → Sensitivity.Along
-wayOf r = cond (r .found) (Sensitivity.way (r .coefs)) Sensitivity.noWay
+abbrev pub wayOf : Sloping → Along
+wayOf r = cond (r .found) (way (r .coefs)) noWay
 
 pub record GoesX (img : Image) (columns : List Float) (radius x y : ℕ) (r : Sloping) : Type 0 where
-  pub is : Sensitivity.along (fitAt img columns radius (pos x) (pos y)) (fitAt img columns radius (pos x +ℤ pos 1) (pos y)) (fitAt img columns radius (pos x +ℤ negsuc 0) (pos y)) ≡ wayOf r
+  pub is : along (fitAt img columns radius (pos x) (pos y)) (fitAt img columns radius (pos x +ℤ pos 1) (pos y)) (fitAt img columns radius (pos x +ℤ negsuc 0) (pos y)) ≡ wayOf r
 
 pub record GoesY (img : Image) (columns : List Float) (radius x y : ℕ) (r : Sloping) : Type 0 where
-  pub is : Sensitivity.along (fitAt img columns radius (pos x) (pos y)) (fitAt img columns radius (pos x) (pos y +ℤ pos 1)) (fitAt img columns radius (pos x) (pos y +ℤ negsuc 0)) ≡ wayOf r
+  pub is : along (fitAt img columns radius (pos x) (pos y)) (fitAt img columns radius (pos x) (pos y +ℤ pos 1)) (fitAt img columns radius (pos x) (pos y +ℤ negsuc 0)) ≡ wayOf r

@@ -33,13 +33,14 @@ use Rattle.saddle_point.specs.declared.Admitted.the-variants as Admitted
 use Rattle.refusals.specs.declared.Refusal.the-variants.{BadImage, BadRadius, BadLimit}
 use Rattle.refusals.specs.Numbers as Refusals
 use Rattle.fit_cache.specs.declared.Seed.{Seed}
-use Rattle.fit_cache.specs.Tries.{taskAt}
+use Rattle.fit_cache.specs.Candidate.{taskAt, Task, nearSeed}
+use Rattle.fit_cache.specs.Fit.{coefficients}
+use Rattle.saddle_fit.specs.Solve.{solve, scoreOf, goodLimit, settled}
+use Rattle.fit_cache.specs.Windows.{Place, placeOf}
+use Rattle.saddle_fit.specs.Sensitivity.{regular, slopeWithin, saddleJacobian, sensitivity}
+use Rattle.saddle_point.specs.PixelSlope.{Sloped, noSlope, sloped, slopeAt}
+use Rattle.saddle_point.specs.Run.{Finish, atStart, atStand, runOf}
 use Rattle.saddle_fit.specs.Numbers.{_⊕_}
-use Rattle.saddle_fit.specs.Fit.{coefficients}
-use Rattle.saddle_fit.specs.Solve.{solve, scoreOf, goodLimit}
-use Rattle.saddle_fit.specs.Between.{Place, placeOf}
-use Rattle.saddle_fit.specs.Sensitivity.{regular, Sloped, noSlope, sloped, slopeWithin, slopeAt, saddleJacobian, sensitivity, matrixDet}
-use Rattle.saddle_fit.specs.Run.{Task, nearSeed, settled, Stand, Finish, atStart, atStand, runOf}
 use Rattle.saddle_fit.specs.Covariance.{covarianceOf}
 
 -- ---- the end of a run

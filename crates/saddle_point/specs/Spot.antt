@@ -6,7 +6,8 @@ use lib.Ieee.{Float}
 use Rattle.imageview.specs.Image.{Image}
 use Rattle.saddle_fit.specs.declared.SaddlePointConfig.{SaddlePointConfig}
 use Rattle.saddle_fit.specs.declared.PatchSaddle.{PatchSaddle}
-use Rattle.saddle_fit.specs.Run.{Task, runOf}
+use Rattle.fit_cache.specs.Candidate.{Task}
+use Rattle.saddle_point.specs.Run.{runOf}
 use Rattle.saddle_point.specs.declared.Refined.{Refined}
 use Rattle.saddle_point.specs.declared.Refined.the-variants.{Accepted, Unmoved, Refused}
 use Rattle.saddle_point.specs.declared.Estimate.{Estimate}

@@ -19,14 +19,14 @@ ghost use mathlib.Core.Bool.{true};
 ghost use Prim.Native.Nat.{_<_, _≤_};
 ghost use lib.IntN.{pos};
 ghost use Rattle.imageview.specs.Image.{imageOf};
-ghost use Rattle.saddle_fit.specs.Fit.{coefficients};
+ghost use Rattle.fit_cache.specs.Fit.{coefficients};
+ghost use Rattle.saddle_point.specs.Run.{runOf};
+ghost use Rattle.fit_cache.specs.Candidate.{taskAt};
 ghost use Rattle.saddle_fit.specs.Sensitivity as Sensitivity;
-ghost use Rattle.saddle_fit.specs.Run.{runOf};
-ghost use Rattle.saddle_fit.specs.Run as Run;
+ghost use Rattle.saddle_fit.specs.Solve as Solve;
 ghost use Rattle.saddle_point.specs.Refine.{single, finished};
 ghost use Rattle.saddle_point.specs.Refine as Refine;
 ghost use Rattle.fit_cache.specs.Adding.{Sound, PatchWithin};
-ghost use Rattle.fit_cache.specs.Tries.{taskAt};
 ghost use Rattle.saddle_point.specs.Ending.{centred, Closes, GoesX, GoesY};
 
 // The first fit, where the steps did not settle.
@@ -171,7 +171,7 @@ fn at_centre(
     first: PatchSaddle,
     wanted: bool,
 ) -> Estimate
-    requires { ⌜ PatchWithin (imageOf (now img) sizes) (cfg .radius) (seed .«centre_x») (seed .«centre_y») ⌝ ∗ ⌜ here ≡ coefficients (imageOf (now img) sizes) (now columns) (cfg .radius) (seed .«centre_x») (seed .«centre_y») ⌝ ∗ ⌜ Run.settled first ≡ true ⌝ }
+    requires { ⌜ PatchWithin (imageOf (now img) sizes) (cfg .radius) (seed .«centre_x») (seed .«centre_y») ⌝ ∗ ⌜ here ≡ coefficients (imageOf (now img) sizes) (now columns) (cfg .radius) (seed .«centre_x») (seed .«centre_y») ⌝ ∗ ⌜ Solve.settled first ≡ true ⌝ }
     ensures { λ r. ⌜ r ≡ finished (taskAt (imageOf (now (img .entry)) sizes) (now (columns .entry)) cfg seed) (now (overlap .entry)) wanted first (runOf (taskAt (imageOf (now (img .entry)) sizes) (now (columns .entry)) cfg seed) first) ⌝ }
 {
     let radius = cfg.radius;

@@ -17,7 +17,6 @@ ghost use Rattle.imageview.specs.Image.{imageOf};
 ghost use Rattle.saddle_fit.specs.Solve.{goodLimit};
 ghost use Rattle.saddle_point.specs.Refine.{goodLimits, whyNumber, admitOf, refineWith, withOperator, lentWith, refineLent, refineOf};
 ghost use Rattle.fit_cache.specs.Adding.{PatchWithin};
-ghost use Rattle.fit_cache.specs.Tries.{taskAt};
 ghost use Rattle.fit_operator.specs.Call.{wayOf};
 
 // The refiner of one seed with an operator that is lent.

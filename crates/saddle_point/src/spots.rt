@@ -18,7 +18,7 @@ ghost use lib.Ieee.{binary32, ofInt};
 ghost use Rattle.imageview.specs.Image.{imageOf};
 ghost use Rattle.saddle_fit.specs.Numbers.{_⊕_};
 ghost use Rattle.fit_cache.specs.Adding.{PatchWithin};
-ghost use Rattle.fit_cache.specs.Tries.{taskAt};
+ghost use Rattle.fit_cache.specs.Candidate.{taskAt};
 ghost use Rattle.saddle_point.specs.declared.Spot.the-variants.{At};
 ghost use Rattle.saddle_point.specs.Refine.{refineWith, lentWith, refineLent};
 ghost use Rattle.saddle_point.specs.Spot.{Comes, Lands};

@@ -16,10 +16,10 @@ ghost use mathlib.Core.Bool.{false};
 ghost use Prim.Native.Nat.{_<_, _≤_};
 ghost use Rattle.imageview.specs.Image.{imageOf};
 ghost use Rattle.saddle_fit.specs.Sensitivity as Sensitivity;
-ghost use Rattle.saddle_fit.specs.Run as Run;
+ghost use Rattle.saddle_fit.specs.Solve as Solve;
 ghost use Rattle.fit_cache.specs.Adding.{Sound};
 ghost use Rattle.fit_cache.specs.Cache.{Fresh};
-ghost use Rattle.fit_cache.specs.Tries.{taskAt};
+ghost use Rattle.fit_cache.specs.Candidate.{taskAt};
 ghost use Rattle.saddle_point.specs.Ending.{Ends};
 
 // A cache with no fit in it.
@@ -76,7 +76,7 @@ pub fn run(
     seed: Seed,
     first: PatchSaddle,
 ) -> Ended
-    requires { ⌜ Sound (imageOf (now img) sizes) (cfg .radius) ⌝ ∗ ⌜ (seed .«centre_x» < 4096) × (seed .«centre_y» < 4096) ⌝ ∗ ⌜ Run.settled first ≡ false ⌝ }
+    requires { ⌜ Sound (imageOf (now img) sizes) (cfg .radius) ⌝ ∗ ⌜ (seed .«centre_x» < 4096) × (seed .«centre_y» < 4096) ⌝ ∗ ⌜ Solve.settled first ≡ false ⌝ }
     ensures { λ r. ⌜ Ends (taskAt (imageOf (now (img .entry)) sizes) (now (columns .entry)) cfg seed) first r ⌝ }
 {
     let mut fits = no_fits();

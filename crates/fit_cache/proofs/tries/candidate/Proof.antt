@@ -5,8 +5,8 @@ use Prim.Native.Nat.{ℕ, _≤_}
 use lib.IntN.{pos}
 use Rattle.imageview.specs.Image.{imageOf}
 use Rattle.fit_cache.specs.declared.Window.{Window}
-use Rattle.saddle_fit.specs.Between.{Place, placeOf}
-use Rattle.fit_cache.specs.Tries.{pixelOf, windowOf}
+use Rattle.fit_cache.specs.Windows.{Place, placeOf}
+use Rattle.fit_cache.specs.Tries.{windowOf}
 use Rattle.fit_cache.proofs.PlaceLaws.{pixel-most}
 use Rattle.fit_cache.proofs.TryLaws.{weighed-up, passed-by}
 use Rattle.fit_cache.proofs.tries.candidate.Statement.{statement}

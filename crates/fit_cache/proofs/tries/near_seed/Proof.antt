@@ -3,7 +3,7 @@ use borrow.Author.Needs.{needs}
 use mathlib.Core.Path.{sym, ap, _∙_}
 use mathlib.Core.Bool.{Bool, _&&_}
 use lib.IntN.{pos}
-use Rattle.saddle_fit.specs.Run.{nearAlong}
+use Rattle.fit_cache.specs.Candidate.{nearAlong}
 use Rattle.fit_cache.proofs.tries.near_seed.Statement.{statement}
 use Rattle.fit_cache.proofs.tries.near_seed.Tie as tie
 

@@ -4,7 +4,7 @@ use Prim.Native.Nat.{ℕ, zero, suc, _+_, _*_, _≤_}
 use native.Mathlib.Omega.{arith}
 use lib.Ieee.{ofBits}
 use Rattle.imageview.specs.Image.{imageOf}
-use Rattle.fit_cache.specs.Tries.{taskAt}
+use Rattle.fit_cache.specs.Candidate.{taskAt}
 use Rattle.saddle_point.specs.Refine.{single}
 use Rattle.saddle_point.specs.Ending.{Going}
 use Rattle.saddle_point.proofs.StepLaws.{starts, unsettled, runs-out, passes, settled-there, no-steps, steps-on}
