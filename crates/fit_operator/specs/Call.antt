@@ -20,7 +20,7 @@ numberOf Singular = 3
 numberOf BadRadius = 11
 
 pub data Way : Type 0 where
-  badRadius : Way
+  refused : Operator → Way
   none : Way
   built : List Float → List Float → Way
 
@@ -29,20 +29,20 @@ wayFrom radius singular = none
 wayFrom radius (reduced m) = built (columnsOf radius m) (overlapOf radius m)
 
 unfoldable pub wayOf : ℕ → Way
-wayOf radius = cond (leb radius 7) (wayFrom radius (inverseNormalMatrix radius)) badRadius
+wayOf radius = cond (leb radius 7) (wayFrom radius (inverseNormalMatrix radius)) (refused BadRadius)
 
 abbrev pub answerOf : Way → Operator
-answerOf badRadius = BadRadius
+answerOf (refused r) = r
 answerOf none = Singular
 answerOf (built columns overlap) = Built
 
 abbrev pub columnsAfter : ℕ → List Float → Way → List Float
-columnsAfter radius old badRadius = old
+columnsAfter radius old (refused r) = old
 columnsAfter radius old none = old
 columnsAfter radius old (built columns overlap) = columns ++ drop (5 * samples radius) old
 
 abbrev pub overlapAfter : List Float → Way → List Float
-overlapAfter old badRadius = old
+overlapAfter old (refused r) = old
 overlapAfter old none = old
 overlapAfter old (built columns overlap) = overlap
 

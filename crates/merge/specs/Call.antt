@@ -58,14 +58,14 @@ answerOf list (scanned kept) = Merged (length kept)
 answerOf list (gridded kept) = Merged (length kept)
 
 -- the kept corners, and +0.0 in the freed tail
-abbrev pub filled : List Float → List Corner → List Float
-filled list kept = flat kept ++ replicate (length list - 3 * length kept) plusZero
+abbrev pub packed : List Float → List Corner → List Float
+packed list kept = flat kept ++ replicate (length list - 3 * length kept) plusZero
 
 abbrev pub listAfter : List Float → Way → List Float
 listAfter list (refused r) = list
 listAfter list unmerged = list
-listAfter list (scanned kept) = filled list kept
-listAfter list (gridded kept) = filled list kept
+listAfter list (scanned kept) = packed list kept
+listAfter list (gridded kept) = packed list kept
 
 -- of heads and of links
 abbrev pub scratchAfter : List ℕ → Way → List ℕ

@@ -28,7 +28,7 @@ struct Rule {
     cluster: u32,
 }
 
-// How many peaks were noted, and the place of the next one, or the end.
+// How many peaks were noted, and the pixel of the next one, or the end.
 struct Noted {
     count: usize,
     at: usize,

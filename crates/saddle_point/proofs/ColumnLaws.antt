@@ -16,7 +16,7 @@ use Rattle.fit_operator.specs.Basis.{samples}
 use Rattle.fit_operator.specs.Call as Operator
 use Rattle.fit_operator.specs.declared.Operator.{Operator}
 use Rattle.fit_operator.specs.declared.Operator.the-variants as Answer
-use Rattle.fit_operator.proofs.CallLaws.{built-length}
+use Rattle.fit_operator.proofs.CallLaws.{built-length, refused-bad}
 use Rattle.saddle_fit.specs.declared.SaddlePointConfig.{SaddlePointConfig}
 use Rattle.saddle_fit.specs.declared.PatchSaddle.{PatchSaddle}
 use Rattle.saddle_fit.specs.declared.Move.{Move}
@@ -180,28 +180,28 @@ module _ (img : Image) (cfg : SaddlePointConfig) (seed : Seed) (wanted : Bool) w
       ap (λ (l : List Float). fromFit (taskAt img (c ++ rest) cfg seed) overlap wanted (fitted l)) (coefficients-same img (c ++ rest) c (cfg .radius) (agree c rest (5 * samples (cfg .radius)) e) (seed .«centre_x») (seed .«centre_y»))
       ∙ from-same img (c ++ rest) c cfg (pos (seed .«centre_x»)) (pos (seed .«centre_y»)) (seed .x) (seed .y) (agree c rest (5 * samples (cfg .radius)) e) overlap wanted (fitted (coefficients img c (cfg .radius) (seed .«centre_x») (seed .«centre_y»)))
 
-  by-way : (old overlap columns' overlap' : List Float) (w : Operator.Way) → ((c o : List Float) → w ≡ Operator.built c o → length c ≡ 5 * samples (cfg .radius)) → Operator.answerOf w ≡ Answer.Built → columns' ≡ Operator.columnsAfter (cfg .radius) old w → overlap' ≡ Operator.overlapAfter overlap w → fittedWith img cfg seed wanted columns' overlap' ≡ freshFit img cfg seed wanted w
-  by-way old overlap columns' overlap' Operator.badRadius l b p q = absurd (subst isBuilt (sym b) tt)
-  by-way old overlap columns' overlap' Operator.none l b p q = absurd (subst isBuilt (sym b) tt)
-  by-way old overlap columns' overlap' (Operator.built c o) l b p q =
+  by-way : (old overlap columns' overlap' : List Float) (w : Operator.Way) → ((c o : List Float) → w ≡ Operator.built c o → length c ≡ 5 * samples (cfg .radius)) → ((r : Operator) → w ≡ Operator.refused r → r ≡ Answer.BadRadius) → Operator.answerOf w ≡ Answer.Built → columns' ≡ Operator.columnsAfter (cfg .radius) old w → overlap' ≡ Operator.overlapAfter overlap w → fittedWith img cfg seed wanted columns' overlap' ≡ freshFit img cfg seed wanted w
+  by-way old overlap columns' overlap' (Operator.refused r) l g b p q = absurd (subst isBuilt (g r refl) (subst isBuilt (sym b) tt))
+  by-way old overlap columns' overlap' Operator.none l g b p q = absurd (subst isBuilt (sym b) tt)
+  by-way old overlap columns' overlap' (Operator.built c o) l g b p q =
       ap (λ (v : List Float). fittedWith img cfg seed wanted v overlap') p
       ∙ ap (λ (v : List Float). fittedWith img cfg seed wanted (c ++ drop (5 * samples (cfg .radius)) old) v) q
       ∙ front c (drop (5 * samples (cfg .radius)) old) o (l c o refl)
 
   pub fresh-built : (old overlap columns' overlap' : List Float) (r : Operator) → Operator.Done (cfg .radius) old overlap r columns' overlap' → r ≡ Answer.Built → fittedWith img cfg seed wanted columns' overlap' ≡ freshFit img cfg seed wanted (Operator.wayOf (cfg .radius))
   fresh-built old overlap columns' overlap' r d e =
-      by-way old overlap columns' overlap' (Operator.wayOf (cfg .radius)) (built-length (cfg .radius)) (sym (d .answers) ∙ e) (d .leaves-columns) (d .leaves-overlap)
+      by-way old overlap columns' overlap' (Operator.wayOf (cfg .radius)) (built-length (cfg .radius)) (refused-bad (cfg .radius)) (sym (d .answers) ∙ e) (d .leaves-columns) (d .leaves-overlap)
 
-  singular-way : (w : Operator.Way) → Operator.answerOf w ≡ Answer.Singular → IllConditioned plusZero ≡ freshFit img cfg seed wanted w
-  singular-way Operator.badRadius e = absurd (subst isSingular (sym e) tt)
-  singular-way Operator.none e = refl
-  singular-way (Operator.built c o) e = absurd (subst isSingular (sym e) tt)
+  singular-way : (w : Operator.Way) → ((r : Operator) → w ≡ Operator.refused r → r ≡ Answer.BadRadius) → Operator.answerOf w ≡ Answer.Singular → IllConditioned plusZero ≡ freshFit img cfg seed wanted w
+  singular-way (Operator.refused r) g e = absurd (subst isSingular (g r refl) (subst isSingular (sym e) tt))
+  singular-way Operator.none g e = refl
+  singular-way (Operator.built c o) g e = absurd (subst isSingular (sym e) tt)
 
   pub fresh-singular : (old overlap columns' overlap' : List Float) (r : Operator) → Operator.Done (cfg .radius) old overlap r columns' overlap' → r ≡ Answer.Singular → IllConditioned plusZero ≡ freshFit img cfg seed wanted (Operator.wayOf (cfg .radius))
-  fresh-singular old overlap columns' overlap' r d e = singular-way (Operator.wayOf (cfg .radius)) (sym (d .answers) ∙ e)
+  fresh-singular old overlap columns' overlap' r d e = singular-way (Operator.wayOf (cfg .radius)) (refused-bad (cfg .radius)) (sym (d .answers) ∙ e)
 
   bad-way : (w : Operator.Way) → Operator.answerOf w ≡ Answer.BadRadius → BadRadius ≡ freshFit img cfg seed wanted w
-  bad-way Operator.badRadius e = refl
+  bad-way (Operator.refused r) e = refl
   bad-way Operator.none e = absurd (subst isBad (sym e) tt)
   bad-way (Operator.built c o) e = absurd (subst isBad (sym e) tt)
 

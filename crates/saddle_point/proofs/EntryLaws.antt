@@ -171,7 +171,7 @@ module _ (img : Image) (cfg : SaddlePointConfig) (x y : Float) (seed : Seed) (h 
 
   -- so is that with the operator built for it
   pub fresh-answer : (wanted : Bool) (w : Operator.Way) → freshFit img cfg seed wanted w ≡ tested img cfg x y (withOperator img cfg x y wanted w)
-  fresh-answer wanted Operator.badRadius = sym (tested-as img cfg x y BadRadius (Admitted.Good seed) h)
+  fresh-answer wanted (Operator.refused r) = sym (tested-as img cfg x y BadRadius (Admitted.Good seed) h)
   fresh-answer wanted Operator.none = sym (tested-as img cfg x y (IllConditioned plusZero) (Admitted.Good seed) h)
   fresh-answer wanted (Operator.built columns overlap) = good-fitted wanted columns overlap ∙ sym (tested-as img cfg x y (refineWith img cfg x y wanted columns overlap) (Admitted.Good seed) h)
 

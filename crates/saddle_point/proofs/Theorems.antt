@@ -188,7 +188,7 @@ module _ (t : Task) (overlap : List Float) (wanted : Bool) (good : goodLimit (t 
 module _ (img : Image) (cfg : SaddlePointConfig) (x y : Float) (wanted : Bool) where
   by-way : (w : Operator.Way) → goodLimit (cfg .«det_margin») ≡ true → Answers (withOperator img cfg x y wanted w)
   unfolding refineWith
-  by-way Operator.badRadius g = tt
+  by-way (Operator.refused r) g = tt
   by-way Operator.none g = tt
   by-way (Operator.built columns overlap) g = fit-sound (taskOf img columns cfg x y) overlap wanted g (fitAt img columns (cfg .radius) (centreOf x) (centreOf y))
 

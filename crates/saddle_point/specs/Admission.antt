@@ -31,6 +31,6 @@ fittedWith img cfg seed wanted columns overlap = fromFit (taskAt img columns cfg
 
 -- with the operator that is built for it
 abbrev pub freshFit : Image → SaddlePointConfig → Seed → Bool → Operator.Way → Refined
-freshFit img cfg seed wanted Operator.badRadius = BadRadius
+freshFit img cfg seed wanted (Operator.refused r) = BadRadius
 freshFit img cfg seed wanted Operator.none = IllConditioned plusZero
 freshFit img cfg seed wanted (Operator.built columns overlap) = fittedWith img cfg seed wanted columns overlap

@@ -88,7 +88,7 @@ abbrev pub goodLimits : SaddlePointConfig → Bool
 goodLimits cfg = goodLimit (cfg .«det_margin») && goodLimit (cfg .«max_offset») && goodLimit (cfg .«min_abs_det»)
 
 abbrev pub withOperator : Image → SaddlePointConfig → Float → Float → Bool → Operator.Way → Refined
-withOperator img cfg x y wanted Operator.badRadius = BadRadius
+withOperator img cfg x y wanted (Operator.refused r) = BadRadius
 withOperator img cfg x y wanted Operator.none = IllConditioned plusZero
 withOperator img cfg x y wanted (Operator.built columns overlap) = refineWith img cfg x y wanted columns overlap
 
