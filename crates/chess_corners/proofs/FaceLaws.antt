@@ -27,10 +27,10 @@ responded w h known n q e d = record {
   height = ap (heightAfter h) (sym e ∙ d .answers);
 }
 
-pub merging : {list : List Float} {radius : Float} {heads links : List ℕ} {answer : Merge} {list' : List Float} {heads' links' : List ℕ} (count : ℕ) (known : Merge)
-    → answer ≡ known → M.Done list radius heads links answer list' heads' links' → Merging list radius heads links count (M.numberOf known) list' heads' links' (countAfter count known)
-merging count known e d = record {
-  says = ap M.numberOf (sym e ∙ d .answers);
+pub merging : {list : List Float} {radius : Float} {heads links : List ℕ} {answer : Merge} {list' : List Float} {heads' links' : List ℕ} (count : ℕ) (known : Merge) (n : ℕ)
+    → n ≡ M.numberOf known → answer ≡ known → M.Done list radius heads links answer list' heads' links' → Merging list radius heads links count n list' heads' links' (countAfter count known)
+merging count known n q e d = record {
+  says = q ∙ ap M.numberOf (sym e ∙ d .answers);
   leaves-list = d .leaves-list;
   leaves-heads = d .leaves-heads;
   leaves-links = d .leaves-links;
@@ -45,9 +45,9 @@ refining count known n q e d = record {
   counts = ap (recordsAfter count) (sym e ∙ d .answers);
 }
 
-pub scanning : {s : Scan} {out : List Float} {answer : Peaks} {out' : List Float} (count : ℕ) (known : Peaks) → answer ≡ known → P.Done s out answer out' → Scanning s out count (P.numberOf known) out' (peaksAfter count known)
-scanning count known e d = record {
-  says = ap P.numberOf (sym e ∙ d .answers);
+pub scanning : {s : Scan} {out : List Float} {answer : Peaks} {out' : List Float} (count : ℕ) (known : Peaks) (n : ℕ) → n ≡ P.numberOf known → answer ≡ known → P.Done s out answer out' → Scanning s out count n out' (peaksAfter count known)
+scanning count known n q e d = record {
+  says = q ∙ ap P.numberOf (sym e ∙ d .answers);
   leaves = d .leaves;
   counts = ap (peaksAfter count) (sym e ∙ d .answers);
 }

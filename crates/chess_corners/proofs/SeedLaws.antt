@@ -33,5 +33,5 @@ module _ (x y : Float) (place : List Float) (state : List ℕ) (covariance : Lis
   pub told-of : (answer whole : Refined) → answer ≡ whole → (n : ℕ) (place' : List Float) (state' : List ℕ) (covariance' : List Float) → Told answer x y place state covariance n place' state' covariance' → Told whole x y place state covariance n place' state' covariance'
   told-of answer whole e n place' state' covariance' t = subst (λ (a : Refined). Told a x y place state covariance n place' state' covariance') e t
 
-pub operating : {radius : ℕ} {columns overlap : List Float} {answer : Operator} {columns' overlap' : List Float} (known : Operator) → answer ≡ known → Operator.Done radius columns overlap answer columns' overlap' → Operating radius columns overlap (Operator.numberOf known) columns' overlap'
-operating known e d = record { says = ap Operator.numberOf (sym e ∙ d .answers); leaves-columns = d .leaves-columns; leaves-overlap = d .leaves-overlap }
+pub operating : {radius : ℕ} {columns overlap : List Float} {answer : Operator} {columns' overlap' : List Float} (known : Operator) (n : ℕ) → n ≡ Operator.numberOf known → answer ≡ known → Operator.Done radius columns overlap answer columns' overlap' → Operating radius columns overlap n columns' overlap'
+operating known n q e d = record { says = q ∙ ap Operator.numberOf (sym e ∙ d .answers); leaves-columns = d .leaves-columns; leaves-overlap = d .leaves-overlap }

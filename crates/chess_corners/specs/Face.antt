@@ -13,7 +13,8 @@ use Rattle.response.specs.declared.Response.the-variants.{Written}
 use Rattle.response.specs.Region.{Region}
 use Rattle.response.specs.Call as R
 use Rattle.merge.specs.declared.Merge.{Merge}
-use Rattle.merge.specs.declared.Merge.the-variants.{Merged, BadLength, TooMany, BadScratch, GridTooBig}
+use Rattle.merge.specs.declared.Merge.the-variants as Merge
+use Rattle.merge.specs.declared.Merge.the-variants.{Merged}
 use Rattle.merge.specs.Call as M
 use Rattle.saddle_fit.specs.declared.SaddlePointConfig.{SaddlePointConfig}
 use Rattle.detect.specs.declared.Refinements.{Refinements}
@@ -44,10 +45,7 @@ pub record Responded (img : Image) (ring : List ℤ) (radius : ℕ) (r : Region)
 -- ---- the merge: the count of kept corners
 abbrev pub countAfter : ℕ → Merge → ℕ
 countAfter old (Merged n) = n
-countAfter old BadLength = old
-countAfter old TooMany = old
-countAfter old BadScratch = old
-countAfter old GridTooBig = old
+countAfter old (Merge.Refused r) = old
 
 pub record Merging (list : List Float) (radius : Float) (heads links : List ℕ) (count : ℕ) (number : ℕ) (list' : List Float) (heads' links' : List ℕ) (count' : ℕ) : Type 0 where
   pub says : number ≡ M.numberOf (M.answerOf list (M.wayOf list radius (length heads) (length links)))
@@ -69,11 +67,7 @@ pub record Refining (img : Image) (cfg : SaddlePointConfig) (corners out : List 
 -- ---- peaks: their count
 abbrev pub peaksAfter : ℕ → Peaks → ℕ
 peaksAfter old (Found n) = n
-peaksAfter old Peaks.BadImage = old
-peaksAfter old Peaks.BadRadius = old
-peaksAfter old Peaks.BadLimit = old
-peaksAfter old Peaks.BadLength = old
-peaksAfter old Peaks.TooMany = old
+peaksAfter old (Peaks.Refused r) = old
 
 pub record Scanning (s : Scan) (out : List Float) (count : ℕ) (number : ℕ) (out' : List Float) (count' : ℕ) : Type 0 where
   pub says : number ≡ P.numberOf (P.answerOf (P.wayOf s (length out)))

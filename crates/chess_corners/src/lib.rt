@@ -82,11 +82,7 @@ pub extern "C" fn chess_corners_peaks(
             *count = found;
             0
         }
-        Peaks::BadImage => 10,
-        Peaks::BadRadius => 11,
-        Peaks::BadLimit => 12,
-        Peaks::BadLength => 19,
-        Peaks::TooMany => 16,
+        Peaks::Refused(refusal) => refusals::number(refusal),
     }
 }
 
@@ -107,10 +103,7 @@ pub extern "C" fn chess_corners_merge(
             *count = kept;
             0
         }
-        Merge::BadLength => 19,
-        Merge::TooMany => 16,
-        Merge::BadScratch => 18,
-        Merge::GridTooBig => 17,
+        Merge::Refused(refusal) => refusals::number(refusal),
     }
 }
 

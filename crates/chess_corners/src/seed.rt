@@ -93,7 +93,7 @@ pub extern "C" fn chess_corners_fit_operator(
     match answer {
         Operator::Built => 0,
         Operator::Singular => 3,
-        Operator::BadRadius => 11,
+        Operator::Refused(refusal) => refusals::number(refusal),
     }
 }
 

@@ -1,6 +1,4 @@
--- For whoever relies on the public call: what is promised of a call that merged, on the grid (`gridded-promised`) or by the plain scan (`scanned-promised`).
--- The corners that were lent are `cornersOf list`, and `kept` are those that the call leaves at the front of the list. Each part is a theorem of
--- Theorems. Corners are named by their numbers from 0, and `placeAt` (specs/Claims.antt) is the number of the place that a corner went to.
+-- The promises of specs/Promises.antt, proved of every call: each part is a theorem of Theorems.
 use mathlib.Core.Path.{_≡_, refl, sym, ap, _∙_, subst}
 use mathlib.Core.Bool.{Bool, true, false, not, _||_, cond, false≢true}
 use mathlib.Core.List.{List}
@@ -10,53 +8,17 @@ use lib.ListN.{length}
 use lib.Ieee.{Float, binary32, mul, lt}
 use Rattle.corners.specs.Corners.{whole, tooMany, cornersOf, cornerAt}
 use Rattle.corners.specs.declared.Corner.{Corner}
-use Rattle.merge.specs.declared.Merge.the-variants.{Merged, BadLength, TooMany, BadScratch, GridTooBig}
+use Rattle.merge.specs.declared.Merge.the-variants.{Merged}
+use Rattle.refusals.specs.declared.Refusal.the-variants.{BadLength, TooMany, BadScratch, GridTooBig}
 use Rattle.merge.specs.Meets.{boxOf, finiteBox, gridOf, cellsAcross, cellsDown, plainMeets, gridMeets}
 use Rattle.merge.specs.Fold.{merged}
-use Rattle.merge.specs.Call.{Way, refused, unmerged, scanned, gridded, idle, mergingWay, wayOf, answerOf, filled, listAfter}
-use Rattle.merge.specs.Claims.{placeAt, Separated, Local, Ordered}
+use Rattle.merge.specs.Call.{Way, refused, unmerged, scanned, gridded, idle, mergingWay, wayOf, answerOf, packed, listAfter}
+use Rattle.merge.specs.Claims.{Source, Guarded}
+use Rattle.clinics.specs.Promises.{gridRule, scanRule, Promised, GriddedPromised, ScannedPromised}
 use Rattle.clinics.proofs.Theorems.{separated-stay, merging-is-local, nothing-invented, order-kept, strong-held}
 
--- ---- the words of the promises
--- the rules by which the corners of a call meet
-abbrev pub gridRule : List Float → Float → Corner → Corner → Bool
-gridRule list radius = gridMeets (gridOf radius (cornersOf list)) (mul binary32 radius radius)
-
-abbrev pub scanRule : Float → Corner → Corner → Bool
-scanRule radius = plainMeets (mul binary32 radius radius)
-
--- the kept corner p is corner `from` of those that were lent, which went to place p
-pub record Source (meets : Corner → Corner → Bool) (l kept : List Corner) (p : ℕ) : Type 0 where
-  pub from : ℕ
-  pub within : from < length l
-  pub same : cornerAt kept p ≡ cornerAt l from
-  pub went : placeAt meets l from ≡ p
-
--- corner i's place is among the kept, and the corner there is not weaker
-pub record Guarded (meets : Corner → Corner → Bool) (l kept : List Corner) (i : ℕ) : Type 0 where
-  pub there : placeAt meets l i < length kept
-  pub strong : lt (cornerAt kept (placeAt meets l i) .strength) (cornerAt l i .strength) ≡ false
-
--- ---- the promises
-pub record Promised (list : List Float) (way : Way) (meets : Corner → Corner → Bool) (kept : List Corner) : Type 0 where
-  -- the call answers how many are kept, and leaves them at the front of the list, with zeros behind
-  pub answers : answerOf list way ≡ Merged (length kept)
-  pub leaves : listAfter list way ≡ filled list kept
-  -- the kept corners are the fold of specs/Fold.antt
-  pub folded : kept ≡ merged meets (cornersOf list)
-  -- where no corner meets an earlier one, all are kept as they are
-  pub stay : Separated meets (cornersOf list) → kept ≡ cornersOf list
-  -- corners in one place are joined by a chain of lent corners, each meeting the next
-  pub local : Local meets (cornersOf list)
-  -- every kept corner was lent, coordinates and strength together
-  pub uninvented : (p : ℕ) → p < length kept → Source meets (cornersOf list) kept p
-  -- places are in the order of their first corners
-  pub ordered : Ordered meets (cornersOf list)
-  -- every lent corner has a kept one in its place that is not weaker
-  pub guarded : (i : ℕ) → i < length (cornersOf list) → Guarded meets (cornersOf list) kept i
-
 promised : (list : List Float) (way : Way) (meets : Corner → Corner → Bool) (kept : List Corner)
-    → answerOf list way ≡ Merged (length kept) → listAfter list way ≡ filled list kept → kept ≡ merged meets (cornersOf list) → Promised list way meets kept
+    → answerOf list way ≡ Merged (length kept) → listAfter list way ≡ packed list kept → kept ≡ merged meets (cornersOf list) → Promised list way meets kept
 promised list way meets kept a b e =
     record {
       answers = a;
@@ -64,19 +26,13 @@ promised list way meets kept a b e =
       folded = e;
       stay = λ s. e ∙ separated-stay meets l s;
       local = merging-is-local meets l;
-      uninvented = subst (λ (k : List Corner). (p : ℕ) → p < length k → Source meets l k p) (sym e) source;
+      uninvented = subst (λ (k : List Corner). (p : ℕ) → p < length k → Source meets l k p) (sym e) (nothing-invented meets l);
       ordered = order-kept meets l;
-      guarded = subst (λ (k : List Corner). (i : ℕ) → i < length l → Guarded meets l k i) (sym e) guard;
+      guarded = subst (λ (k : List Corner). (i : ℕ) → i < length l → Guarded meets l k i) (sym e) (strong-held meets l);
     }
   where
     l : List Corner
     l = cornersOf list
-
-    source : (p : ℕ) → p < length (merged meets l) → Source meets l (merged meets l) p
-    source p h = let k = nothing-invented meets l p h in record { from = k .from; within = k .within; same = k .same; went = k .went }
-
-    guard : (i : ℕ) → i < length l → Guarded meets l (merged meets l) i
-    guard i h = let k = strong-held meets l i h in record { there = k .there; strong = k .strong }
 
 -- ---- which way the call went
 abbrev merges : Way → Bool
@@ -107,14 +63,14 @@ module _ (list : List Float) (radius : Float) (heads links : ℕ) (kept : List C
   unfolding wayOf
   merging h = past-tests (not (whole (length list))) (tooMany (length list)) (ltb links (length list / 3)) (eqb (length list) 0 || idle radius) (mergingWay (cornersOf list) radius heads) h
 
-  pub gridded-promised : wayOf list radius heads links ≡ gridded kept → Promised list (wayOf list radius heads links) (gridRule list radius) kept
+  pub gridded-promised : GriddedPromised list radius heads links kept
   unfolding mergingWay
   gridded-promised w =
       promised list (wayOf list radius heads links) (gridRule list radius) kept (ap (answerOf list) w) (ap (listAfter list) w)
       (by-grid (not (finiteBox (boxOf (cornersOf list)))) (ltb heads (cellsAcross (gridOf radius (cornersOf list)) * cellsDown (gridOf radius (cornersOf list))))
       (merged (scanRule radius) (cornersOf list)) (merged (gridRule list radius) (cornersOf list)) kept (sym (merging (ap merges w)) ∙ w))
 
-  pub scanned-promised : wayOf list radius heads links ≡ scanned kept → Promised list (wayOf list radius heads links) (scanRule radius) kept
+  pub scanned-promised : ScannedPromised list radius heads links kept
   unfolding mergingWay
   scanned-promised w =
       promised list (wayOf list radius heads links) (scanRule radius) kept (ap (answerOf list) w) (ap (listAfter list) w)

@@ -11,7 +11,7 @@ use lib.Ieee.{Float, lt}
 use Rattle.floats.proofs.OrderLaws.{lt-irrefl, lt-trans}
 use Rattle.corners.specs.Corners.{nowhere, cornerAt}
 use Rattle.corners.specs.declared.Corner.{Corner}
-use Rattle.merge.specs.Fold.{stronger, place, mergeFrom, merged, placeOf, placesFrom, places}
+use Rattle.merge.specs.Fold.{stronger, afterCorner, mergeFrom, merged, placeOf, placesFrom, places}
 use Rattle.merge.specs.Claims.{placeAt}
 
 -- ---- lists that grow at the end
@@ -85,8 +85,8 @@ module _ (meets : Corner → Corner → Bool) (c : Corner) where
       all zero h = still (suc-le-suc zero-le) refl
       all (suc q) h = up q (s .each q (le-of-suc-le-suc h))
 
-  pub step : (kept : List Corner) → Step meets c kept (place meets c kept) (placeOf meets c kept)
-  unfolding place placeOf
+  pub step : (kept : List Corner) → Step meets c kept (afterCorner meets c kept) (placeOf meets c kept)
+  unfolding afterCorner placeOf
   step [] = record { how = behind refl refl; longer = zero-le; there = suc-le-suc zero-le; each = all }
     where
       all : (q : ℕ) → q < 1 → Stands meets c [] (c ∷ []) 0 q
@@ -98,32 +98,32 @@ module _ (meets : Corner → Corner → Bool) (c : Corner) where
       all zero h = own refl
       all (suc q) h = still h refl
 
-      go : (b : Bool) → meets c k ≡ b → Step meets c l (place meets c l) (placeOf meets c l) → Step meets c (k ∷ l) (cond b (stronger c k ∷ l) (k ∷ place meets c l)) (cond b zero (suc (placeOf meets c l)))
+      go : (b : Bool) → meets c k ≡ b → Step meets c l (afterCorner meets c l) (placeOf meets c l) → Step meets c (k ∷ l) (cond b (stronger c k ∷ l) (k ∷ afterCorner meets c l)) (cond b zero (suc (placeOf meets c l)))
       go true e s = record { how = met (suc-le-suc zero-le) e refl; longer = le-refl (suc (length l)); there = suc-le-suc zero-le; each = all }
-      go false e s = later k l (place meets c l) (placeOf meets c l) s
+      go false e s = later k l (afterCorner meets c l) (placeOf meets c l) s
 
   -- a corner that meets none of the kept goes behind them
-  pub place-behind : (kept : List Corner) → ((i : ℕ) → i < length kept → meets c (cornerAt kept i) ≡ false) → place meets c kept ≡ snoc kept c
-  unfolding place
-  place-behind [] h = refl
-  place-behind (k ∷ l) h = ap (λ (b : Bool). cond b (stronger c k ∷ l) (k ∷ place meets c l)) (h 0 (suc-le-suc zero-le)) ∙ ap {B = List Corner} (λ r. k ∷ r) (place-behind l (λ i m. h (suc i) (suc-le-suc m)))
+  pub after-behind : (kept : List Corner) → ((i : ℕ) → i < length kept → meets c (cornerAt kept i) ≡ false) → afterCorner meets c kept ≡ snoc kept c
+  unfolding afterCorner
+  after-behind [] h = refl
+  after-behind (k ∷ l) h = ap (λ (b : Bool). cond b (stronger c k ∷ l) (k ∷ afterCorner meets c l)) (h 0 (suc-le-suc zero-le)) ∙ ap {B = List Corner} (λ r. k ∷ r) (after-behind l (λ i m. h (suc i) (suc-le-suc m)))
 
 -- two rules that say the same of a corner and the kept ones place it alike
-pub place-alike : (meets meets' : Corner → Corner → Bool) (c : Corner) (kept : List Corner)
-    → ((i : ℕ) → i < length kept → meets c (cornerAt kept i) ≡ meets' c (cornerAt kept i)) → place meets c kept ≡ place meets' c kept
-unfolding place
-place-alike meets meets' c [] h = refl
-place-alike meets meets' c (k ∷ l) h =
-    ap₂ (λ (b : Bool) (r : List Corner). cond b (stronger c k ∷ l) (k ∷ r)) (h 0 (suc-le-suc zero-le)) (place-alike meets meets' c l (λ i m. h (suc i) (suc-le-suc m)))
+pub after-alike : (meets meets' : Corner → Corner → Bool) (c : Corner) (kept : List Corner)
+    → ((i : ℕ) → i < length kept → meets c (cornerAt kept i) ≡ meets' c (cornerAt kept i)) → afterCorner meets c kept ≡ afterCorner meets' c kept
+unfolding afterCorner
+after-alike meets meets' c [] h = refl
+after-alike meets meets' c (k ∷ l) h =
+    ap₂ (λ (b : Bool) (r : List Corner). cond b (stronger c k ∷ l) (k ∷ r)) (h 0 (suc-le-suc zero-le)) (after-alike meets meets' c l (λ i m. h (suc i) (suc-le-suc m)))
 
 -- ---- merging, when one corner more comes at the end
 module _ (meets : Corner → Corner → Bool) where
-  mergeFrom-snoc : (kept l : List Corner) (c : Corner) → mergeFrom meets kept (snoc l c) ≡ place meets c (mergeFrom meets kept l)
+  mergeFrom-snoc : (kept l : List Corner) (c : Corner) → mergeFrom meets kept (snoc l c) ≡ afterCorner meets c (mergeFrom meets kept l)
   unfolding mergeFrom
   mergeFrom-snoc kept [] c = refl
-  mergeFrom-snoc kept (k ∷ l) c = mergeFrom-snoc (place meets k kept) l c
+  mergeFrom-snoc kept (k ∷ l) c = mergeFrom-snoc (afterCorner meets k kept) l c
 
-  pub merged-snoc : (l : List Corner) (c : Corner) → merged meets (snoc l c) ≡ place meets c (merged meets l)
+  pub merged-snoc : (l : List Corner) (c : Corner) → merged meets (snoc l c) ≡ afterCorner meets c (merged meets l)
   unfolding merged
   merged-snoc l c = mergeFrom-snoc [] l c
 
@@ -131,12 +131,12 @@ module _ (meets : Corner → Corner → Bool) where
   unfolding placesFrom
   placesFrom-old kept [] c i h = absurd (not-suc-le-zero h)
   placesFrom-old kept (k ∷ l) c zero h = refl
-  placesFrom-old kept (k ∷ l) c (suc i) h = placesFrom-old (place meets k kept) l c i (le-of-suc-le-suc h)
+  placesFrom-old kept (k ∷ l) c (suc i) h = placesFrom-old (afterCorner meets k kept) l c i (le-of-suc-le-suc h)
 
   placesFrom-new : (kept l : List Corner) (c : Corner) → getD (placesFrom meets kept (snoc l c)) (length l) 0 ≡ placeOf meets c (mergeFrom meets kept l)
   unfolding placesFrom mergeFrom
   placesFrom-new kept [] c = refl
-  placesFrom-new kept (k ∷ l) c = placesFrom-new (place meets k kept) l c
+  placesFrom-new kept (k ∷ l) c = placesFrom-new (afterCorner meets k kept) l c
 
   pub place-old : (l : List Corner) (c : Corner) (i : ℕ) → i < length l → placeAt meets (snoc l c) i ≡ placeAt meets l i
   unfolding places

@@ -14,9 +14,9 @@ use Rattle.floats.proofs.OrderLaws.{lt-irrefl}
 use Rattle.corners.specs.Corners.{cornerAt}
 use Rattle.corners.specs.declared.Corner.{Corner}
 use Rattle.merge.specs.Meets.{Grid, near, neighbours, plainMeets, gridMeets}
-use Rattle.merge.specs.Fold.{stronger, place, merged}
-use Rattle.merge.specs.Claims.{placeAt, Joined, here, next, Stays, Local, Kept, Uninvented, Earlier, Ordered, Held, StrongHeld, Alike}
-use Rattle.clinics.proofs.GrowLaws.{snoc, grow, at-old, at-new, length-snoc, Which, old, new, which, How, met, behind, Stands, own, still, place-behind, place-alike, merged-snoc, merged-step, place-old, either, not-below-new, not-below-old}
+use Rattle.merge.specs.Fold.{stronger, afterCorner, merged}
+use Rattle.merge.specs.Claims.{placeAt, Joined, here, next, Stays, Local, Source, Uninvented, Earlier, Ordered, Guarded, StrongHeld, Alike}
+use Rattle.clinics.proofs.GrowLaws.{snoc, grow, at-old, at-new, length-snoc, Which, old, new, which, How, met, behind, Stands, own, still, after-behind, after-alike, merged-snoc, merged-step, place-old, either, not-below-new, not-below-old}
 
 -- ---- numbers of a list that grows by one
 within-old : (l : List Corner) (c : Corner) (i : ℕ) → i < length l → i < length (snoc l c)
@@ -37,8 +37,8 @@ module _ (meets : Corner → Corner → Bool) where
       more : (l : List Corner) (c : Corner) → Stays meets l → Stays meets (snoc l c)
       more l c ih s =
           merged-snoc meets l c
-          ∙ ap (place meets c) (ih (λ i j h k. subst₂ (λ (a b : Corner). meets a b ≡ false) (at-old l c j k) (at-old l c i (N.lt-trans h k)) (s i j h (within-old l c j k))))
-          ∙ place-behind meets c l (λ i h. subst₂ (λ (a b : Corner). meets a b ≡ false) (at-new l c) (at-old l c i h) (s i (length l) h (within-new l c)))
+          ∙ ap (afterCorner meets c) (ih (λ i j h k. subst₂ (λ (a b : Corner). meets a b ≡ false) (at-old l c j k) (at-old l c i (N.lt-trans h k)) (s i j h (within-old l c j k))))
+          ∙ after-behind meets c l (λ i h. subst₂ (λ (a b : Corner). meets a b ≡ false) (at-new l c) (at-old l c i h) (s i (length l) h (within-new l c)))
 
   -- ---- nothing is invented
   pub nothing-invented : (l : List Corner) → Uninvented meets l
@@ -51,18 +51,18 @@ module _ (meets : Corner → Corner → Bool) where
           its : ℕ
           its = placeAt meets (snoc l c) (length l)
 
-          newest : cornerAt (merged meets (snoc l c)) its ≡ c → Kept meets (snoc l c) its
+          newest : cornerAt (merged meets (snoc l c)) its ≡ c → Source meets (snoc l c) (merged meets (snoc l c)) its
           newest e = record { from = length l; within = within-new l c; same = e ∙ sym (at-new l c); went = refl }
 
-          older : (q : ℕ) → cornerAt (merged meets (snoc l c)) q ≡ cornerAt (merged meets l) q → Kept meets l q → Kept meets (snoc l c) q
+          older : (q : ℕ) → cornerAt (merged meets (snoc l c)) q ≡ cornerAt (merged meets l) q → Source meets l (merged meets l) q → Source meets (snoc l c) (merged meets (snoc l c)) q
           older q e k = record { from = k .from; within = within-old l c (k .from) (k .within); same = e ∙ k .same ∙ sym (at-old l c (k .from) (k .within)); went = place-old meets l c (k .from) (k .within) ∙ k .went }
 
-          came : How meets c (merged meets l) (merged meets (snoc l c)) its → Kept meets (snoc l c) its
+          came : How meets c (merged meets l) (merged meets (snoc l c)) its → Source meets (snoc l c) (merged meets (snoc l c)) its
           came (met a m e) = elim (either c (cornerAt (merged meets l) its)) [ inl x ↦ newest (e ∙ x) | inr y ↦ older its (e ∙ y) (ih its a) ]
           came (behind a e) = newest e
 
-          each : (q : ℕ) → Stands meets c (merged meets l) (merged meets (snoc l c)) its q → Kept meets (snoc l c) q
-          each q (own e) = subst (Kept meets (snoc l c)) (sym e) (came (merged-step meets l c .how))
+          each : (q : ℕ) → Stands meets c (merged meets l) (merged meets (snoc l c)) its q → Source meets (snoc l c) (merged meets (snoc l c)) q
+          each q (own e) = subst (Source meets (snoc l c) (merged meets (snoc l c))) (sym e) (came (merged-step meets l c .how))
           each q (still a e) = older q e (ih q a)
 
   -- ---- what is kept at a corner's place is not weaker
@@ -92,10 +92,10 @@ module _ (meets : Corner → Corner → Bool) where
               (shared x (subst (λ (p : ℕ). p < length (merged meets l)) e b) (subst (λ (p : ℕ). lt (cornerAt (merged meets l) p .strength) x ≡ false) e w) (merged-step meets l c .how))
           kept x q b w (still a e) = ap (λ (k : Corner). lt (k .strength) x) e ∙ w
 
-          held : (q : ℕ) → q ≡ placeAt meets (snoc l c) i → q < length after → lt (cornerAt after q .strength) (cornerAt (snoc l c) i .strength) ≡ false → Held meets (snoc l c) i
+          held : (q : ℕ) → q ≡ placeAt meets (snoc l c) i → q < length after → lt (cornerAt after q .strength) (cornerAt (snoc l c) i .strength) ≡ false → Guarded meets (snoc l c) (merged meets (snoc l c)) i
           held q e b w = record { there = subst (λ (p : ℕ). p < length after) e b; strong = subst (λ (p : ℕ). lt (cornerAt after p .strength) (cornerAt (snoc l c) i .strength) ≡ false) e w }
 
-          by : Which (length l) i → Held meets (snoc l c) i
+          by : Which (length l) i → Guarded meets (snoc l c) (merged meets (snoc l c)) i
           by (old k) =
               let q = placeAt meets l i in
               let b = lt-of-lt-of-le (ih i k .there) (merged-step meets l c .longer) in
@@ -121,7 +121,7 @@ module _ (meets : Corner → Corner → Bool) where
           lifted : i < length l → Earlier meets l i p → Earlier meets (snoc l c) i p
           lifted k w = record { who = w .who; before = w .before; went = place-old meets l c (w .who) (N.lt-trans (w .before) k) ∙ w .went }
 
-          found : i ≡ length l → Kept meets l p → Earlier meets (snoc l c) i p
+          found : i ≡ length l → Source meets l (merged meets l) p → Earlier meets (snoc l c) i p
           found e k = record { who = k .from; before = subst (λ (n : ℕ). k .from < n) (sym e) (k .within); went = place-old meets l c (k .from) (k .within) ∙ k .went }
 
           by : Which (length l) i → Earlier meets (snoc l c) i p
@@ -154,7 +154,7 @@ module _ (meets : Corner → Corner → Bool) where
           Both i = Joined meets (snoc l c) i (length l) × Joined meets (snoc l c) (length l) i
 
           -- an old corner in the new one's place is joined to the corner that stood there, which the new one met
-          through : (i : ℕ) → i < length l → placeAt meets l i ≡ its → meets c (cornerAt (merged meets l) its) ≡ true → Kept meets l its → Both i
+          through : (i : ℕ) → i < length l → placeAt meets l i ≡ its → meets c (cornerAt (merged meets l) its) ≡ true → Source meets l (merged meets l) its → Both i
           through i h p m k =
               let m' : meets (cornerAt (snoc l c) (length l)) (cornerAt (snoc l c) (k .from)) ≡ true = subst₂ (λ (x y : Corner). meets x y ≡ true) (sym (at-new l c)) (k .same ∙ sym (at-old l c (k .from) (k .within))) m in (
                 joined-trans (snoc l c) (joined-old l c h (ih i (k .from) h (k .within) (p ∙ sym (k .went)))) (next (length l) (within-new l c) (inr m') here),
@@ -179,11 +179,11 @@ alike-merges meets meets' = grow (λ (l : List Corner). Alike meets meets' l →
     more : (l : List Corner) (c : Corner) → (Alike meets meets' l → merged meets l ≡ merged meets' l) → Alike meets meets' (snoc l c) → merged meets (snoc l c) ≡ merged meets' (snoc l c)
     more l c ih s =
         merged-snoc meets l c
-        ∙ place-alike meets meets' c (merged meets l) (λ p h. same (nothing-invented meets l p h))
-        ∙ ap (place meets' c) (ih (λ i j h k. subst₂ (λ (a b : Corner). meets a b ≡ meets' a b) (at-old l c i h) (at-old l c j k) (s i j (within-old l c i h) (within-old l c j k))))
+        ∙ after-alike meets meets' c (merged meets l) (λ p h. same (nothing-invented meets l p h))
+        ∙ ap (afterCorner meets' c) (ih (λ i j h k. subst₂ (λ (a b : Corner). meets a b ≡ meets' a b) (at-old l c i h) (at-old l c j k) (s i j (within-old l c i h) (within-old l c j k))))
         ∙ sym (merged-snoc meets' l c)
       where
-        same : {p : ℕ} → Kept meets l p → meets c (cornerAt (merged meets l) p) ≡ meets' c (cornerAt (merged meets l) p)
+        same : {p : ℕ} → Source meets l (merged meets l) p → meets c (cornerAt (merged meets l) p) ≡ meets' c (cornerAt (merged meets l) p)
         same k = subst₂ (λ (a b : Corner). meets a b ≡ meets' a b) (at-new l c) (at-old l c (k .from) (k .within) ∙ sym (k .same)) (s (length l) (k .from) (within-new l c) (within-old l c (k .from) (k .within)))
 
 -- The grid merges as the plain scan does where every two corners of the list that are near lie in cells that touch. This condition suffices.

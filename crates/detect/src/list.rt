@@ -30,7 +30,7 @@ pub fn refine_list(
     match operator {
         Operator::Built => refine_all(img, sizes, cfg, &columns, corners, out),
         Operator::Singular => 0,
-        Operator::BadRadius => 0,
+        Operator::Refused(_) => 0,
     }
 }
 

@@ -8,14 +8,14 @@ use Rattle.floats.specs.Convert.{convert}
 use Rattle.floats.specs.TotalOrder.{totalCmp}
 use Rattle.fit_operator.specs.Inverse.{Reduced, singular, reduced, inverseNormalMatrix, pivotOf, swapped, scaled, cleared}
 use Rattle.fit_operator.specs.Rows.{columnsOf, overlapOf}
-use Rattle.fit_operator.specs.Call.{Way, badRadius, none, built, wayOf}
+use Rattle.fit_operator.specs.Call.{Way, refused, none, built, wayOf}
 
 pub radius-0 : wayOf 0 ≡ none
 unfolding wayOf inverseNormalMatrix pivotOf ofBits ofInt add sub mul div lt magnitude totalCmp
 radius-0 = refl
 
 abbrev shown : Way → List ℕ
-shown badRadius = []
+shown (refused r) = []
 shown none = []
 shown (built columns overlap) = map (λ (x : Float). toBits binary32 x) columns
 

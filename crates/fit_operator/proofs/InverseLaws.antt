@@ -17,7 +17,7 @@ use Rattle.shapes.proofs.TurnLaws.{turns-more}
 use Rattle.shapes.specs.Numbers.{entry, plusZero, one}
 use Rattle.shapes.specs.Turns.{turns}
 use Rattle.fit_operator.specs.Basis.{samples, phi}
-use Rattle.fit_operator.specs.Inverse.{normalEntry, normalMatrix, better, pivotFrom, pivotOf, exchanged, swapped, scaled, cleared, least, singular, reduced, reduceFrom}
+use Rattle.fit_operator.specs.Inverse.{normalEntry, normalMatrix, better, pivotFrom, pivotOf, exchanged, swapped, scaled, cleared, leastPivot, singular, reduced, reduceFrom}
 
 module _ {A : Type 0} (t : Bool) (x y : A) where
   pub first-of : t ≡ true → cond t x y ≡ x
@@ -155,20 +155,20 @@ module _ (m : List Float) (col p : ℕ) (h : col < 6) (e : p ≡ pivotOf m col) 
   left-is : 6 - col ≡ suc (6 - (col + 1))
   left-is = omega arith
 
-  pub reduce-stop : lt (magnitude (entry m (12 * p + col))) least ≡ true → reduceFrom (6 - col) col m ≡ singular
+  pub reduce-stop : lt (magnitude (entry m (12 * p + col))) leastPivot ≡ true → reduceFrom (6 - col) col m ≡ singular
   unfolding reduceFrom
   reduce-stop s =
       ap (λ (left : ℕ). reduceFrom left col m) left-is
-      ∙ ap (λ (q : ℕ). cond (lt (magnitude (entry m (12 * q + col))) least) singular (reduceFrom (6 - (col + 1)) (col + 1) (cleared col (scaled col (swapped col q m))))) (sym e)
-      ∙ first-of (lt (magnitude (entry m (12 * p + col))) least) singular _ s
+      ∙ ap (λ (q : ℕ). cond (lt (magnitude (entry m (12 * q + col))) leastPivot) singular (reduceFrom (6 - (col + 1)) (col + 1) (cleared col (scaled col (swapped col q m))))) (sym e)
+      ∙ first-of (lt (magnitude (entry m (12 * p + col))) leastPivot) singular _ s
 
-  pub reduce-more : (m' : List Float) → lt (magnitude (entry m (12 * p + col))) least ≡ false → m' ≡ cleared col (scaled col (swapped col p m))
+  pub reduce-more : (m' : List Float) → lt (magnitude (entry m (12 * p + col))) leastPivot ≡ false → m' ≡ cleared col (scaled col (swapped col p m))
       → reduceFrom (6 - (col + 1)) (col + 1) m' ≡ reduceFrom (6 - col) col m
   unfolding reduceFrom
   reduce-more m' s d =
       ap (λ (l : List Float). reduceFrom (6 - (col + 1)) (col + 1) l) d
-      ∙ sym (second-of (lt (magnitude (entry m (12 * p + col))) least) singular _ s)
-      ∙ ap (λ (q : ℕ). cond (lt (magnitude (entry m (12 * q + col))) least) singular (reduceFrom (6 - (col + 1)) (col + 1) (cleared col (scaled col (swapped col q m))))) e
+      ∙ sym (second-of (lt (magnitude (entry m (12 * p + col))) leastPivot) singular _ s)
+      ∙ ap (λ (q : ℕ). cond (lt (magnitude (entry m (12 * q + col))) leastPivot) singular (reduceFrom (6 - (col + 1)) (col + 1) (cleared col (scaled col (swapped col q m))))) e
       ∙ ap (λ (left : ℕ). reduceFrom left col m) (sym left-is)
 
 pub reduce-all : (m : List Float) (col : ℕ) → 6 ≤ col → reduceFrom (6 - col) col m ≡ reduced m

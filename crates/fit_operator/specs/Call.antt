@@ -7,20 +7,23 @@ use Prim.Native.Nat.{ℕ, _*_}
 use lib.Dec.{leb}
 use lib.ListN.{drop}
 use lib.Ieee.{Float}
+use Rattle.refusals.specs.declared.Refusal.{Refusal}
+use Rattle.refusals.specs.declared.Refusal.the-variants.{BadRadius}
+use Rattle.refusals.specs.Numbers as Refusals
 use Rattle.fit_operator.specs.declared.Operator.{Operator}
-use Rattle.fit_operator.specs.declared.Operator.the-variants.{Built, Singular, BadRadius}
+use Rattle.fit_operator.specs.declared.Operator.the-variants.{Built, Singular, Refused}
 use Rattle.fit_operator.specs.Basis.{samples}
 use Rattle.fit_operator.specs.Inverse.{Reduced, singular, reduced, inverseNormalMatrix}
 use Rattle.fit_operator.specs.Rows.{columnsOf, overlapOf}
 
--- document 01's number of each case; 0 is done, 3 is IllConditioned
+-- the number of each case; 0 is done, 3 is IllConditioned
 abbrev pub numberOf : Operator → ℕ
 numberOf Built = 0
 numberOf Singular = 3
-numberOf BadRadius = 11
+numberOf (Refused r) = Refusals.numberOf r
 
 pub data Way : Type 0 where
-  badRadius : Way
+  refused : Refusal → Way
   none : Way
   built : List Float → List Float → Way
 
@@ -29,20 +32,20 @@ wayFrom radius singular = none
 wayFrom radius (reduced m) = built (columnsOf radius m) (overlapOf radius m)
 
 unfoldable pub wayOf : ℕ → Way
-wayOf radius = cond (leb radius 7) (wayFrom radius (inverseNormalMatrix radius)) badRadius
+wayOf radius = cond (leb radius 7) (wayFrom radius (inverseNormalMatrix radius)) (refused BadRadius)
 
 abbrev pub answerOf : Way → Operator
-answerOf badRadius = BadRadius
+answerOf (refused r) = Refused r
 answerOf none = Singular
 answerOf (built columns overlap) = Built
 
 abbrev pub columnsAfter : ℕ → List Float → Way → List Float
-columnsAfter radius old badRadius = old
+columnsAfter radius old (refused r) = old
 columnsAfter radius old none = old
 columnsAfter radius old (built columns overlap) = columns ++ drop (5 * samples radius) old
 
 abbrev pub overlapAfter : List Float → Way → List Float
-overlapAfter old badRadius = old
+overlapAfter old (refused r) = old
 overlapAfter old none = old
 overlapAfter old (built columns overlap) = overlap
 

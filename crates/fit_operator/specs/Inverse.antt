@@ -57,8 +57,8 @@ unfolding tabulated
 cleared col m = tabulated 72 (λ i. cond (eqb (i / 12) col) (entry m i) (sub binary64 (entry m i) (mul binary64 (entry m (12 * (i / 12) + col)) (entry m (12 * col + i % 12)))))
 
 -- 1e-9
-abbrev pub least : Float
-least = ofBits binary64 0x3E112E0BE826D695
+abbrev pub leastPivot : Float
+leastPivot = ofBits binary64 0x3E112E0BE826D695
 
 pub data Reduced : Type 0 where
   singular : Reduced
@@ -70,7 +70,7 @@ reduceFrom zero col m = reduced m
 reduceFrom (suc left) col m =
     let p = pivotOf m col in
     let r = reduceFrom left (col + 1) (cleared col (scaled col (swapped col p m))) in
-    cond (lt (magnitude (entry m (12 * p + col))) least) singular r
+    cond (lt (magnitude (entry m (12 * p + col))) leastPivot) singular r
 
 unfoldable pub inverseNormalMatrix : ℕ → Reduced
 unfolding reduceFrom normalMatrix

@@ -53,6 +53,6 @@ abbrev pub overlapAt : ℕ → List Float → ℕ → Float
 overlapAt radius rows i = convert binary32 (overlapSum radius rows (i / 25) (i % 25 / 5) (i % 5))
 
 -- ---- what is left of a reduced matrix
-pub record Kept (radius : ℕ) (m columns columns' overlap' : List Float) : Type 0 where
+pub record OperatorOf (radius : ℕ) (m columns columns' overlap' : List Float) : Type 0 where
   pub columns-is : columns' ≡ columnsOf radius m ++ drop (5 * samples radius) columns
   pub overlap-is : overlap' ≡ overlapOf radius m

@@ -5,7 +5,7 @@ ghost use Prim.Native.Nat.{_≤_, _<_};
 ghost use lib.Ieee.{lt};
 ghost use Rattle.floats.specs.Magnitude.{magnitude};
 ghost use Rattle.shapes.specs.Numbers.{entry};
-ghost use Rattle.fit_operator.specs.Inverse.{normalEntry, normalMatrix, exchanged, swapped, scaled, cleared, least, reduceFrom};
+ghost use Rattle.fit_operator.specs.Inverse.{normalEntry, normalMatrix, exchanged, swapped, scaled, cleared, leastPivot, reduceFrom};
 ghost use Rattle.fit_operator.specs.Steps.{Better, Pivot, reducedBy};
 use crate::basis;
 use floats::Order;
@@ -164,7 +164,7 @@ fn cleared_rows(m: &[f64; 72], col: usize) -> [f64; 72]
 }
 
 fn is_below_least(x: f64) -> bool
-    ensures { λ r. ⌜ r ≡ lt (magnitude x) least ⌝ }
+    ensures { λ r. ⌜ r ≡ lt (magnitude x) leastPivot ⌝ }
 {
     floats::magnitude_f64(x) < 0.000000001
 }

@@ -3,17 +3,19 @@ ghost use mathlib.Core.Path.{_≡_};
 ghost use Prim.Native.Nat.{_≤_};
 ghost use lib.ListN.{length};
 ghost use Rattle.fit_operator.specs.Call.{Done};
-ghost use Rattle.fit_operator.specs.Steps.{Kept};
+ghost use Rattle.fit_operator.specs.Steps.{OperatorOf};
 
 mod basis;
 mod inverse;
 mod rows;
 
-// How building ended, by document 01's names: the operator is there, there is none, or the radius is refused.
+use refusals::Refusal;
+
+// How building ended: the operator is there, there is none, or the radius is refused.
 pub enum Operator {
     Built,
     Singular,
-    BadRadius,
+    Refused(Refusal),
 }
 
 // Builds the operator for a radius: five coefficients a sample, and the nine overlaps.
@@ -21,7 +23,7 @@ pub fn fit_operator(radius: usize, columns: &mut [f32; 1125], overlap: &mut [f32
     ensures { λ r. ⌜ Done radius (now (columns .entry)) (now (overlap .entry)) r (now (columns .exit)) (now (overlap .exit)) ⌝ }
 {
     if 7 < radius {
-        return Operator::BadRadius;
+        return Operator::Refused(Refusal::BadRadius);
     }
     let mut m = inverse::normal_matrix(radius);
     if !inverse::reduce(&mut m) {
@@ -34,7 +36,7 @@ pub fn fit_operator(radius: usize, columns: &mut [f32; 1125], overlap: &mut [f32
 // The columns and overlaps of a reduced matrix. The rows stand in binary64 only here.
 fn keep(radius: usize, m: &[f64; 72], columns: &mut [f32], overlap: &mut [f32])
     requires { ⌜ (radius ≤ 7) × (length (now columns) ≡ 1125) × (length (now overlap) ≡ 225) ⌝ }
-    ensures { λ _. ⌜ Kept radius (now (m .entry)) (now (columns .entry)) (now (columns .exit)) (now (overlap .exit)) ⌝ }
+    ensures { λ _. ⌜ OperatorOf radius (now (m .entry)) (now (columns .entry)) (now (columns .exit)) (now (overlap .exit)) ⌝ }
 {
     let mut rows = [0.0f64; 1125];
     rows::fill_rows(radius, m, &mut rows);

@@ -137,7 +137,7 @@ pub fn f64_to_f32(x: f64) -> f32
     -f32::from_bits(narrowed(bits - 0x8000_0000_0000_0000))
 }
 
-// The f32 nearest to the root of x, from x's bit pattern. That `sqrt` is the nearest is `sqrt-nearest` of proofs/Roots.antt.
+// The f32 nearest to the root of x, from x's bit pattern. That `sqrt` is the nearest is `sqrt-nearest` of proofs/NearestRoots.antt.
 pub fn sqrt_f32(x: f32) -> f32
     ensures { λ r. ⌜ r ≡ sqrt binary32 x ⌝ }
 {

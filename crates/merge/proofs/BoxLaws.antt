@@ -16,7 +16,7 @@ use Rattle.corners.proofs.CornerLaws.{length-corners, corner-at}
 use Rattle.corners.specs.Corners.{cornersOf, nowhere, cornerAt}
 use Rattle.corners.specs.declared.Corner.{Corner}
 use Rattle.merge.specs.Meets.{Box, boxFrom}
-use Rattle.merge.proofs.LeastLaws.{same-bool}
+use Rattle.merge.proofs.LowestLaws.{same-bool}
 
 pub cond-true : {A : Type 0} (b : Bool) (x y : A) → b ≡ true → x ≡ cond b x y
 cond-true b x y e = ap (λ (t : Bool). cond t x y) (sym e)

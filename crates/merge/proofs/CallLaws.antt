@@ -15,13 +15,14 @@ use Rattle.shapes.specs.Numbers.{plusZero}
 use Rattle.corners.specs.Corners.{whole, tooMany, cornersOf}
 use Rattle.corners.specs.declared.Corner.{Corner}
 use Rattle.merge.specs.declared.Merge.{Merge}
-use Rattle.merge.specs.declared.Merge.the-variants.{Merged, BadLength, TooMany, BadScratch, GridTooBig}
+use Rattle.merge.specs.declared.Merge.the-variants.{Merged}
+use Rattle.refusals.specs.declared.Refusal.the-variants.{BadLength, TooMany, BadScratch, GridTooBig}
 use Rattle.merge.specs.declared.Cells.{Cells}
 use Rattle.merge.specs.declared.Extent.{Extent}
 use Rattle.merge.specs.Meets.{Box, boxOf, finiteBox, inverse, along, cellAlong, gridOf, cellsAcross, cellsDown, neighbours, plainMeets, gridMeets}
 use Rattle.merge.specs.Fold.{merged}
 use Rattle.merge.specs.Call.{Way, refused, unmerged, scanned, gridded, idle, mergingWay, wayOf, Done}
-use Rattle.merge.specs.Steps.{asBox, columnIn, rowIn, total, meetsIn, Roomy, Filled, Left}
+use Rattle.merge.specs.Steps.{asBox, columnIn, rowIn, total, meetsIn, Roomy, Packed, Left}
 
 -- ---- the merge itself
 module _ (l : List Corner) (radius : Float) (heads : ℕ) where
@@ -77,13 +78,13 @@ pub left-by :
 left-by {list} {heads} {links} {r} {list'} {heads'} {links'} e = subst (λ (w : Way). Left w list heads links r list' heads' links') (sym e)
 
 pub left-plain :
-    {kept : List Corner} {list : List Float} {heads links : List ℕ} {count : ℕ} {list' : List Float} → Filled list kept count list'
+    {kept : List Corner} {list : List Float} {heads links : List ℕ} {count : ℕ} {list' : List Float} → Packed list kept count list'
     → Left (scanned kept) list heads links (Merged count) list' heads links
 left-plain f = record { answers = ap Merged (f .counts); leaves-list = f .holds; leaves-heads = refl; leaves-links = refl }
 
 pub left-grid :
     {kept : List Corner} {list : List Float} {heads links : List ℕ} {count : ℕ} {list' : List Float} {heads' links' : List ℕ}
-    → Filled list kept count list' → heads' ≡ replicate (length heads) 0 → links' ≡ replicate (length links) 0
+    → Packed list kept count list' → heads' ≡ replicate (length heads) 0 → links' ≡ replicate (length links) 0
     → Left (gridded kept) list heads links (Merged count) list' heads' links'
 left-grid f h l = record { answers = ap Merged (f .counts); leaves-list = f .holds; leaves-heads = h; leaves-links = l }
 

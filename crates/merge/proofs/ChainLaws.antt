@@ -12,7 +12,7 @@ use lib.Dec.{eqb, ltb}
 use lib.ListN.{length, getD, set, length-set, length-append, List·getD-append}
 use lib.Seq.{getD-set-same, getD-set-other, getD-append-seam}
 use borrow.Author.Tests.{eq-eqb, ne-eqb}
-use Rattle.merge.specs.Steps.{least, top, Nexts, Chains, Falling, inCell}
+use Rattle.merge.specs.Steps.{lowestBelow, top, Nexts, Chains, Falling, inCell}
 
 module _ (cs : List ℕ) (c : ℕ) where
   pub top-is : (k : ℕ) → getD cs k 0 ≡ c → top cs c (suc k) ≡ suc k
@@ -313,45 +313,45 @@ module _ (most : ℕ) (cs heads links : List ℕ) (c j : ℕ) (chains : Chains m
 -- ---- walking a chain
 module _ (cs : List ℕ) (c : ℕ) (test : ℕ → Bool) where
   -- only the cell's own corners count
-  least-top : (n m best : ℕ) → m ≤ n → ((i : ℕ) → m ≤ i → i < n → getD cs i 0 ≡ c → ⊥) → least (inCell cs c test) n best ≡ least (inCell cs c test) m best
-  unfolding least
-  least-top zero m best h free = ap (λ (k : ℕ). least (inCell cs c test) k best) (let z : 0 ≡ m = omega arith in z)
-  least-top (suc n) m best h free =
+  lowest-top : (n m best : ℕ) → m ≤ n → ((i : ℕ) → m ≤ i → i < n → getD cs i 0 ≡ c → ⊥) → lowestBelow (inCell cs c test) n best ≡ lowestBelow (inCell cs c test) m best
+  unfolding lowestBelow
+  lowest-top zero m best h free = ap (λ (k : ℕ). lowestBelow (inCell cs c test) k best) (let z : 0 ≡ m = omega arith in z)
+  lowest-top (suc n) m best h free =
       ⊎-elim
-      (λ q. ap (λ (k : ℕ). least (inCell cs c test) k best) (sym q))
-      (λ l. ap (λ (b : Bool). least (inCell cs c test) n (cond (b && test n && ltb n best) n best)) (ne-eqb (getD cs n 0) c (free n (le-of-suc-le-suc l) (le-refl (suc n)))) ∙ least-top n m best (le-of-suc-le-suc l) (λ i a b. free i a (let z : i < suc n = omega arith in z)))
+      (λ q. ap (λ (k : ℕ). lowestBelow (inCell cs c test) k best) (sym q))
+      (λ l. ap (λ (b : Bool). lowestBelow (inCell cs c test) n (cond (b && test n && ltb n best) n best)) (ne-eqb (getD cs n 0) c (free n (le-of-suc-le-suc l) (le-refl (suc n)))) ∙ lowest-top n m best (le-of-suc-le-suc l) (λ i a b. free i a (let z : i < suc n = omega arith in z)))
       (eq-or-lt-of-le h)
 
-  pub least-chain : (n best : ℕ) → least (inCell cs c test) n best ≡ least (inCell cs c test) (top cs c n) best
-  least-chain n best = least-top n (top cs c n) best (top-le cs c n) (top-none cs c n)
+  pub lowest-chain : (n best : ℕ) → lowestBelow (inCell cs c test) n best ≡ lowestBelow (inCell cs c test) (top cs c n) best
+  lowest-chain n best = lowest-top n (top cs c n) best (top-le cs c n) (top-none cs c n)
 
   -- one step down the chain from corner j
-  pub least-next : (j best : ℕ) → getD cs j 0 ≡ c → least (inCell cs c test) (suc j) best ≡ least (inCell cs c test) (top cs c j) (cond (test j && ltb j best) j best)
-  unfolding least
-  least-next j best e =
-      ap (λ (b : Bool). least (inCell cs c test) j (cond (b && test j && ltb j best) j best)) (eq-eqb (getD cs j 0) c e)
-      ∙ least-chain j (cond (test j && ltb j best) j best)
+  pub lowest-next : (j best : ℕ) → getD cs j 0 ≡ c → lowestBelow (inCell cs c test) (suc j) best ≡ lowestBelow (inCell cs c test) (top cs c j) (cond (test j && ltb j best) j best)
+  unfolding lowestBelow
+  lowest-next j best e =
+      ap (λ (b : Bool). lowestBelow (inCell cs c test) j (cond (b && test j && ltb j best) j best)) (eq-eqb (getD cs j 0) c e)
+      ∙ lowest-chain j (cond (test j && ltb j best) j best)
 
 -- a walk begins at the top of the chain
 pub walk-start :
     (cs : List ℕ) (c : ℕ) (test : ℕ → Bool) (n start best : ℕ) → start ≡ top cs c n
-    → (start ≡ top cs c start) × (least (inCell cs c test) start best ≡ least (inCell cs c test) n best)
+    → (start ≡ top cs c start) × (lowestBelow (inCell cs c test) start best ≡ lowestBelow (inCell cs c test) n best)
 walk-start cs c test n start best e =
-    (e ∙ top-top cs c n ∙ ap (top cs c) (sym e), ap (λ (k : ℕ). least (inCell cs c test) k best) e ∙ sym (least-chain cs c test n best))
+    (e ∙ top-top cs c n ∙ ap (top cs c) (sym e), ap (λ (k : ℕ). lowestBelow (inCell cs c test) k best) e ∙ sym (lowest-chain cs c test n best))
 
 -- and goes on with the link of the corner that it stands at
 pub walk-turn :
     (most c : ℕ) (cs links : List ℕ) (test : ℕ → Bool) (j p best : ℕ)
     → Nexts most cs links → c < most → p ≡ suc j → p ≡ top cs c p → p ≤ length cs
-    → (getD links j 0 ≡ top cs c (getD links j 0)) × (least (inCell cs c test) (getD links j 0) (cond (test j && ltb j best) j best) ≡ least (inCell cs c test) p best)
+    → (getD links j 0 ≡ top cs c (getD links j 0)) × (lowestBelow (inCell cs c test) (getD links j 0) (cond (test j && ltb j best) j best) ≡ lowestBelow (inCell cs c test) p best)
 walk-turn most c cs links test j p best nexts inside e t l =
     let here : getD cs j 0 ≡ c = top-hit cs c p j (sym t ∙ e) in
     let low : getD links j 0 ≡ top cs c j = next-of most cs links nexts j c (omega arith) here inside in
-    (low ∙ top-top cs c j ∙ ap (top cs c) (sym low), ap (λ (k : ℕ). least (inCell cs c test) k (cond (test j && ltb j best) j best)) low ∙ sym (least-next cs c test j best here) ∙ ap (λ (k : ℕ). least (inCell cs c test) k best) (sym e))
+    (low ∙ top-top cs c j ∙ ap (top cs c) (sym low), ap (λ (k : ℕ). lowestBelow (inCell cs c test) k (cond (test j && ltb j best) j best)) low ∙ sym (lowest-next cs c test j best here) ∙ ap (λ (k : ℕ). lowestBelow (inCell cs c test) k best) (sym e))
 
-pub walk-end : (test : ℕ → Bool) (p found : ℕ) → p ≤ 0 → found ≡ least test p found
-unfolding least
-walk-end test p found h = ap (λ (k : ℕ). least test k found) (let e : 0 ≡ p = omega arith in e)
+pub walk-end : (test : ℕ → Bool) (p found : ℕ) → p ≤ 0 → found ≡ lowestBelow test p found
+unfolding lowestBelow
+walk-end test p found h = ap (λ (k : ℕ). lowestBelow test k found) (let e : 0 ≡ p = omega arith in e)
 
 -- a link leads to a corner of the same cell
 pub link-on : (most c : ℕ) (cs links : List ℕ) (q k : ℕ) → Nexts most cs links → c < most → q < length cs → getD cs q 0 ≡ c → getD links q 0 ≡ suc k → getD cs k 0 ≡ c

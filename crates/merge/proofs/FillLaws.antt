@@ -1,4 +1,4 @@
--- Filling a list from a place to its end, one store a turn.
+-- Filling a list from an index to its end, one store a turn.
 use mathlib.Core.Path.{_≡_, ap, _∙_}
 use mathlib.Core.List.{List, [], _∷_, _++_, append-nil}
 use Prim.Native.Nat.{ℕ, zero, suc, _+_, _-_, _≤_, _<_}

@@ -19,8 +19,8 @@ use Rattle.corners.specs.declared.Corner.{Corner}
 use Rattle.merge.specs.declared.Cells.{Cells}
 use Rattle.merge.specs.declared.Disc.{Disc}
 use Rattle.merge.specs.Meets.{near, touch}
-use Rattle.merge.specs.Steps.{within, least, top, Chains, Falling, inCell, Walked, Member, Unlinked, Joinable, Linked, columnIn, rowIn, cellIn, total, cellsOf, meetsIn, Roomy, Chained, columnAt, rowAt, inOneCell, inThreeCells, inNineCells}
-use Rattle.merge.proofs.LeastLaws.{either-true, or-left, or-right, same-bool, least-three, least-same, least-none}
+use Rattle.merge.specs.Steps.{within, lowestBelow, top, Chains, Falling, inCell, Walked, Member, Unlinked, Joinable, Linked, columnIn, rowIn, cellIn, total, cellsOf, meetsIn, Roomy, Chained, columnAt, rowAt, inOneCell, inThreeCells, inNineCells}
+use Rattle.merge.proofs.LowestLaws.{either-true, or-left, or-right, same-bool, lowest-three, lowest-same, lowest-none}
 use Rattle.merge.proofs.ChainLaws.{top-le, top-none, top-hit, top-above, chain-falling, chains-more}
 
 -- ---- tests
@@ -157,26 +157,26 @@ module _ {g : Cells} {list : List Float} {n : ℕ} {heads links : List ℕ} (k :
       subst (λ (m : ℕ). m ≤ n) (sym (k .chains .tops c h)) (omega (arith, top-le (cellsOf g list n) c (length (cellsOf g list n)), cells-length g list n (k .there)))
 
   module _ (d : Disc) (best : ℕ) where
-    other-column : (column row : ℕ) → ((j : ℕ) → columnAt g list j + 1 ≡ column → ⊥) → best ≡ least (inOneCell g list d column row) n best
+    other-column : (column row : ℕ) → ((j : ℕ) → columnAt g list j + 1 ≡ column → ⊥) → best ≡ lowestBelow (inOneCell g list d column row) n best
     other-column column row none =
-        least-none (inOneCell g list d column row) n best
+        lowest-none (inOneCell g list d column row) n best
         (λ j h. ap (λ (t : Bool). t && eqb (rowAt g list j) row && within d list j) (ne-eqb (columnAt g list j + 1) column (none j)))
 
-    pub no-column : (column row : ℕ) → column ≡ 0 → best ≡ least (inOneCell g list d column row) n best
+    pub no-column : (column row : ℕ) → column ≡ 0 → best ≡ lowestBelow (inOneCell g list d column row) n best
     no-column column row e = other-column column row (λ j q. let z : ⊥ = omega arith in z)
 
-    pub past-column : (column row : ℕ) → g .across < column → best ≡ least (inOneCell g list d column row) n best
+    pub past-column : (column row : ℕ) → g .across < column → best ≡ lowestBelow (inOneCell g list d column row) n best
     past-column column row e = other-column column row (λ j q. let z : ⊥ = omega (arith, column-lt g (cornerAt (cornersOf list) j .x) (k .roomy .wide)) in z)
 
-    pub walked-in : (c r : ℕ) → c < total g → Walked list links (getD heads c 0) d best r → r ≡ least (inCell (cellsOf g list n) c (within d list)) n best
+    pub walked-in : (c r : ℕ) → c < total g → Walked list links (getD heads c 0) d best r → r ≡ lowestBelow (inCell (cellsOf g list n) c (within d list)) n best
     walked-in c r l walked =
         walked (total g) c (cellsOf g list n) (k .chains .nexts) l (k .chains .tops c l)
-        ∙ ap (λ (m : ℕ). least (inCell (cellsOf g list n) c (within d list)) m best) (cells-length g list n (k .there))
+        ∙ ap (λ (m : ℕ). lowestBelow (inCell (cellsOf g list n) c (within d list)) m best) (cells-length g list n (k .there))
 
     -- a cell without a chain has nothing
-    pub empty-in : (c : ℕ) → c < total g → getD heads c 0 ≡ 0 → best ≡ least (inCell (cellsOf g list n) c (within d list)) n best
+    pub empty-in : (c : ℕ) → c < total g → getD heads c 0 ≡ 0 → best ≡ lowestBelow (inCell (cellsOf g list n) c (within d list)) n best
     empty-in c l e =
-        least-none (inCell (cellsOf g list n) c (within d list)) n best
+        lowest-none (inCell (cellsOf g list n) c (within d list)) n best
         (λ j h. ap (λ (t : Bool). t && within d list j) (ne-eqb (getD (cellsOf g list n) j 0) c (top-none (cellsOf g list n) c (length (cellsOf g list n)) j (below j) (omega (arith, cells-length g list n (k .there))))))
       where
         below : (j : ℕ) → top (cellsOf g list n) c (length (cellsOf g list n)) ≤ j
@@ -184,9 +184,9 @@ module _ {g : Cells} {list : List Float} {n : ℕ} {heads links : List ℕ} (k :
 
     pub cell-one :
         (column row : ℕ) → 0 < column → column ≤ g .across
-        → least (inCell (cellsOf g list n) (row * g .across + (column - 1)) (within d list)) n best ≡ least (inOneCell g list d column row) n best
+        → lowestBelow (inCell (cellsOf g list n) (row * g .across + (column - 1)) (within d list)) n best ≡ lowestBelow (inOneCell g list d column row) n best
     cell-one column row low high =
-        least-same (inCell (cellsOf g list n) (row * g .across + (column - 1)) (within d list)) (inOneCell g list d column row) n best (λ j h. ap (λ (t : Bool). t && within d list j) (same j h))
+        lowest-same (inCell (cellsOf g list n) (row * g .across + (column - 1)) (within d list)) (inOneCell g list d column row) n best (λ j h. ap (λ (t : Bool). t && within d list j) (same j h))
       where
         same : (j : ℕ) → j < n → eqb (getD (cellsOf g list n) j 0) (row * g .across + (column - 1)) ≡ (eqb (columnAt g list j + 1) column && eqb (rowAt g list j) row)
         same j h =
@@ -194,28 +194,28 @@ module _ {g : Cells} {list : List Float} {n : ℕ} {heads links : List ℕ} (k :
             ∙ same-cell (g .across) (rowAt g list j) (columnAt g list j) row (column - 1) (column-lt g (cornerAt (cornersOf list) j .x) (k .roomy .wide)) (omega arith)
             ∙ ap (λ (t : Bool). t && eqb (rowAt g list j) row) (one-more (columnAt g list j) column low)
 
-    other-row : (column row : ℕ) → ((j : ℕ) → rowAt g list j + 1 ≡ row → ⊥) → best ≡ least (inThreeCells g list d column row) n best
-    other-row column row none = least-none (inThreeCells g list d column row) n best fails
+    other-row : (column row : ℕ) → ((j : ℕ) → rowAt g list j + 1 ≡ row → ⊥) → best ≡ lowestBelow (inThreeCells g list d column row) n best
+    other-row column row none = lowest-none (inThreeCells g list d column row) n best fails
       where
         fails : (j : ℕ) → j < n → inThreeCells g list d column row j ≡ false
         fails j h =
             ap (λ (t : Bool). touch column (columnAt g list j) && t && within d list j) (ne-eqb (rowAt g list j + 1) row (none j))
             ∙ ap (λ (t : Bool). t && within d list j) (and-false (touch column (columnAt g list j)))
 
-    pub no-row : (column row : ℕ) → row ≡ 0 → best ≡ least (inThreeCells g list d column row) n best
+    pub no-row : (column row : ℕ) → row ≡ 0 → best ≡ lowestBelow (inThreeCells g list d column row) n best
     no-row column row e = other-row column row (λ j q. let z : ⊥ = omega arith in z)
 
-    pub past-row : (column row : ℕ) → g .down < row → best ≡ least (inThreeCells g list d column row) n best
+    pub past-row : (column row : ℕ) → g .down < row → best ≡ lowestBelow (inThreeCells g list d column row) n best
     past-row column row e = other-row column row (λ j q. let z : ⊥ = omega (arith, row-lt g (cornerAt (cornersOf list) j .y) (k .roomy .high)) in z)
 
     pub three-cells :
-        (column row a b r : ℕ) → 0 < row → a ≡ least (inOneCell g list d column (row - 1)) n best
-        → b ≡ least (inOneCell g list d (column + 1) (row - 1)) n a → r ≡ least (inOneCell g list d (column + 2) (row - 1)) n b
-        → r ≡ least (inThreeCells g list d column row) n best
+        (column row a b r : ℕ) → 0 < row → a ≡ lowestBelow (inOneCell g list d column (row - 1)) n best
+        → b ≡ lowestBelow (inOneCell g list d (column + 1) (row - 1)) n a → r ≡ lowestBelow (inOneCell g list d (column + 2) (row - 1)) n b
+        → r ≡ lowestBelow (inThreeCells g list d column row) n best
     three-cells column row a b r low ea eb er =
         er
-        ∙ ap (least (inOneCell g list d (column + 2) (row - 1)) n) (eb ∙ ap (least (inOneCell g list d (column + 1) (row - 1)) n) ea)
-        ∙ least-three (inOneCell g list d column (row - 1)) (inOneCell g list d (column + 1) (row - 1)) (inOneCell g list d (column + 2) (row - 1)) (inThreeCells g list d column row) n best
+        ∙ ap (lowestBelow (inOneCell g list d (column + 2) (row - 1)) n) (eb ∙ ap (lowestBelow (inOneCell g list d (column + 1) (row - 1)) n) ea)
+        ∙ lowest-three (inOneCell g list d column (row - 1)) (inOneCell g list d (column + 1) (row - 1)) (inOneCell g list d (column + 2) (row - 1)) (inThreeCells g list d column row) n best
         (λ j h. any (columnAt g list j) (rowAt g list j) (within d list j))
       where
         any : (a b : ℕ) (q : Bool) → (eqb (a + 1) column && eqb b (row - 1) && q || eqb (a + 1) (column + 1) && eqb b (row - 1) && q || eqb (a + 1) (column + 2) && eqb b (row - 1) && q) ≡ (touch column a && eqb (b + 1) row && q)
@@ -224,13 +224,13 @@ module _ {g : Cells} {list : List Float} {n : ℕ} {heads links : List ℕ} (k :
             ∙ ap (λ (t : Bool). touch column a && t && q) (one-more b row low)
 
     pub nine-cells :
-        (column row a b r : ℕ) → a ≡ least (inThreeCells g list d column row) n best
-        → b ≡ least (inThreeCells g list d column (row + 1)) n a → r ≡ least (inThreeCells g list d column (row + 2)) n b
-        → r ≡ least (inNineCells g list d column row) n best
+        (column row a b r : ℕ) → a ≡ lowestBelow (inThreeCells g list d column row) n best
+        → b ≡ lowestBelow (inThreeCells g list d column (row + 1)) n a → r ≡ lowestBelow (inThreeCells g list d column (row + 2)) n b
+        → r ≡ lowestBelow (inNineCells g list d column row) n best
     nine-cells column row a b r ea eb er =
         er
-        ∙ ap (least (inThreeCells g list d column (row + 2)) n) (eb ∙ ap (least (inThreeCells g list d column (row + 1)) n) ea)
-        ∙ least-three (inThreeCells g list d column row) (inThreeCells g list d column (row + 1)) (inThreeCells g list d column (row + 2)) (inNineCells g list d column row) n best
+        ∙ ap (lowestBelow (inThreeCells g list d column (row + 2)) n) (eb ∙ ap (lowestBelow (inThreeCells g list d column (row + 1)) n) ea)
+        ∙ lowest-three (inThreeCells g list d column row) (inThreeCells g list d column (row + 1)) (inThreeCells g list d column (row + 2)) (inNineCells g list d column row) n best
         (λ j h. any (touch column (columnAt g list j)) (rowAt g list j) (within d list j))
       where
         any : (t : Bool) (b : ℕ) (q : Bool) → (t && eqb (b + 1) row && q || t && eqb (b + 1) (row + 1) && q || t && eqb (b + 1) (row + 2) && q) ≡ (t && touch row b && q)
@@ -345,13 +345,13 @@ none-chained roomy zeros =
 pub nine-meets :
     (g : Cells) (list : List Float) (new : Corner) (r2 : Float) (count column row met : ℕ)
     → column ≡ columnIn g (new .x) → row ≡ rowIn g (new .y)
-    → met ≡ least (inNineCells g list (record { x = new .x; y = new .y; r2 = r2 }) column row) count count
-    → met ≡ least (λ j. meetsIn g r2 new (cornerAt (cornersOf list) j)) count count
+    → met ≡ lowestBelow (inNineCells g list (record { x = new .x; y = new .y; r2 = r2 }) column row) count count
+    → met ≡ lowestBelow (λ j. meetsIn g r2 new (cornerAt (cornersOf list) j)) count count
 unfolding near within
 nine-meets g list new r2 count column row met ec er e =
     e
-    ∙ ap (λ (m : ℕ). least (inNineCells g list (record { x = new .x; y = new .y; r2 = r2 }) m row) count count) ec
-    ∙ ap (λ (m : ℕ). least (inNineCells g list (record { x = new .x; y = new .y; r2 = r2 }) (columnIn g (new .x)) m) count count) er
+    ∙ ap (λ (m : ℕ). lowestBelow (inNineCells g list (record { x = new .x; y = new .y; r2 = r2 }) m row) count count) ec
+    ∙ ap (λ (m : ℕ). lowestBelow (inNineCells g list (record { x = new .x; y = new .y; r2 = r2 }) (columnIn g (new .x)) m) count count) er
 
 -- ---- what fits the heads
 pub across-room : (g : Cells) {heads : List ℕ} → Roomy g heads → g .across ≤ length heads

@@ -1,7 +1,7 @@
 -- Laws over the definitions of merging.
 pub mod FillLaws
 pub mod FoldLaws
-pub mod LeastLaws
+pub mod LowestLaws
 pub mod ChainLaws
 pub mod BoxLaws
 pub mod StepLaws

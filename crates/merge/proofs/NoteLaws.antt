@@ -12,7 +12,7 @@ use lib.Seq.{getD-set-same, getD-set-other}
 use lib.Ieee.{Float}
 use Rattle.merge.specs.declared.Cells.{Cells}
 use Rattle.merge.specs.declared.Disc.{Disc}
-use Rattle.merge.specs.Steps.{within, least, inCell, total, cellsOf, Chained, Walked, inOneCell, inThreeCells, inNineCells, lowestNoted, Noted, NotedMore, Sought}
+use Rattle.merge.specs.Steps.{within, lowestBelow, inCell, total, cellsOf, Chained, Walked, inOneCell, inThreeCells, inNineCells, lowestNoted, Noted, NotedMore, Sought}
 use Rattle.merge.proofs.GridLaws.{cell-lt, no-column, past-column, walked-in, empty-in, cell-one, no-row, past-row, three-cells, nine-cells}
 
 -- only the first k notes count
@@ -22,12 +22,12 @@ noted-frame :
 unfolding lowestNoted
 noted-frame g list n d notes notes' zero best same = refl
 noted-frame g list n d notes notes' (suc k) best same =
-    ap (λ (c : ℕ). least (inCell (cellsOf g list n) c (within d list)) n (lowestNoted g list n d notes' k best)) (same k (le-refl (suc k)))
-    ∙ ap (least (inCell (cellsOf g list n) (getD notes k 0) (within d list)) n) (noted-frame g list n d notes notes' k best (λ i h. same i (let z : i < suc k = omega arith in z)))
+    ap (λ (c : ℕ). lowestBelow (inCell (cellsOf g list n) c (within d list)) n (lowestNoted g list n d notes' k best)) (same k (le-refl (suc k)))
+    ∙ ap (lowestBelow (inCell (cellsOf g list n) (getD notes k 0) (within d list)) n) (noted-frame g list n d notes notes' k best (λ i h. same i (let z : i < suc k = omega arith in z)))
 
 noted-next :
     (g : Cells) (list : List Float) (n : ℕ) (d : Disc) (notes : List ℕ) (k best : ℕ)
-    → lowestNoted g list n d notes (k + 1) best ≡ least (inCell (cellsOf g list n) (getD notes k 0) (within d list)) n (lowestNoted g list n d notes k best)
+    → lowestNoted g list n d notes (k + 1) best ≡ lowestBelow (inCell (cellsOf g list n) (getD notes k 0) (within d list)) n (lowestNoted g list n d notes k best)
 unfolding lowestNoted
 noted-next g list n d notes k best = ap (λ (m : ℕ). lowestNoted g list n d notes m best) (add-one k)
 
@@ -36,7 +36,7 @@ set-before notes k c i h = getD-set-other notes k i c 0 (λ q. let z : ⊥ = ome
 
 module _ (g : Cells) (heads notes : List ℕ) (k : ℕ) (noted : Noted g notes k) where
   -- nothing is noted where the cells are not there
-  nothing-more : (most : ℕ) (test : List Float → Disc → ℕ → Bool) → ((list : List Float) (n : ℕ) (links : List ℕ) → Chained g list n heads links → (d : Disc) (best : ℕ) → best ≡ least (test list d) n best) → NotedMore most g heads test notes k notes k
+  nothing-more : (most : ℕ) (test : List Float → Disc → ℕ → Bool) → ((list : List Float) (n : ℕ) (links : List ℕ) → Chained g list n heads links → (d : Disc) (best : ℕ) → best ≡ lowestBelow (test list d) n best) → NotedMore most g heads test notes k notes k
   nothing-more most test none =
       record { few = omega arith; noted = noted; finds = λ list n links h d best. none list n links h d (lowestNoted g list n d notes k best) }
 
@@ -89,11 +89,11 @@ module _ (g : Cells) (heads notes : List ℕ) (k : ℕ) (noted : Noted g notes k
 
         finds :
             (list : List Float) (n : ℕ) (links : List ℕ) → Chained g list n heads links → (d : Disc) (best : ℕ)
-            → lowestNoted g list n d (set notes k (row * g .across + (column - 1))) (k + 1) best ≡ least (inOneCell g list d column row) n (lowestNoted g list n d notes k best)
+            → lowestNoted g list n d (set notes k (row * g .across + (column - 1))) (k + 1) best ≡ lowestBelow (inOneCell g list d column row) n (lowestNoted g list n d notes k best)
         finds list n links h d best =
             noted-next g list n d (set notes k (row * g .across + (column - 1))) k best
-            ∙ ap (λ (c : ℕ). least (inCell (cellsOf g list n) c (within d list)) n (lowestNoted g list n d (set notes k (row * g .across + (column - 1))) k best)) (getD-set-same notes k (row * g .across + (column - 1)) 0 own)
-            ∙ ap (least (inCell (cellsOf g list n) (row * g .across + (column - 1)) (within d list)) n) (before list n d best)
+            ∙ ap (λ (c : ℕ). lowestBelow (inCell (cellsOf g list n) c (within d list)) n (lowestNoted g list n d (set notes k (row * g .across + (column - 1))) k best)) (getD-set-same notes k (row * g .across + (column - 1)) 0 own)
+            ∙ ap (lowestBelow (inCell (cellsOf g list n) (row * g .across + (column - 1)) (within d list)) n) (before list n d best)
             ∙ cell-one h d (lowestNoted g list n d notes k best) column row low high
 
 -- three cells of a row that is there
@@ -121,7 +121,7 @@ pub nine-noted :
     → NotedMore 3 g heads (λ list d. inThreeCells g list d column row) notes 0 notes1 k1
     → NotedMore 3 g heads (λ list d. inThreeCells g list d column (row + 1)) notes1 k1 notes2 k2
     → NotedMore 3 g heads (λ list d. inThreeCells g list d column (row + 2)) notes2 k2 notes3 k3
-    → Sought list heads links notes3 k3 d best r → r ≡ least (inNineCells g list d column row) n best
+    → Sought list heads links notes3 k3 d best r → r ≡ lowestBelow (inNineCells g list d column row) n best
 unfolding lowestNoted
 nine-noted g list n heads links h d best column row {notes} {notes1} {notes2} {notes3} {k1} {k2} {k3} r a b c sought =
     sought g n h (c .noted)
@@ -138,5 +138,5 @@ pub walk-next :
     → r ≡ lowestNoted g list n d notes (i + 1) best
 walk-next g list n heads links h d notes k i best found r noted l walked e =
     walked-in h d found (getD notes i 0) r (noted .inside i l) walked
-    ∙ ap (least (inCell (cellsOf g list n) (getD notes i 0) (within d list)) n) e
+    ∙ ap (lowestBelow (inCell (cellsOf g list n) (getD notes i 0) (within d list)) n) e
     ∙ sym (noted-next g list n d notes i best)

@@ -1,4 +1,4 @@
--- One corner, all corners and the filled list, over the corners in the flat list.
+-- One corner, all corners and the packed list, over the corners in the flat list.
 use mathlib.Core.Path.{_≡_, refl, sym, ap, _∙_}
 use mathlib.Core.Bool.{Bool, true, false, cond}
 use mathlib.Core.List.{List, _++_}
@@ -12,13 +12,13 @@ use Rattle.shapes.specs.Numbers.{plusZero}
 use Rattle.corners.proofs.CornerLaws.{length-corners, read, corner-at, take-flat}
 use Rattle.corners.specs.Corners.{cornersOf, flat, nowhere, cornerAt}
 use Rattle.corners.specs.declared.Corner.{Corner}
-use Rattle.merge.specs.Fold.{stronger, place, placeOf, mergeFrom, merged}
-use Rattle.merge.specs.Steps.{least, Stepped, Passed, Filled}
-use Rattle.merge.proofs.LeastLaws.{least-same}
-use Rattle.merge.proofs.FoldLaws.{place-hit, place-none, place-least}
+use Rattle.merge.specs.Fold.{stronger, afterCorner, placeOf, mergeFrom, merged}
+use Rattle.merge.specs.Steps.{lowestBelow, Stepped, Passed, Packed}
+use Rattle.merge.proofs.LowestLaws.{lowest-same}
+use Rattle.merge.proofs.FoldLaws.{after-hit, after-none, place-lowest}
 
 module _ (meets : Corner → Corner → Bool) (l : List Corner) (i count met : ℕ) (new : Corner)
-    (here : cornerAt l i ≡ new) (order : count ≤ i) (within : i < length l) (found : met ≡ least (λ j. meets new (cornerAt l j)) count count) where
+    (here : cornerAt l i ≡ new) (order : count ≤ i) (within : i < length l) (found : met ≡ lowestBelow (λ j. meets new (cornerAt l j)) count count) where
   counted : length (take count l) ≡ count
   counted = length-take-le count l (omega arith)
 
@@ -28,18 +28,18 @@ module _ (meets : Corner → Corner → Bool) (l : List Corner) (i count met : �
   -- where the corner goes
   goes : placeOf meets new (take count l) ≡ met
   goes =
-      place-least meets new (take count l)
-      ∙ ap (λ (n : ℕ). least (λ j. meets new (cornerAt (take count l) j)) n n) counted
-      ∙ least-same (λ j. meets new (cornerAt (take count l) j)) (λ j. meets new (cornerAt l j)) count count (λ j h. ap (meets new) (kept-at j h))
+      place-lowest meets new (take count l)
+      ∙ ap (λ (n : ℕ). lowestBelow (λ j. meets new (cornerAt (take count l) j)) n n) counted
+      ∙ lowest-same (λ j. meets new (cornerAt (take count l) j)) (λ j. meets new (cornerAt l j)) count count (λ j h. ap (meets new) (kept-at j h))
       ∙ sym found
 
   rest-of : (j : ℕ) → j ≤ i → drop (i + 1) (set l j new) ≡ drop (i + 1) l
   rest-of j h = drop-set-lt (i + 1) l j new (omega arith)
 
-  met-place : met < count → place meets (cornerAt l i) (take count l) ≡ set (take count l) met (stronger new (cornerAt l met))
+  met-place : met < count → afterCorner meets (cornerAt l i) (take count l) ≡ set (take count l) met (stronger new (cornerAt l met))
   met-place h =
-      ap (λ (c : Corner). place meets c (take count l)) here
-      ∙ place-hit meets new (take count l) (omega (arith, goes, counted))
+      ap (λ (c : Corner). afterCorner meets c (take count l)) here
+      ∙ after-hit meets new (take count l) (omega (arith, goes, counted))
       ∙ ap (λ (p : ℕ). set (take count l) p (stronger new (cornerAt (take count l) p))) goes
       ∙ ap (λ (k : Corner). set (take count l) met (stronger new k)) (kept-at met h)
 
@@ -70,7 +70,7 @@ module _ (meets : Corner → Corner → Bool) (l : List Corner) (i count met : �
             ap (take (count + 1)) e
             ∙ ap (λ (n : ℕ). take n (set l count new)) (add-one count)
             ∙ take-suc-set l count new (omega arith)
-            ∙ sym (ap (λ (c : Corner). place meets c (take count l)) here ∙ place-none meets new (take count l) (omega (arith, goes, counted)));
+            ∙ sym (ap (λ (c : Corner). afterCorner meets c (take count l)) here ∙ after-none meets new (take count l) (omega (arith, goes, counted)));
         rest = ap (drop (i + 1)) e ∙ rest-of count order;
         bound = omega arith;
       }
@@ -83,7 +83,7 @@ pub pass-turn :
 unfolding mergeFrom
 pass-turn {meets} {i} {count} {before} {after} {count'} h s =
     ap (λ (k : List Corner). mergeFrom meets k (drop (i + 1) after)) (s .kept)
-    ∙ ap (mergeFrom meets (place meets (cornerAt before i) (take count before))) (s .rest ∙ ap (λ (n : ℕ). drop n before) (add-one i))
+    ∙ ap (mergeFrom meets (afterCorner meets (cornerAt before i) (take count before))) (s .rest ∙ ap (λ (n : ℕ). drop n before) (add-one i))
     ∙ ap (mergeFrom meets (take count before)) (sym (drop-cons before i nowhere h))
 
 pub pass-start : (meets : Corner → Corner → Bool) (l : List Corner) → mergeFrom meets (take 0 l) (drop 0 l) ≡ merged meets l
@@ -98,7 +98,7 @@ pass-end meets i count l h = ap (mergeFrom meets (take count l)) (sym (drop-of-l
 pub fill-kept :
     {meets : Corner → Corner → Bool} {list list' list'' : List Float} {count : ℕ} → Passed meets list count list'
     → length list' ≡ length list → list'' ≡ take (3 * count) list' ++ replicate (length list' - 3 * count) plusZero
-    → Filled list (merged meets (cornersOf list)) count list''
+    → Packed list (merged meets (cornersOf list)) count list''
 fill-kept {meets} {list} {list'} {list''} {count} p same e =
     let t = p .there in
     let n : count ≡ length (merged meets (cornersOf list)) = sym (length-take-le count (cornersOf list') (omega (arith, length-corners list'))) ∙ ap length (p .kept) in
@@ -112,7 +112,7 @@ fill-kept {meets} {list} {list'} {list''} {count} p same e =
     }
 
 -- ---- the same, with the floats as they are read
-module _ (meets : Corner → Corner → Bool) (list : List Float) (i count met : ℕ) (d : Float) (order : count ≤ i) (room : 3 * i + 2 < length list) (found : met ≡ least (λ j. meets (read list i d) (cornerAt (cornersOf list) j)) count count) where
+module _ (meets : Corner → Corner → Bool) (list : List Float) (i count met : ℕ) (d : Float) (order : count ≤ i) (room : 3 * i + 2 < length list) (found : met ≡ lowestBelow (λ j. meets (read list i d) (cornerAt (cornersOf list) j)) count count) where
   inside : i < length (cornersOf list)
   inside = omega (arith, length-corners list)
 

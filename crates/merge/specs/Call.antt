@@ -1,4 +1,4 @@
--- The public call: document 01's tests in their order (`wayOf`), what each way answers, and what it leaves in the three lent buffers.
+-- The public call: the tests of docs/RULES.md in their order (`wayOf`), what each way answers, and what it leaves in the three lent buffers.
 -- No refusal writes. The plain scan and a list or radius that needs no merging leave heads and links as they were; a grid merge leaves both all zero.
 use mathlib.Core.Path.{_≡_}
 use mathlib.Core.Bool.{Bool, not, _||_, cond}
@@ -11,21 +11,21 @@ use lib.Ieee.Scale.{finite}
 use Rattle.shapes.specs.Numbers.{plusZero}
 use Rattle.corners.specs.Corners.{whole, tooMany, cornersOf, flat}
 use Rattle.corners.specs.declared.Corner.{Corner}
+use Rattle.refusals.specs.declared.Refusal.{Refusal}
+use Rattle.refusals.specs.declared.Refusal.the-variants.{BadLength, TooMany, BadScratch, GridTooBig}
+use Rattle.refusals.specs.Numbers as Refusals
 use Rattle.merge.specs.declared.Merge.{Merge}
-use Rattle.merge.specs.declared.Merge.the-variants.{Merged, BadLength, TooMany, BadScratch, GridTooBig}
+use Rattle.merge.specs.declared.Merge.the-variants.{Merged, Refused}
 use Rattle.merge.specs.Meets.{boxOf, finiteBox, gridOf, cellsAcross, cellsDown, plainMeets, gridMeets}
 use Rattle.merge.specs.Fold.{merged}
 
--- document 01's number of each case; 0 is done
+-- the number of each case; 0 is done
 abbrev pub numberOf : Merge → ℕ
 numberOf (Merged n) = 0
-numberOf BadLength = 19
-numberOf TooMany = 16
-numberOf BadScratch = 18
-numberOf GridTooBig = 17
+numberOf (Refused r) = Refusals.numberOf r
 
 pub data Way : Type 0 where
-  refused : Merge → Way
+  refused : Refusal → Way
   unmerged : Way
   scanned : List Corner → Way
   gridded : List Corner → Way
@@ -52,20 +52,20 @@ wayOf list radius heads links =
     (mergingWay (cornersOf list) radius heads))))
 
 abbrev pub answerOf : List Float → Way → Merge
-answerOf list (refused r) = r
+answerOf list (refused r) = Refused r
 answerOf list unmerged = Merged (length list / 3)
 answerOf list (scanned kept) = Merged (length kept)
 answerOf list (gridded kept) = Merged (length kept)
 
 -- the kept corners, and +0.0 in the freed tail
-abbrev pub filled : List Float → List Corner → List Float
-filled list kept = flat kept ++ replicate (length list - 3 * length kept) plusZero
+abbrev pub packed : List Float → List Corner → List Float
+packed list kept = flat kept ++ replicate (length list - 3 * length kept) plusZero
 
 abbrev pub listAfter : List Float → Way → List Float
 listAfter list (refused r) = list
 listAfter list unmerged = list
-listAfter list (scanned kept) = filled list kept
-listAfter list (gridded kept) = filled list kept
+listAfter list (scanned kept) = packed list kept
+listAfter list (gridded kept) = packed list kept
 
 -- of heads and of links
 abbrev pub scratchAfter : List ℕ → Way → List ℕ

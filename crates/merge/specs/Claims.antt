@@ -1,4 +1,4 @@
--- What whoever relies on merging may claim of it, for any rule of meeting: the words of the theorems in proofs/Theorems.antt.
+-- What whoever relies on merging may claim of it, for any rule of meeting: the words of the theorems in the crate clinics.
 -- Corners are named by their numbers in the list, from 0; `places` (Fold) gives each the number of the place that it went to.
 use mathlib.Core.Path.{_≡_}
 use mathlib.Core.Logic.{_⊎_}
@@ -32,14 +32,14 @@ abbrev pub Local : (Corner → Corner → Bool) → List Corner → Type 0
 Local meets l = (i j : ℕ) → i < length l → j < length l → placeAt meets l i ≡ placeAt meets l j → Joined meets l i j
 
 -- Nothing is invented: what is kept at a place is a corner of the list that went to that place, coordinates and strength together.
-pub record Kept (meets : Corner → Corner → Bool) (l : List Corner) (p : ℕ) : Type 0 where
+pub record Source (meets : Corner → Corner → Bool) (l kept : List Corner) (p : ℕ) : Type 0 where
   pub from : ℕ
   pub within : from < length l
-  pub same : cornerAt (merged meets l) p ≡ cornerAt l from
+  pub same : cornerAt kept p ≡ cornerAt l from
   pub went : placeAt meets l from ≡ p
 
 abbrev pub Uninvented : (Corner → Corner → Bool) → List Corner → Type 0
-Uninvented meets l = (p : ℕ) → p < length (merged meets l) → Kept meets l p
+Uninvented meets l = (p : ℕ) → p < length (merged meets l) → Source meets l (merged meets l) p
 
 -- Places keep the order of their first corner: a corner that went to a place has, for every lower place, an earlier corner that went there.
 pub record Earlier (meets : Corner → Corner → Bool) (l : List Corner) (i p : ℕ) : Type 0 where
@@ -51,12 +51,12 @@ abbrev pub Ordered : (Corner → Corner → Bool) → List Corner → Type 0
 Ordered meets l = (i p : ℕ) → i < length l → p < placeAt meets l i → Earlier meets l i p
 
 -- Every corner's place is there at the end, and holds a corner that is not weaker. Where a strength is a NaN, neither is weaker than the other.
-pub record Held (meets : Corner → Corner → Bool) (l : List Corner) (i : ℕ) : Type 0 where
-  pub there : placeAt meets l i < length (merged meets l)
-  pub strong : lt (cornerAt (merged meets l) (placeAt meets l i) .strength) (cornerAt l i .strength) ≡ false
+pub record Guarded (meets : Corner → Corner → Bool) (l kept : List Corner) (i : ℕ) : Type 0 where
+  pub there : placeAt meets l i < length kept
+  pub strong : lt (cornerAt kept (placeAt meets l i) .strength) (cornerAt l i .strength) ≡ false
 
 abbrev pub StrongHeld : (Corner → Corner → Bool) → List Corner → Type 0
-StrongHeld meets l = (i : ℕ) → i < length l → Held meets l i
+StrongHeld meets l = (i : ℕ) → i < length l → Guarded meets l (merged meets l) i
 
 -- One rule stands in for another on a list where they say the same of every two corners.
 abbrev pub Alike : (Corner → Corner → Bool) → (Corner → Corner → Bool) → List Corner → Type 0

@@ -10,14 +10,15 @@ use Rattle.corners.specs.declared.Corner.{Corner}
 abbrev pub stronger : Corner → Corner → Corner
 stronger c k = cond (lt (k .strength) (c .strength)) c k
 
-unfoldable pub place : (Corner → Corner → Bool) → Corner → List Corner → List Corner
-place meets c [] = c ∷ []
-place meets c (k ∷ l) = cond (meets c k) (stronger c k ∷ l) (k ∷ place meets c l)
+-- the kept corners after one more came
+unfoldable pub afterCorner : (Corner → Corner → Bool) → Corner → List Corner → List Corner
+afterCorner meets c [] = c ∷ []
+afterCorner meets c (k ∷ l) = cond (meets c k) (stronger c k ∷ l) (k ∷ afterCorner meets c l)
 
 unfoldable pub mergeFrom : (Corner → Corner → Bool) → List Corner → List Corner → List Corner
-unfolding place
+unfolding afterCorner
 mergeFrom meets kept [] = kept
-mergeFrom meets kept (c ∷ l) = mergeFrom meets (place meets c kept) l
+mergeFrom meets kept (c ∷ l) = mergeFrom meets (afterCorner meets c kept) l
 
 unfoldable pub merged : (Corner → Corner → Bool) → List Corner → List Corner
 unfolding mergeFrom
@@ -30,9 +31,9 @@ placeOf meets c (k ∷ l) = cond (meets c k) zero (suc (placeOf meets c l))
 
 -- the places of all corners, in order
 unfoldable pub placesFrom : (Corner → Corner → Bool) → List Corner → List Corner → List ℕ
-unfolding place placeOf
+unfolding afterCorner placeOf
 placesFrom meets kept [] = []
-placesFrom meets kept (c ∷ l) = placeOf meets c kept ∷ placesFrom meets (place meets c kept) l
+placesFrom meets kept (c ∷ l) = placeOf meets c kept ∷ placesFrom meets (afterCorner meets c kept) l
 
 unfoldable pub places : (Corner → Corner → Bool) → List Corner → List ℕ
 unfolding placesFrom

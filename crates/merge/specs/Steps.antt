@@ -16,8 +16,8 @@ use Rattle.merge.specs.declared.Disc.{Disc}
 use Rattle.merge.specs.declared.Cells.{Cells}
 use Rattle.merge.specs.declared.Extent.{Extent}
 use Rattle.merge.specs.Meets.{near, touch, Box}
-use Rattle.merge.specs.Fold.{place, merged}
-use Rattle.merge.specs.Call.{Way, answerOf, listAfter, scratchAfter, filled}
+use Rattle.merge.specs.Fold.{afterCorner, merged}
+use Rattle.merge.specs.Call.{Way, answerOf, listAfter, scratchAfter, packed}
 
 -- ---- whom a place meets; the strength does not matter there
 abbrev pub point : Float → Float → Corner
@@ -31,10 +31,10 @@ within d list j = near (d .r2) (point (d .x) (d .y)) (cornerAt (cornersOf list) 
 abbrev pub pick : Disc → List Float → ℕ → ℕ → ℕ
 pick d list j best = cond (within d list j && ltb j best) j best
 
--- ---- the lesser of `best` and the least number below n that passes a test
-unfoldable pub least : (ℕ → Bool) → ℕ → ℕ → ℕ
-least test zero best = best
-least test (suc n) best = least test n (cond (test n && ltb n best) n best)
+-- ---- the lesser of `best` and the lowest number below n that passes a test
+unfoldable pub lowestBelow : (ℕ → Bool) → ℕ → ℕ → ℕ
+lowestBelow test zero best = best
+lowestBelow test (suc n) best = lowestBelow test n (cond (test n && ltb n best) n best)
 
 -- ---- chains
 -- one more than the highest number below n that lies in cell c; 0 where none does
@@ -62,7 +62,7 @@ inCell cs c test j = eqb (getD cs j 0) c && test j
 -- what a walk finds, whatever cell the chain is of
 abbrev pub Walked : List Float → List ℕ → ℕ → Disc → ℕ → ℕ → Type 0
 Walked list links start d best r =
-    (most c : ℕ) (cs : List ℕ) → Nexts most cs links → c < most → start ≡ top cs c (length cs) → r ≡ least (inCell cs c (within d list)) (length cs) best
+    (most c : ℕ) (cs : List ℕ) → Nexts most cs links → c < most → start ≡ top cs c (length cs) → r ≡ lowestBelow (inCell cs c (within d list)) (length cs) best
 
 -- r is the lowest number of a chain above j
 pub record Above (links : List ℕ) (start j r : ℕ) : Type 0 where
@@ -152,7 +152,7 @@ inNineCells g list d column row j = touch column (columnAt g list j) && touch ro
 -- the lowest number that the first k noted cells have in the disc, of the first n corners, or `best` where that is lower
 unfoldable pub lowestNoted : Cells → List Float → ℕ → Disc → List ℕ → ℕ → ℕ → ℕ
 lowestNoted g list n d notes zero best = best
-lowestNoted g list n d notes (suc k) best = least (inCell (cellsOf g list n) (getD notes k 0) (within d list)) n (lowestNoted g list n d notes k best)
+lowestNoted g list n d notes (suc k) best = lowestBelow (inCell (cellsOf g list n) (getD notes k 0) (within d list)) n (lowestNoted g list n d notes k best)
 
 -- the first k notes are cells of the grid
 pub record Noted (g : Cells) (notes : List ℕ) (k : ℕ) : Type 0 where
@@ -163,7 +163,7 @@ pub record Noted (g : Cells) (notes : List ℕ) (k : ℕ) : Type 0 where
 pub record NotedMore (most : ℕ) (g : Cells) (heads : List ℕ) (test : List Float → Disc → ℕ → Bool) (notes : List ℕ) (k : ℕ) (notes' : List ℕ) (k' : ℕ) : Type 0 where
   pub few : k' ≤ k + most
   pub noted : Noted g notes' k'
-  pub finds : (list : List Float) (n : ℕ) (links : List ℕ) → Chained g list n heads links → (d : Disc) (best : ℕ) → lowestNoted g list n d notes' k' best ≡ least (test list d) n (lowestNoted g list n d notes k best)
+  pub finds : (list : List Float) (n : ℕ) (links : List ℕ) → Chained g list n heads links → (d : Disc) (best : ℕ) → lowestNoted g list n d notes' k' best ≡ lowestBelow (test list d) n (lowestNoted g list n d notes k best)
 
 -- some grid's first corners are kept, and k of its cells are noted
 abbrev pub SomeNoted : List Float → List ℕ → List ℕ → List ℕ → ℕ → Type 0
@@ -177,7 +177,7 @@ Sought list heads links notes k d best r =
 -- ---- one corner, all corners, and the whole merge
 -- corner i found its place among the first `count`
 pub record Stepped (meets : Corner → Corner → Bool) (i count : ℕ) (before after : List Corner) (count' : ℕ) : Type 0 where
-  pub kept : take count' after ≡ place meets (cornerAt before i) (take count before)
+  pub kept : take count' after ≡ afterCorner meets (cornerAt before i) (take count before)
   pub rest : drop (i + 1) after ≡ drop (i + 1) before
   pub bound : count' ≤ i + 1
 
@@ -185,9 +185,9 @@ pub record Passed (meets : Corner → Corner → Bool) (list : List Float) (coun
   pub kept : take count (cornersOf list') ≡ merged meets (cornersOf list)
   pub there : 3 * count ≤ length list
 
-pub record Filled (list : List Float) (kept : List Corner) (count : ℕ) (list' : List Float) : Type 0 where
+pub record Packed (list : List Float) (kept : List Corner) (count : ℕ) (list' : List Float) : Type 0 where
   pub counts : count ≡ length kept
-  pub holds : list' ≡ filled list kept
+  pub holds : list' ≡ packed list kept
 
 -- few enough corners, and a link for each
 pub record Few (list : List Float) (links : List ℕ) : Type 0 where

@@ -10,7 +10,7 @@ ghost use Prim.Native.Nat.{ℕ, _+_, _*_, _<_, _≤_, min};
 ghost use lib.ListN.{length, set, replicate};
 ghost use Rattle.corners.specs.Corners.{cornersOf, corner};
 ghost use Rattle.merge.specs.Fold.{merged};
-ghost use Rattle.merge.specs.Steps.{Few, Roomy, Chains, Chained, Among, Joinable, Linked, total, cellsOf, columnIn, rowIn, cellIn, meetsIn, Stepped, Passed, Filled};
+ghost use Rattle.merge.specs.Steps.{Few, Roomy, Chains, Chained, Among, Joinable, Linked, total, cellsOf, columnIn, rowIn, cellIn, meetsIn, Stepped, Passed, Packed};
 
 // Only the heads of the grid's cells are cleared before, since a link is written before it is read; all of both after.
 pub fn merge(
@@ -21,7 +21,7 @@ pub fn merge(
     links: &mut [u16],
 ) -> usize
     requires { ⌜ Few (now corners) (now links) ⌝ ∗ ⌜ Roomy cells (now heads) ⌝ }
-    ensures { λ r. ⌜ Filled (now (corners .entry)) (merged (meetsIn cells r2) (cornersOf (now (corners .entry)))) r (now (corners .exit)) ⌝ }
+    ensures { λ r. ⌜ Packed (now (corners .entry)) (merged (meetsIn cells r2) (cornersOf (now (corners .entry)))) r (now (corners .exit)) ⌝ }
     ensures { λ _. ⌜ now (heads .exit) ≡ replicate (length (now (heads .entry))) 0 ⌝ }
     ensures { λ _. ⌜ now (links .exit) ≡ replicate (length (now (links .entry))) 0 ⌝ }
 {

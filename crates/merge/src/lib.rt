@@ -7,6 +7,8 @@ mod list;
 mod scan;
 mod seek;
 
+use refusals::Refusal;
+
 ghost use mathlib.Core.Path.{_≡_};
 ghost use lib.Dec.{ltb};
 ghost use Prim.Native.Nat.{_+_, _*_, _<_};
@@ -15,13 +17,10 @@ ghost use Rattle.corners.specs.Corners.{cornersOf};
 ghost use Rattle.merge.specs.Call.{Done, mergingWay};
 ghost use Rattle.merge.specs.Steps.{Few, Left};
 
-// How the call ended, by document 01's names.
+// How the call ended.
 pub enum Merge {
     Merged(usize),
-    BadLength,
-    TooMany,
-    BadScratch,
-    GridTooBig,
+    Refused(Refusal),
 }
 
 // The least and the greatest coordinates.
@@ -59,14 +58,14 @@ pub fn merge_corners_simple(
 {
     let len = corners.len();
     if !corners::is_whole(len) {
-        return Merge::BadLength;
+        return Merge::Refused(Refusal::BadLength);
     }
     if corners::too_many(len) {
-        return Merge::TooMany;
+        return Merge::Refused(Refusal::TooMany);
     }
     let n = len / 3;
     if links.len() < n {
-        return Merge::BadScratch;
+        return Merge::Refused(Refusal::BadScratch);
     }
     if len == 0 {
         return Merge::Merged(n);
@@ -94,7 +93,7 @@ fn merge_within(corners: &mut [f32], radius: f32, heads: &mut [u16], links: &mut
     let across = bounds::last_cell(inv, e.left, e.right);
     let down = bounds::last_cell(inv, e.top, e.bottom);
     if too_many(across, down, heads.len()) {
-        return Merge::GridTooBig;
+        return Merge::Refused(Refusal::GridTooBig);
     }
     let cells = Cells {
         left: e.left,

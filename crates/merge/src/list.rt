@@ -15,7 +15,7 @@ pub fn near(corners: &[f32], j: usize, disc: Disc) -> bool
     corners::squared_distance(disc.x, disc.y, corners[3 * j], corners[3 * j + 1]) <= disc.r2
 }
 
-// Fills the list with +0.0 from a place on.
+// Fills the list with +0.0 from an index on.
 pub fn zero_from(corners: &mut [f32], from: usize)
     requires { ⌜ from ≤ length (now corners) ⌝ }
     ensures { λ _. ⌜ now (corners .exit) ≡ take from (now (corners .entry)) ++ replicate (length (now (corners .entry)) - from) plusZero ⌝ }

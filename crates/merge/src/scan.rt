@@ -8,10 +8,10 @@ ghost use lib.ListN.{length};
 ghost use Rattle.corners.specs.Corners.{cornersOf};
 ghost use Rattle.merge.specs.Meets.{plainMeets};
 ghost use Rattle.merge.specs.Fold.{merged};
-ghost use Rattle.merge.specs.Steps.{least, within, Stepped, Passed, Filled};
+ghost use Rattle.merge.specs.Steps.{lowestBelow, within, Stepped, Passed, Packed};
 
 pub fn merge(corners: &mut [f32], r2: f32) -> usize
-    ensures { λ r. ⌜ Filled (now (corners .entry)) (merged (plainMeets r2) (cornersOf (now (corners .entry)))) r (now (corners .exit)) ⌝ }
+    ensures { λ r. ⌜ Packed (now (corners .entry)) (merged (plainMeets r2) (cornersOf (now (corners .entry)))) r (now (corners .exit)) ⌝ }
 {
     let count = pass(corners, r2);
     list::zero_from(corners, 3 * count);
@@ -54,7 +54,7 @@ fn step(corners: &mut [f32], i: usize, count: usize, r2: f32) -> usize
 // The first of the kept corners in the disc, or their count.
 fn first_near(corners: &[f32], count: usize, disc: Disc) -> usize
     requires { ⌜ 3 * count ≤ length (now corners) ⌝ }
-    ensures { λ r. ⌜ r ≡ least (within disc (now (corners .entry))) count count ⌝ }
+    ensures { λ r. ⌜ r ≡ lowestBelow (within disc (now (corners .entry))) count count ⌝ }
 {
     let mut j = 0;
     while j < count {

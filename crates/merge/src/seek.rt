@@ -6,7 +6,7 @@ use crate::chains;
 ghost use mathlib.Core.Path.{_≡_};
 ghost use Prim.Native.Nat.{_+_, _<_, _≤_};
 ghost use lib.ListN.{length};
-ghost use Rattle.merge.specs.Steps.{least, Roomy, Chained, inOneCell, inThreeCells, inNineCells, Noted, SomeNoted, NotedMore, Sought};
+ghost use Rattle.merge.specs.Steps.{lowestBelow, Roomy, Chained, inOneCell, inThreeCells, inNineCells, Noted, SomeNoted, NotedMore, Sought};
 
 // The lowest number in the disc, or `count`.
 pub fn lowest(
@@ -20,7 +20,7 @@ pub fn lowest(
     count: usize,
 ) -> usize
     requires { ⌜ Chained cells (now corners) count (now heads) (now links) ⌝ ∗ ⌜ (column < cells .across) × (row < cells .down) ⌝ }
-    ensures { λ r. ⌜ r ≡ least (inNineCells cells (now (corners .entry)) disc column row) count count ⌝ }
+    ensures { λ r. ⌜ r ≡ lowestBelow (inNineCells cells (now (corners .entry)) disc column row) count count ⌝ }
 {
     let mut notes = [0usize; 9];
     let a = note_three(heads, cells, column, row, &mut notes, 0);

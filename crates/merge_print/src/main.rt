@@ -32,10 +32,7 @@ fn run(bytes: &mut [u8], list: &mut [f32], heads: &mut [u16], links: &mut [u16])
     let answer = merge::merge_corners_simple(&mut list[..n], 2.0, heads, links);
     match answer {
         Merge::Merged(count) => print_corners(list, count),
-        Merge::BadLength => print_refused(19),
-        Merge::TooMany => print_refused(16),
-        Merge::BadScratch => print_refused(18),
-        Merge::GridTooBig => print_refused(17),
+        Merge::Refused(refusal) => print_refused(refusals::number(refusal) as u64),
     }
 }
 

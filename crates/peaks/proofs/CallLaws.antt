@@ -12,10 +12,12 @@ use Rattle.corners.specs.Corners.{whole}
 use Rattle.imageview.specs.Image.{sizesFit}
 use Rattle.imageview.proofs.ImageLaws.{counted}
 use Rattle.peaks.specs.declared.Peaks.{Peaks}
-use Rattle.peaks.specs.declared.Peaks.the-variants.{Found, BadImage, BadRadius, BadLimit, BadLength, TooMany}
+use Rattle.refusals.specs.declared.Refusal.{Refusal}
+use Rattle.refusals.specs.declared.Refusal.the-variants.{BadImage, BadRadius, BadLimit, BadLength, TooMany}
+use Rattle.peaks.specs.declared.Peaks.the-variants.{Found, Refused}
 use Rattle.peaks.specs.Peak.{Scan}
 use Rattle.peaks.specs.Call.{Way, refused, found, peaksOf, radiiFit, wayOf, answerOf, outAfter, Done}
-use Rattle.peaks.specs.Steps.{Sound, filled}
+use Rattle.peaks.specs.Steps.{Sound, allRecorded}
 use Rattle.peaks.proofs.CountLaws.{first-of, second-of}
 
 -- ---- the test of the radii
@@ -132,11 +134,11 @@ module _ (s : Scan) (room : ℕ) where
           way-found h = is-whole ∙ ap (λ (z : Bool). cond z (refused TooMany) (found (peaksOf s))) (le-ltb (room / 3) (length (peaksOf s)) h)
 
 -- ---- what a way leaves behind
-pub done-refused : {s : Scan} {out : List Float} {r : Peaks} → wayOf s (length out) ≡ refused r → Done s out r out
+pub done-refused : {s : Scan} {out : List Float} {r : Refusal} → wayOf s (length out) ≡ refused r → Done s out (Refused r) out
 done-refused {s} {out} e = record { answers = sym (ap answerOf e); leaves = sym (ap (outAfter s out) e) }
 
-pub done-kept : {s : Scan} {out out' : List Float} {r : Peaks} → wayOf s (length out) ≡ refused r → out' ≡ out → Done s out r out'
+pub done-kept : {s : Scan} {out out' : List Float} {r : Refusal} → wayOf s (length out) ≡ refused r → out' ≡ out → Done s out (Refused r) out'
 done-kept {s} {out} e f = record { answers = sym (ap answerOf e); leaves = f ∙ sym (ap (outAfter s out) e) }
 
-pub done-found : {s : Scan} {out out' : List Float} {n : ℕ} → wayOf s (length out) ≡ found (peaksOf s) → n ≡ length (peaksOf s) → out' ≡ filled s out → Done s out (Found n) out'
+pub done-found : {s : Scan} {out out' : List Float} {n : ℕ} → wayOf s (length out) ≡ found (peaksOf s) → n ≡ length (peaksOf s) → out' ≡ allRecorded s out → Done s out (Found n) out'
 done-found {s} {out} e f g = record { answers = ap Found f ∙ sym (ap answerOf e); leaves = g ∙ sym (ap (outAfter s out) e) }

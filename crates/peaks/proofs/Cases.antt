@@ -6,7 +6,8 @@ use lib.ListN.{set, replicate}
 use lib.Ieee.{Float, binary32, ofBits, toBits, ofInt, lt}
 use Rattle.imageview.specs.Image.{sizesFit}
 use Rattle.peaks.specs.declared.Peaks.{Peaks}
-use Rattle.peaks.specs.declared.Peaks.the-variants.{Found, TooMany}
+use Rattle.peaks.specs.declared.Peaks.the-variants.{Found, Refused}
+use Rattle.refusals.specs.declared.Refusal.the-variants.{TooMany}
 use Rattle.peaks.specs.Peak.{Scan, valueAt, inside, neighbour, every, count, beats, highest, positives, isPeak}
 use Rattle.peaks.specs.Call.{chosen, peaksOf, recordsOf, wayOf, answerOf, outAfter}
 
@@ -41,7 +42,7 @@ unfolding spot wayOf sizesFit peaksOf chosen isPeak inside highest every beats n
 spot-written = refl
 
 -- no room for it
-spot-refused : answer spot 0 1 0 ≡ TooMany
+spot-refused : answer spot 0 1 0 ≡ Refused TooMany
 unfolding spot wayOf sizesFit peaksOf chosen isPeak inside highest every beats neighbour valueAt positives count lt ofBits
 spot-refused = refl
 

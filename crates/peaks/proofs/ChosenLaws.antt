@@ -1,4 +1,4 @@
--- The peaks up to a place, and their records.
+-- The peaks up to a pixel, and their records.
 use mathlib.Core.Path.{_≡_, refl, sym, ap, _∙_, subst}
 use mathlib.Core.Logic.{⊎-elim}
 use mathlib.Core.Bool.{Bool, true, false, cond}
@@ -16,7 +16,7 @@ use Rattle.corners.proofs.CornerLaws.{recorded-parts}
 use Rattle.peaks.specs.Peak.{Scan, valueAt}
 use Rattle.peaks.proofs.PeakLaws.{lt-or-le}
 use Rattle.peaks.specs.Call.{chosen, peakAt, peaksOf, recordsOf}
-use Rattle.peaks.specs.Steps.{Sound, Next, Stands, Listed, Noteworthy, Written, filled}
+use Rattle.peaks.specs.Steps.{Sound, Next, Stands, Listed, Noteworthy, Written, allRecorded}
 
 module _ (p : ℕ → Bool) where
   chosen-none : chosen 0 p ≡ []
@@ -69,7 +69,7 @@ chosen-most p zero = omega arith
 chosen-most p (suc k) = let h = chosen-most p k in omega (arith, length-append (chosen k p) (cond (p k) (k ∷ []) []), one-most (p k) k)
 
 module _ (s : Scan) where
-  -- the peaks before a place
+  -- the peaks before a pixel
   abbrev upTo : ℕ → List ℕ
   upTo k = chosen k (peakAt s)
 
@@ -172,7 +172,7 @@ module _ (s : Scan) where
       f ∙ ap (λ (z : List Float). recorded z n (corner (ofInt binary32 (pos (k % s .width))) (ofInt binary32 (pos (k / s .width))) (getD (s .values) k nan))) e
       ∙ put-record out (upTo k) k n a l ∙ ap (λ (z : List ℕ). recordsOf s z ++ drop (3 * (n + 1)) out) (sym (one-before k (c h) m))
 
-  pub out-last : (out out' : List Float) (n k : ℕ) → Sound s → At n k → length (s .values) ≤ k → Out out n k out' → out' ≡ filled s out
+  pub out-last : (out out' : List Float) (n k : ℕ) → Sound s → At n k → length (s .values) ≤ k → Out out n k out' → out' ≡ allRecorded s out
   out-last out out' n k t (a, b, c) h e =
       e ∙ ap (λ (z : List ℕ). recordsOf s z ++ drop (3 * n) out) (at-end k t b h) ∙ ap (λ (i : ℕ). recordsOf s (peaksOf s) ++ drop (3 * i) out) (none-left n k t (a, b, c) h)
 
@@ -196,7 +196,7 @@ module _ (s : Scan) where
       record {
         most = l .most;
         few = l .few;
-        places =
+        pixels =
             λ i h.
             let q : getD notes i 0 < k = subst (λ (z : ℕ). z < k) (ap (λ (z : List ℕ). getD z i 0) (sym (l .listed)) ∙ getD-take n notes i 0 h) (chosen-below (peakAt s) k i (subst (λ (z : ℕ). i < z) (l .stands .0) h)) in
             let m = l .stands .1 in

@@ -7,7 +7,7 @@ use native.Mathlib.Omega.{arith}
 use lib.ListN.{length}
 use Rattle.peaks.specs.Peak.{Scan, side}
 use Rattle.peaks.specs.Steps.{Sound, Framed, BlockFits}
-use Rattle.peaks.proofs.WindowLaws.{place}
+use Rattle.peaks.proofs.WindowLaws.{index-of}
 
 -- m values of a row from column x on
 pub in-row : (s : Scan) (x y m : ℕ) → Sound s → x + m ≤ s .width → y < s .height → y * s .width + x + m ≤ length (s .values)
@@ -42,7 +42,7 @@ module _ (s : Scan) (x y : ℕ) (f : Framed s x y) where
 
   block : (r : ℕ) → y + r - n < s .height → at - n * s .width - n + r * s .width + side s ≤ length (s .values)
   block r h =
-      let e = place (s .width) n x y r 0 (y - n) (let a = f .above in omega arith) (f .left) in
+      let e = index-of (s .width) n x y r 0 (y - n) (let a = f .above in omega arith) (f .left) in
       let i = in-row s (x + 0 - n) (y + r - n) (side s) (f .sound) (let a = f .left in let b = f .right in omega arith) h in
       rest (at - n * s .width - n + r * s .width) ((y + r - n) * s .width + (x + 0 - n)) e i
     where

@@ -1,4 +1,4 @@
--- The next peak, row by row: a place is a row and a column.
+-- The next peak, row by row: a pixel's number is a row and a column.
 use mathlib.Core.Path.{_≡_, sym, ap, _∙_, subst}
 use mathlib.Core.Logic.{⊎-elim}
 use mathlib.Core.Bool.{false}
@@ -15,17 +15,17 @@ use Rattle.peaks.proofs.PeakLaws.{lt-or-le}
 use Rattle.peaks.proofs.FrameLaws.{in-row}
 
 module _ (s : Scan) where
-  -- no peak from place k up to place p
+  -- no peak from pixel k up to pixel p
   abbrev pub Clear : ℕ → ℕ → Type 0
   Clear k p = (i : ℕ) → k ≤ i → i < p → peakAt s i ≡ false
 
-  at-place : (x y : ℕ) → x < s .width → peakAt s (y * s .width + x) ≡ isPeak s x y
-  at-place x y h = ap (λ (z : ℕ). isPeak s z ((y * s .width + x) / s .width)) (digits-mod y h) ∙ ap (λ (z : ℕ). isPeak s x z) (digits-div y h)
+  at-pixel : (x y : ℕ) → x < s .width → peakAt s (y * s .width + x) ≡ isPeak s x y
+  at-pixel x y h = ap (λ (z : ℕ). isPeak s z ((y * s .width + x) / s .width)) (digits-mod y h) ∙ ap (λ (z : ℕ). isPeak s x z) (digits-div y h)
 
   pub clear-none : (k : ℕ) → Clear k k
   clear-none k i h l = absurd (let z : ⊥ = omega arith in z)
 
-  -- the place that the scan starts from, by row and column
+  -- the pixel that the scan starts from, by row and column
   pub clear-start : (k : ℕ) → (k ≤ k / s .width * s .width + k % s .width) × Clear k (k / s .width * s .width + k % s .width)
   clear-start k = (subst (λ (z : ℕ). k ≤ z) (sym e) (let h : k ≤ k = omega arith in h), subst (Clear k) (sym e) (clear-none k))
     where
@@ -36,7 +36,7 @@ module _ (s : Scan) where
   clear-row k x y r c f i h l = ⊎-elim (λ m. c i h m) (λ m. here (i - y * s .width) (omega arith) (omega arith) (omega arith)) (lt-or-le i (y * s .width + x))
     where
       here : (j : ℕ) → i ≡ y * s .width + j → x ≤ j → j < r → peakAt s i ≡ false
-      here j e u v = ap (peakAt s) e ∙ at-place j y (let m = f .most in omega arith) ∙ f .passed j u v
+      here j e u v = ap (peakAt s) e ∙ at-pixel j y (let m = f .most in omega arith) ∙ f .passed j u v
 
   pub found-in : (k x y r : ℕ) → Sound s → y < s .height → k ≤ y * s .width + x → Clear k (y * s .width + x) → InRow s x y r → r < s .width → Next s k (y * s .width + r)
   found-in k x y r t g h c f l =
@@ -44,7 +44,7 @@ module _ (s : Scan) where
         low = let m = f .low in omega arith;
         passed = clear-row k x y r c f;
         most = let m = in-row s r y 1 t (omega arith) g in omega arith;
-        hit = λ q. at-place r y l ∙ f .hit l;
+        hit = λ q. at-pixel r y l ∙ f .hit l;
       }
 
   next-row : (y : ℕ) → (y + 1) * s .width + 0 ≡ y * s .width + s .width
@@ -68,7 +68,7 @@ module _ (s : Scan) where
       all : (a b i : ℕ) → a ≤ b → length (s .values) ≡ a → i < length (s .values) → i < b + x
       all a b i u v w = omega arith
 
-  -- the row and the column of a place
+  -- the row and the column of a pixel
   pub column-most : (k : ℕ) → Sound s → k % s .width < 4096
   column-most k t = let h = mod-lt k {m = s .width} (let w = t .wide in omega arith) in let w = t .width-most in omega arith
 

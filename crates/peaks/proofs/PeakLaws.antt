@@ -9,8 +9,8 @@ use lib.Dec.{leb, ltb}
 use lib.ListN.{getD}
 use lib.Ieee.{Float, nan, lt}
 use borrow.Author.Tests.{lt-leb, le-leb, lt-ltb, le-ltb}
-use Rattle.peaks.specs.Peak.{Scan, valueAt, border, inside, least, highest, positives, isPeak}
-use Rattle.peaks.specs.Steps.{Within, Bordered, FirstIn, InRow}
+use Rattle.peaks.specs.Peak.{Scan, valueAt, border, inside, floorOf, highest, positives, isPeak}
+use Rattle.peaks.specs.Steps.{InsideBorder, Bordered, FirstIn, InRow}
 use Rattle.peaks.proofs.CountLaws.{both}
 
 pub lt-or-le : (a b : ℕ) → (a < b) ⊎ (b ≤ a)
@@ -26,17 +26,17 @@ module _ (s : Scan) (x y : ℕ) where
   abbrev value : Float
   value = getD (s .values) (y * s .width + x) nan
 
-  pub peak-by : inside s x y ≡ true → lt (least s) value ≡ true → highest s x y ≡ true → leb (s .cluster) (positives s x y) ≡ isPeak s x y
+  pub peak-by : inside s x y ≡ true → lt (floorOf s) value ≡ true → highest s x y ≡ true → leb (s .cluster) (positives s x y) ≡ isPeak s x y
   unfolding isPeak valueAt
   peak-by e f g = sym (ap (λ (z : Bool). z && leb (s .cluster) (positives s x y)) (both (both e f) g))
 
   pub not-highest : highest s x y ≡ false → false ≡ isPeak s x y
   unfolding isPeak valueAt
   not-highest e =
-      sym (ap (λ (z : Bool). inside s x y && lt (least s) value && z && leb (s .cluster) (positives s x y)) e
-      ∙ ap (λ (z : Bool). z && leb (s .cluster) (positives s x y)) (and-false (inside s x y && lt (least s) value)))
+      sym (ap (λ (z : Bool). inside s x y && lt (floorOf s) value && z && leb (s .cluster) (positives s x y)) e
+      ∙ ap (λ (z : Bool). z && leb (s .cluster) (positives s x y)) (and-false (inside s x y && lt (floorOf s) value)))
 
-  pub not-above : lt (least s) value ≡ false → false ≡ isPeak s x y
+  pub not-above : lt (floorOf s) value ≡ false → false ≡ isPeak s x y
   unfolding isPeak valueAt
   not-above e =
       sym (ap (λ (z : Bool). inside s x y && z && highest s x y && leb (s .cluster) (positives s x y)) e
@@ -44,7 +44,7 @@ module _ (s : Scan) (x y : ℕ) where
 
   outside : inside s x y ≡ false → isPeak s x y ≡ false
   unfolding isPeak
-  outside e = ap (λ (z : Bool). z && lt (least s) (valueAt s x y) && highest s x y && leb (s .cluster) (positives s x y)) e
+  outside e = ap (λ (z : Bool). z && lt (floorOf s) (valueAt s x y) && highest s x y && leb (s .cluster) (positives s x y)) e
 
   abbrev four : Bool → Bool → Bool → Bool → Bool
   four a b c d = a && b && c && d
@@ -76,7 +76,7 @@ module _ (s : Scan) (x y : ℕ) where
   inner-is a b c d = both (both (both (le-leb (border s) x a) (lt-ltb (x + border s) (s .width) b)) (le-leb (border s) y c)) (lt-ltb (y + border s) (s .height) d)
 
 -- ---- a pixel between the borders
-pub within : {s : Scan} {floor : Float} {y start end : ℕ} → Bordered s floor y start end → (x : ℕ) → start ≤ x → x < end → Within s floor x y
+pub within : {s : Scan} {floor : Float} {y start end : ℕ} → Bordered s floor y start end → (x : ℕ) → start ≤ x → x < end → InsideBorder s floor x y
 within {s} {floor} {y} {start} {end} b x h l =
     record {
       framed =
@@ -88,7 +88,7 @@ within {s} {floor} {y} {start} {end} b x h l =
             below = let e = b .below in omega arith;
           };
       inner = inner-is s x y (let e = b .left in omega arith) (let e = b .right in omega arith) (b .above) (b .below);
-      least-is = b .least-is;
+      floor-is = b .floor-is;
     }
 
 -- ---- the whole row
@@ -102,10 +102,10 @@ module _ (s : Scan) (x y : ℕ) where
   row-from start end r e f h before =
       record {
         low = let l = f .low in omega arith;
-        passed = λ k u v. place k u v;
+        passed = λ k u v. index-of k u v;
         most = f .most;
         hit = f .hit;
       }
     where
-      place : (k : ℕ) → x ≤ k → k < r → isPeak s k y ≡ false
-      place k u v = ⊎-elim (λ l. before k u l) (λ l. ⊎-elim (λ m. f .passed k l m v) (λ m. right-out s k y (omega (arith, m, e))) (lt-or-le k end)) (lt-or-le k start)
+      index-of : (k : ℕ) → x ≤ k → k < r → isPeak s k y ≡ false
+      index-of k u v = ⊎-elim (λ l. before k u l) (λ l. ⊎-elim (λ m. f .passed k l m v) (λ m. right-out s k y (omega (arith, m, e))) (lt-or-le k end)) (lt-or-le k start)

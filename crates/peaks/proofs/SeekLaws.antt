@@ -103,10 +103,10 @@ passed-on {s} {floor} {y} {start} {end} b x r z h ahead not low all k u l =
     ⊎-elim (λ m. all k u m)
     (λ m. ⊎-elim (λ e. ap (λ (i : ℕ). isPeak s i y) (sym e) ∙ not)
     (λ n. ⊎-elim (λ q. in-run s x y r ahead (let a = b .above in omega arith) k (let a = b .left in omega arith) n q)
-    (λ q. sym (not-above s k y (ap (λ (f : Float). lt f (getD (s .values) (y * s .width + k) nan)) (sym (b .least-is)) ∙ low .none k q l)))
+    (λ q. sym (not-above s k y (ap (λ (f : Float). lt f (getD (s .values) (y * s .width + k) nan)) (sym (b .floor-is)) ∙ low .none k q l)))
     (lt-or-le k (x + r + 1)))
     (eq-or-lt-of-le m))
     (lt-or-le k x)
 
 pub passed-first : {s : Scan} {floor : Float} {y start end : ℕ} → Bordered s floor y start end → (z : ℕ) → Low (s .values) floor (y * s .width) start z → (k : ℕ) → start ≤ k → k < z → isPeak s k y ≡ false
-passed-first {s} {floor} {y} b z low k u l = sym (not-above s k y (ap (λ (f : Float). lt f (getD (s .values) (y * s .width + k) nan)) (sym (b .least-is)) ∙ low .none k u l))
+passed-first {s} {floor} {y} b z low k u l = sym (not-above s k y (ap (λ (f : Float). lt f (getD (s .values) (y * s .width + k) nan)) (sym (b .floor-is)) ∙ low .none k u l))

@@ -1,4 +1,4 @@
--- What holds of every peak of every response: two of them never lie in each other's window, and each exceeds zero and the threshold.
+-- What holds of every peak of every response: the claims of specs/Claims.antt.
 use mathlib.Core.Path.{_≡_, refl, sym, ap, _∙_, subst}
 use mathlib.Core.Logic.{⊎-elim}
 use mathlib.Core.Bool.{Bool, true, false, _&&_, _||_, not, cond, false≢true}
@@ -13,7 +13,8 @@ use lib.Ieee.Scale.{finite}
 use borrow.Author.Tests.{ne-eqb, ltb-true, ltb-false, lt-ltb}
 use Rattle.floats.proofs.OrderLaws.{lt-trans, lt-asym}
 use Rattle.shapes.specs.Numbers.{plusZero}
-use Rattle.peaks.specs.Peak.{Scan, valueAt, least, side, cells, middle, neighbour, beats, inside, highest, positives, isPeak}
+use Rattle.peaks.specs.Peak.{Scan, valueAt, floorOf, side, cells, middle, neighbour, beats, inside, highest, positives, isPeak}
+use Rattle.peaks.specs.Claims.{PeaksApart, AboveZero, AboveThreshold}
 use Rattle.peaks.proofs.CountLaws.{first-of, second-of, every-at}
 use Rattle.peaks.proofs.PeakLaws.{lt-or-le}
 use Rattle.peaks.proofs.WindowLaws.{beats-before, beats-after, middle-is}
@@ -22,13 +23,13 @@ use Rattle.peaks.proofs.WindowLaws.{beats-before, beats-after, middle-i
 module _ (s : Scan) (x y : ℕ) (peak : isPeak s x y ≡ true) where
   is-highest : highest s x y ≡ true
   unfolding isPeak
-  is-highest = second-of (inside s x y && lt (least s) (valueAt s x y)) (highest s x y) (first-of (inside s x y && lt (least s) (valueAt s x y) && highest s x y) (leb (s .cluster) (positives s x y)) peak)
+  is-highest = second-of (inside s x y && lt (floorOf s) (valueAt s x y)) (highest s x y) (first-of (inside s x y && lt (floorOf s) (valueAt s x y) && highest s x y) (leb (s .cluster) (positives s x y)) peak)
 
-  is-above : lt (least s) (valueAt s x y) ≡ true
+  is-above : lt (floorOf s) (valueAt s x y) ≡ true
   unfolding isPeak
   is-above =
-      second-of (inside s x y) (lt (least s) (valueAt s x y))
-      (first-of (inside s x y && lt (least s) (valueAt s x y)) (highest s x y) (first-of (inside s x y && lt (least s) (valueAt s x y) && highest s x y) (leb (s .cluster) (positives s x y)) peak))
+      second-of (inside s x y) (lt (floorOf s) (valueAt s x y))
+      (first-of (inside s x y && lt (floorOf s) (valueAt s x y)) (highest s x y) (first-of (inside s x y && lt (floorOf s) (valueAt s x y) && highest s x y) (leb (s .cluster) (positives s x y)) peak))
 
 -- ---- two peaks are apart
 -- the number of (a, b) in the window of (x, y)
@@ -91,7 +92,7 @@ never-both : (s : Scan) (j i : ℕ) (v w : Float) → j < middle s → middle s 
 never-both s j i v w h l e f = false≢true (sym (lt-asym w v (sym (beats-before s j v w h) ∙ e)) ∙ sym (beats-after s i w v l) ∙ f)
 
 -- two peaks that lie in each other's window are one
-pub peaks-apart : (s : Scan) (x y a b : ℕ) → isPeak s x y ≡ true → isPeak s a b ≡ true → x ≤ a + s .window → a ≤ x + s .window → y ≤ b + s .window → b ≤ y + s .window → (x ≡ a) × (y ≡ b)
+pub peaks-apart : (s : Scan) → PeaksApart s
 peaks-apart s x y a b p q left right high low =
     ⊎-elim (λ l. absurd (never-both s j i (valueAt s x y) (valueAt s a b) l (omega (arith, m)) (mine (λ e. omega arith)) (others (λ e. omega (arith, m)))))
     (λ h. ⊎-elim (λ e. itself s x y a b left right high low (sym e)) (λ l. absurd (never-both s i j (valueAt s a b) (valueAt s x y) (omega (arith, m)) l (others (λ e. omega (arith, m))) (mine (λ e. omega arith)))) (eq-or-lt-of-le h))
@@ -134,14 +135,14 @@ below-positive (fin z a p) nan e h k = absurd (false≢true k)
 below-positive (fin z a p) (inf u) e h k = k
 below-positive (fin z a p) (fin u c r) e h k = fractions z u (a * up p) (c * up r) (down p) (down r) (down-pos p) h k
 
-pub above-zero : (s : Scan) (x y : ℕ) → isPeak s x y ≡ true → lt plusZero (valueAt s x y) ≡ true
+pub above-zero : (s : Scan) → AboveZero s
 above-zero s x y peak = go (lt plusZero (s .threshold)) refl
   where
     go : (z : Bool) → lt plusZero (s .threshold) ≡ z → lt plusZero (valueAt s x y) ≡ true
     go true e = lt-trans plusZero (s .threshold) (valueAt s x y) e (sym (ap (λ (z : Bool). lt (cond z (s .threshold) plusZero) (valueAt s x y)) e) ∙ is-above s x y peak)
     go false e = sym (ap (λ (z : Bool). lt (cond z (s .threshold) plusZero) (valueAt s x y)) e) ∙ is-above s x y peak
 
-pub above-threshold : (s : Scan) (x y : ℕ) → (s .threshold ≡ nan → ⊥) → isPeak s x y ≡ true → lt (s .threshold) (valueAt s x y) ≡ true
+pub above-threshold : (s : Scan) → AboveThreshold s
 above-threshold s x y number peak = go (lt plusZero (s .threshold)) refl
   where
     go : (z : Bool) → lt plusZero (s .threshold) ≡ z → lt (s .threshold) (valueAt s x y) ≡ true

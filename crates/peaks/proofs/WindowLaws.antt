@@ -24,10 +24,10 @@ pub beats-after : (s : Scan) (j : ℕ) (v w : Float) → middle s < j → beats 
 unfolding beats
 beats-after s j v w h = refl
 
--- ---- places
--- row r and column c of the window, counted from its first place
-pub place : (width n x y r c d : ℕ) → d + n ≡ y → n ≤ x → (y + r - n) * width + (x + c - n) ≡ y * width + x - n * width - n + r * width + c
-place width n x y r c d e h =
+-- ---- indices
+-- row r and column c of the window, counted from its first pixel
+pub index-of : (width n x y r c d : ℕ) → d + n ≡ y → n ≤ x → (y + r - n) * width + (x + c - n) ≡ y * width + x - n * width - n + r * width + c
+index-of width n x y r c d e h =
     ap (λ (k : ℕ). k * width + (x + c - n)) (let q : y + r - n ≡ d + r = omega arith in q) ∙ ap (λ (k : ℕ). k + (x + c - n)) (add-mul d r width)
     ∙ join (d * width) (r * width) (y * width) (n * width) x c n (ap (λ (k : ℕ). k * width) (sym e) ∙ add-mul d n width) h
   where
@@ -86,7 +86,7 @@ module _ (s : Scan) (x y : ℕ) (low : s .window ≤ x) (high : s .window ≤ y)
   near j r c e f =
       ap (λ (k : ℕ). getD (s .values) ((y + k - n) * s .width + (x + j % side s - n)) nan) e
       ∙ ap (λ (k : ℕ). getD (s .values) ((y + r - n) * s .width + (x + k - n)) nan) f
-      ∙ ap (λ (k : ℕ). getD (s .values) k nan) (place (s .width) n x y r c (y - n) (omega arith) low)
+      ∙ ap (λ (k : ℕ). getD (s .values) k nan) (index-of (s .width) n x y r c (y - n) (omega arith) low)
 
   above : (j : ℕ) → neighbour s x y j ≡ blockAt (s .values) corner (s .width) (side s) j
   above j = near j (j / side s) (j % side s) refl refl

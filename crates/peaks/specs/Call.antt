@@ -1,4 +1,4 @@
--- The public call: document 01's tests in their order (`wayOf`), what each way answers and leaves in the lent output. No refusal writes; elements past
+-- The public call: the tests of docs/RULES.md in their order (`wayOf`), what each way answers and leaves in the lent output. No refusal writes; elements past
 -- the last record stay.
 use mathlib.Core.Path.{_≡_}
 use mathlib.Core.Bool.{Bool, _&&_, not, cond}
@@ -11,18 +11,17 @@ use lib.Ieee.{Float, binary32, ofInt}
 use lib.Ieee.Scale.{finite}
 use Rattle.corners.specs.Corners.{whole}
 use Rattle.imageview.specs.Image.{sizesFit}
+use Rattle.refusals.specs.declared.Refusal.{Refusal}
+use Rattle.refusals.specs.declared.Refusal.the-variants.{BadImage, BadRadius, BadLimit, BadLength, TooMany}
+use Rattle.refusals.specs.Numbers as Refusals
 use Rattle.peaks.specs.declared.Peaks.{Peaks}
-use Rattle.peaks.specs.declared.Peaks.the-variants.{Found, BadImage, BadRadius, BadLimit, BadLength, TooMany}
+use Rattle.peaks.specs.declared.Peaks.the-variants.{Found, Refused}
 use Rattle.peaks.specs.Peak.{Scan, valueAt, isPeak}
 
--- document 01's number of each case; 0 is done
+-- the number of each case; 0 is done
 abbrev pub numberOf : Peaks → ℕ
 numberOf (Found n) = 0
-numberOf BadImage = 10
-numberOf BadRadius = 11
-numberOf BadLimit = 12
-numberOf BadLength = 19
-numberOf TooMany = 16
+numberOf (Refused r) = Refusals.numberOf r
 
 -- the numbers below n that have p, in order
 unfoldable pub chosen : ℕ → (ℕ → Bool) → List ℕ
@@ -48,7 +47,7 @@ abbrev pub radiiFit : Scan → Bool
 radiiFit s = leb 1 (s .ring) && leb (s .ring) 10 && leb 1 (s .window) && leb (s .window) 8 && leb (s .refine) 7
 
 pub data Way : Type 0 where
-  refused : Peaks → Way
+  refused : Refusal → Way
   found : List ℕ → Way
 
 -- room is the output's length
@@ -63,7 +62,7 @@ wayOf s room =
     (found (peaksOf s))))))
 
 abbrev pub answerOf : Way → Peaks
-answerOf (refused r) = r
+answerOf (refused r) = Refused r
 answerOf (found l) = Found (length l)
 
 abbrev pub outAfter : Scan → List Float → Way → List Float

@@ -29,8 +29,8 @@ unfoldable pub inside : Scan → ℕ → ℕ → Bool
 inside s x y = leb (border s) x && ltb (x + border s) (s .width) && leb (border s) y && ltb (y + border s) (s .height)
 
 -- max(threshold, 0)
-abbrev pub least : Scan → Float
-least s = cond (lt plusZero (s .threshold)) (s .threshold) plusZero
+abbrev pub floorOf : Scan → Float
+floorOf s = cond (lt plusZero (s .threshold)) (s .threshold) plusZero
 
 -- ---- the window: its pixels by number, row after row; the pixel itself is the middle one
 abbrev pub side : Scan → ℕ
@@ -71,4 +71,4 @@ positives s x y = count (cells s) (λ j. not (eqb j (middle s)) && lt plusZero (
 
 unfoldable pub isPeak : Scan → ℕ → ℕ → Bool
 unfolding inside highest positives
-isPeak s x y = inside s x y && lt (least s) (valueAt s x y) && highest s x y && leb (s .cluster) (positives s x y)
+isPeak s x y = inside s x y && lt (floorOf s) (valueAt s x y) && highest s x y && leb (s .cluster) (positives s x y)

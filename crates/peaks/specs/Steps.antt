@@ -7,7 +7,7 @@ use lib.ListN.{length, getD, take, drop}
 use lib.Ieee.{Float, lt}
 use Rattle.shapes.specs.Numbers.{entry}
 use Rattle.peaks.specs.declared.Rule.{Rule}
-use Rattle.peaks.specs.Peak.{Scan, border, every, least, inside, isPeak}
+use Rattle.peaks.specs.Peak.{Scan, border, every, floorOf, inside, isPeak}
 use Rattle.peaks.specs.Call.{chosen, peakAt, peaksOf, recordsOf}
 
 -- a response and the rule by which it is scanned
@@ -72,10 +72,10 @@ pub record Framed (s : Scan) (x y : ℕ) : Type 0 where
   pub below : y + s .window < s .height
 
 -- a pixel inside the border, and the floor of the scan
-pub record Within (s : Scan) (floor : Float) (x y : ℕ) : Type 0 where
+pub record InsideBorder (s : Scan) (floor : Float) (x y : ℕ) : Type 0 where
   pub framed : Framed s x y
   pub inner : inside s x y ≡ true
-  pub least-is : floor ≡ least s
+  pub floor-is : floor ≡ floorOf s
 
 -- columns of row y inside the border
 pub record Bordered (s : Scan) (floor : Float) (y start end : ℕ) : Type 0 where
@@ -85,7 +85,7 @@ pub record Bordered (s : Scan) (floor : Float) (y start end : ℕ) : Type 0 wher
   pub left : border s ≤ start
   pub start-most : start ≤ s .width
   pub right : end + border s ≤ s .width
-  pub least-is : floor ≡ least s
+  pub floor-is : floor ≡ floorOf s
 
 -- ---- the first peak of row y of the columns from `start` up to `end`; the width where there is none
 pub record FirstIn (s : Scan) (start end y r : ℕ) : Type 0 where
@@ -101,7 +101,7 @@ pub record InRow (s : Scan) (x y r : ℕ) : Type 0 where
   pub most : r ≤ s .width
   pub hit : r < s .width → isPeak s r y ≡ true
 
--- the first peak from place k on; the number of places where there is none
+-- the first peak from pixel k on, in row order; the number of pixels where there is none
 pub record Next (s : Scan) (k r : ℕ) : Type 0 where
   pub low : k ≤ r
   pub passed : (i : ℕ) → k ≤ i → i < r → peakAt s i ≡ false
@@ -112,18 +112,18 @@ pub record Next (s : Scan) (k r : ℕ) : Type 0 where
 abbrev pub Stands : Scan → ℕ → ℕ → Type 0
 Stands s n k = (n ≡ length (chosen k (peakAt s))) × (k ≤ length (s .values)) × (k < length (s .values) → peakAt s k ≡ true)
 
--- and the places of those n are noted
+-- and the numbers of those n are noted
 pub record Listed (s : Scan) (notes : List ℕ) (n k : ℕ) : Type 0 where
   pub stands : Stands s n k
   pub most : n ≤ 4096
   pub few : n ≤ length notes
   pub listed : take n notes ≡ chosen k (peakAt s)
 
--- n notes that are places
+-- n notes that are pixels
 pub record Noteworthy (s : Scan) (notes : List ℕ) (n : ℕ) : Type 0 where
   pub most : n ≤ 4096
   pub few : n ≤ length notes
-  pub places : (i : ℕ) → i < n → getD notes i 0 < length (s .values)
+  pub pixels : (i : ℕ) → i < n → getD notes i 0 < length (s .values)
 
 -- r is the number of peaks, or above the room for them where that is
 pub record Tallied (s : Scan) (room r : ℕ) : Type 0 where
@@ -135,11 +135,11 @@ abbrev pub Written : Scan → List Float → ℕ → ℕ → List Float → Type
 Written s out n k out' = out' ≡ recordsOf s (chosen k (peakAt s)) ++ drop (3 * n) out
 
 -- records of all peaks, and what stood past them
-abbrev pub filled : Scan → List Float → List Float
-filled s out = recordsOf s (peaksOf s) ++ drop (3 * length (peaksOf s)) out
+abbrev pub allRecorded : Scan → List Float → List Float
+allRecorded s out = recordsOf s (peaksOf s) ++ drop (3 * length (peaksOf s)) out
 
 -- all of it, or nothing where there is no room
 pub record Recorded (s : Scan) (out : List Float) (r : ℕ) (out' : List Float) : Type 0 where
   pub tallied : Tallied s (length out / 3) r
-  pub wrote : r ≤ length out / 3 → out' ≡ filled s out
+  pub wrote : r ≤ length out / 3 → out' ≡ allRecorded s out
   pub kept : length out / 3 < r → out' ≡ out

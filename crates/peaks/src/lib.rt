@@ -1,4 +1,4 @@
-// Peaks of a response, after `detect.rs` and `neighbors.rs`; the window rule is document 01's.
+// Peaks of a response, after `detect.rs` and `neighbors.rs`; the window rule is ours.
 ghost use mathlib.Core.Path.{_≡_};
 ghost use mathlib.Core.Bool.{_&&_};
 ghost use lib.Dec.{leb};
@@ -7,14 +7,12 @@ ghost use Rattle.peaks.specs.Call.{Done};
 mod scan;
 mod window;
 
-// How the scan ended, by document 01's names.
+use refusals::Refusal;
+
+// How the scan ended.
 pub enum Peaks {
     Found(usize),
-    BadImage,
-    BadRadius,
-    BadLimit,
-    BadLength,
-    TooMany,
+    Refused(Refusal),
 }
 
 // The sizes of a response and the settings.
@@ -28,7 +26,7 @@ struct Rule {
     cluster: u32,
 }
 
-// How many peaks were noted, and the place of the next one, or the end.
+// How many peaks were noted, and the pixel of the next one, or the end.
 struct Noted {
     count: usize,
     at: usize,
@@ -49,16 +47,16 @@ pub fn detect_peaks_from_response_with_refine_radius(
     ensures { λ r. ⌜ Done (record { values = now (response .entry); width = width; height = height; ring = «ring_radius»; window = «window_radius»; refine = «refine_radius»; threshold = threshold; cluster = «min_cluster_size» }) (now (out .entry)) r (now (out .exit)) ⌝ }
 {
     if !imageview::fits(response.len(), width, height) {
-        return Peaks::BadImage;
+        return Peaks::Refused(Refusal::BadImage);
     }
     if !radii_fit(ring_radius, window_radius, refine_radius) {
-        return Peaks::BadRadius;
+        return Peaks::Refused(Refusal::BadRadius);
     }
     if !floats::is_finite_f32(threshold) {
-        return Peaks::BadLimit;
+        return Peaks::Refused(Refusal::BadLimit);
     }
     if !corners::is_whole(out.len()) {
-        return Peaks::BadLength;
+        return Peaks::Refused(Refusal::BadLength);
     }
     let rule = Rule {
         width,
@@ -72,12 +70,12 @@ pub fn detect_peaks_from_response_with_refine_radius(
     let room = out.len() / 3;
     let count = scan::record_all(response, rule, out);
     if room < count {
-        return Peaks::TooMany;
+        return Peaks::Refused(Refusal::TooMany);
     }
     Peaks::Found(count)
 }
 
-// Document 01's test of the three radii.
+// The test of the three radii.
 fn radii_fit(ring: usize, window: usize, refine: usize) -> bool
     ensures { λ r. ⌜ r ≡ (leb 1 ring && leb ring 10 && leb 1 window && leb window 8 && leb refine 7) ⌝ }
 {

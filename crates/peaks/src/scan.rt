@@ -1,4 +1,4 @@
-// The scan: the next peak from a place on, and the loops that count and write with it. A place is a pixel's number in row order.
+// The scan: the next peak from a pixel on, and the loops that count and write with it. Pixels are named by their numbers in row order.
 use crate::Noted;
 use crate::Rule;
 use crate::window;
@@ -14,7 +14,7 @@ ghost use Rattle.shapes.specs.Numbers.{plusZero};
 ghost use Rattle.corners.specs.Corners.{corner, recorded};
 ghost use Rattle.peaks.specs.Peak.{border, isPeak};
 ghost use Rattle.peaks.specs.Call.{peaksOf, recordsOf};
-ghost use Rattle.peaks.specs.Steps.{scanOf, Sound, Bordered, Within, Ahead, Low, FirstIn, InRow, Next, Stands, Listed, Noteworthy, Tallied, Written, filled, Recorded};
+ghost use Rattle.peaks.specs.Steps.{scanOf, Sound, Bordered, InsideBorder, Ahead, Low, FirstIn, InRow, Next, Stands, Listed, Noteworthy, Tallied, Written, allRecorded, Recorded};
 
 // max(threshold, 0).
 fn floor_of(threshold: f32) -> f32
@@ -26,7 +26,7 @@ fn floor_of(threshold: f32) -> f32
 // Whether the pixel (x, y), inside the border, is a peak; it beats the first `run` values on its right. The rest of its window is read only
 // where those are all.
 fn is_peak(response: &[f32], rule: Rule, floor: f32, run: usize, x: usize, y: usize) -> bool
-    requires { ⌜ Within (scanOf (now response) rule) floor x y ⌝ ∗ ⌜ Ahead (scanOf (now response) rule) x y run ⌝ }
+    requires { ⌜ InsideBorder (scanOf (now response) rule) floor x y ⌝ ∗ ⌜ Ahead (scanOf (now response) rule) x y run ⌝ }
     ensures { λ r. ⌜ r ≡ isPeak (scanOf (now (response .entry)) rule) x y ⌝ }
 {
     if run < rule.window {
@@ -150,7 +150,7 @@ fn first_in_row(response: &[f32], rule: Rule, x: usize, y: usize) -> usize
     first_in(response, rule, floor, y, x, end)
 }
 
-// The first peak from the place `from` on, or the number of places.
+// The first peak from the pixel `from` on, or the number of pixels.
 fn next_peak(response: &[f32], rule: Rule, from: usize) -> usize
     requires { ⌜ Sound (scanOf (now response) rule) ⌝ ∗ ⌜ from ≤ length (now response) ⌝ }
     ensures { λ r. ⌜ Next (scanOf (now (response .entry)) rule) from r ⌝ }
@@ -189,7 +189,7 @@ pub fn record_all(response: &[f32], rule: Rule, out: &mut [f32]) -> usize
     count
 }
 
-// Notes the places of the first peaks, as many as there are notes.
+// Notes the numbers of the first peaks, as many as there are notes.
 fn note(response: &[f32], rule: Rule, notes: &mut [u32; 4096]) -> Noted
     requires { ⌜ Sound (scanOf (now response) rule) ⌝ ∗ ⌜ length (now notes) ≡ 4096 ⌝ }
     ensures { λ r. ⌜ Listed (scanOf (now (response .entry)) rule) (now (notes .exit)) (r .count) (r .at) ⌝ }
@@ -208,7 +208,7 @@ fn note(response: &[f32], rule: Rule, notes: &mut [u32; 4096]) -> Noted
     Noted { count, at }
 }
 
-// How many peaks there are: n before the place `from`, and then on until they are more than the room for them.
+// How many peaks there are: n before the pixel `from`, and then on until they are more than the room for them.
 fn tally(response: &[f32], rule: Rule, room: usize, n: usize, from: usize) -> usize
     requires { ⌜ Sound (scanOf (now response) rule) ⌝ ∗ ⌜ Stands (scanOf (now response) rule) n from ⌝ }
     ensures { λ r. ⌜ Tallied (scanOf (now (response .entry)) rule) room r ⌝ }
@@ -236,7 +236,7 @@ fn put(out: &mut [f32], n: usize, x: usize, y: usize, v: f32)
     corners::put(out, n, Corner { x, y, strength: v });
 }
 
-// Writes the records of the first n places noted.
+// Writes the records of the first n pixels noted.
 fn write_noted(response: &[f32], rule: Rule, notes: &[u32; 4096], n: usize, out: &mut [f32])
     requires { ⌜ Sound (scanOf (now response) rule) ⌝ ∗ ⌜ Noteworthy (scanOf (now response) rule) (now notes) n ⌝ ∗ ⌜ 3 * n ≤ length (now out) ⌝ }
     ensures { λ _. ⌜ now (out .exit) ≡ recordsOf (scanOf (now (response .entry)) rule) (take n (now (notes .entry))) ++ drop (3 * n) (now (out .entry)) ⌝ }
@@ -249,10 +249,10 @@ fn write_noted(response: &[f32], rule: Rule, notes: &[u32; 4096], n: usize, out:
     }
 }
 
-// Writes the records of the peaks from the place `from` on, after those of the first n; there is room for all.
+// Writes the records of the peaks from the pixel `from` on, after those of the first n; there is room for all.
 fn write(response: &[f32], rule: Rule, first: usize, from: usize, out: &mut [f32])
     requires { ⌜ Sound (scanOf (now response) rule) ⌝ ∗ ⌜ Stands (scanOf (now response) rule) first from ⌝ ∗ ⌜ 3 * length (peaksOf (scanOf (now response) rule)) ≤ length (now out) ⌝ }
-    ensures { λ _. ⌜ ((o : List Float) → length o ≡ length (now (out .entry)) → Written (scanOf (now (response .entry)) rule) o first from (now (out .entry)) → now (out .exit) ≡ filled (scanOf (now (response .entry)) rule) o) ⌝ }
+    ensures { λ _. ⌜ ((o : List Float) → length o ≡ length (now (out .entry)) → Written (scanOf (now (response .entry)) rule) o first from (now (out .entry)) → now (out .exit) ≡ allRecorded (scanOf (now (response .entry)) rule) o) ⌝ }
 {
     let size = response.len();
     let width = rule.width;

@@ -13,8 +13,9 @@ use lib.Ieee.{Float, fin, below}
 use lib.Ieee.Bits.{is-true}
 use lib.Ieee.Exact.{HasValue}
 use Rattle.floats.proofs.Fractions.{lt-value}
+use Rattle.shapes.specs.Numbers.{plusZero}
 use Rattle.pixel_response.specs.Samples.{apart, squareSum, edgeSum, ringSum, crossSum, gain, loss, valueOf, responseOf}
-use Rattle.pixel_response.specs.Near.{Within, Near, Stands, Orders}
+use Rattle.pixel_response.specs.Near.{ByAtMost, Near, Stands, Orders}
 use Rattle.pixel_response.proofs.SumLaws.{Bounded, bounded}
 use Rattle.pixel_response.proofs.ValueLaws.{Way, way, limit, Apart, apart-by, value-zero}
 
@@ -23,36 +24,36 @@ record Middle (P g m : ℕ) : Type 0 where
   under : 5 * m ≤ g * 2 ^ 22 + 20 * P
   over : g * 2 ^ 22 ≤ 5 * m + 20 * P
 
-middle-close : (s : Bool) (P ring cross q m g : ℕ) → Rattle.floats.proofs.Half.Near (q * 5) (cross * 2 ^ 26) (5 * (P * 4)) → Within (P * 4) s (2 * m) (2 * (ring * 2 ^ 22)) (2 * q)
+middle-close : (s : Bool) (P ring cross q m g : ℕ) → Rattle.floats.proofs.Half.Near (q * 5) (cross * 2 ^ 26) (5 * (P * 4)) → ByAtMost (P * 4) s (2 * m) (2 * (ring * 2 ^ 22)) (2 * q)
     → Apart (5 * ring) (16 * cross) g → Middle P g m
 middle-close false P ring cross q m g n w (inl a) = record { under = omega arith; over = omega arith }
 middle-close false P ring cross q m g n w (inr a) = record { under = omega arith; over = omega arith }
 middle-close true P ring cross q m g n w (inl a) = record { under = omega arith; over = omega arith }
 middle-close true P ring cross q m g n w (inr a) = record { under = omega arith; over = omega arith }
 
-all-close : (s : Bool) (P sr dr m q g : ℕ) → Middle P g m → Within (P * 8) s (2 * q) (2 * (sr * 2 ^ 22)) (2 * (dr * 2 ^ 22 + m)) → Within (40 * P) s (5 * q) (5 * sr * 2 ^ 22) ((5 * dr + g) * 2 ^ 22)
+all-close : (s : Bool) (P sr dr m q g : ℕ) → Middle P g m → ByAtMost (P * 8) s (2 * q) (2 * (sr * 2 ^ 22)) (2 * (dr * 2 ^ 22 + m)) → ByAtMost (40 * P) s (5 * q) (5 * sr * 2 ^ 22) ((5 * dr + g) * 2 ^ 22)
 all-close false P sr dr m q g n w = (omega arith, omega arith)
 all-close true P sr dr m q g n w = (omega arith, omega arith)
 
-way-close : (P sr dr ring cross : ℕ) (v : Float) (y : Way P sr dr ring cross v) → Within (40 * P) (y .negative) (5 * y .units) (5 * sr * 2 ^ 22) ((5 * dr + apart (5 * ring) (16 * cross)) * 2 ^ 22)
+way-close : (P sr dr ring cross : ℕ) (v : Float) (y : Way P sr dr ring cross v) → ByAtMost (40 * P) (y .negative) (5 * y .units) (5 * sr * 2 ^ 22) ((5 * dr + apart (5 * ring) (16 * cross)) * 2 ^ 22)
 way-close P sr dr ring cross v y =
     all-close (y .negative) P sr dr (y .middle) (y .units) (apart (5 * ring) (16 * cross))
     (middle-close (y .inner) P ring cross (y .fifth) (y .middle) (apart (5 * ring) (16 * cross)) (y .fifth-near) (y .middle-near) (apart-by (5 * ring) (16 * cross)))
     (y .near)
 
 -- ---- the sign and the order, by the distance
-zero-value : HasValue (fin false 0 (pos 0)) false 0 1
+zero-value : HasValue plusZero false 0 1
 zero-value = (refl, refl)
 
-above-zero : (s : Bool) (P q plus minus : ℕ) → P ≤ 4096 → Within (40 * P) s (5 * q) (plus * 2 ^ 22) (minus * 2 ^ 22) → minus < plus → below false (0 * 2 ^ 22) s (q * 1) ≡ true
+above-zero : (s : Bool) (P q plus minus : ℕ) → P ≤ 4096 → ByAtMost (40 * P) s (5 * q) (plus * 2 ^ 22) (minus * 2 ^ 22) → minus < plus → below false (0 * 2 ^ 22) s (q * 1) ≡ true
 above-zero false P q plus minus h w l = is-true (ltb 0 (q * 1)) (lt→ltb 0 (q * 1) (omega arith))
 above-zero true P q plus minus h w l = absurd (omega arith)
 
-below-zero : (s : Bool) (P q plus minus : ℕ) → P ≤ 4096 → Within (40 * P) s (5 * q) (plus * 2 ^ 22) (minus * 2 ^ 22) → plus < minus → below s (q * 1) false (0 * 2 ^ 22) ≡ true
+below-zero : (s : Bool) (P q plus minus : ℕ) → P ≤ 4096 → ByAtMost (40 * P) s (5 * q) (plus * 2 ^ 22) (minus * 2 ^ 22) → plus < minus → below s (q * 1) false (0 * 2 ^ 22) ≡ true
 below-zero false P q plus minus h w l = absurd (omega arith)
 below-zero true P q plus minus h w l = is-true (ltb 0 (q * 1 + 0)) (lt→ltb 0 (q * 1 + 0) (omega arith))
 
-in-order : (s t : Bool) (P q r plus minus plus' minus' : ℕ) → P ≤ 4096 → Within (40 * P) s (5 * q) (plus * 2 ^ 22) (minus * 2 ^ 22) → Within (40 * P) t (5 * r) (plus' * 2 ^ 22) (minus' * 2 ^ 22)
+in-order : (s t : Bool) (P q r plus minus plus' minus' : ℕ) → P ≤ 4096 → ByAtMost (40 * P) s (5 * q) (plus * 2 ^ 22) (minus * 2 ^ 22) → ByAtMost (40 * P) t (5 * r) (plus' * 2 ^ 22) (minus' * 2 ^ 22)
     → plus + minus' < plus' + minus → below s (q * 2 ^ 22) t (r * 2 ^ 22) ≡ true
 in-order false false P q r plus minus plus' minus' h w v l = is-true (ltb (q * 2 ^ 22) (r * 2 ^ 22)) (lt→ltb (q * 2 ^ 22) (r * 2 ^ 22) (omega arith))
 in-order false true P q r plus minus plus' minus' h w v l = absurd (omega arith)
@@ -72,9 +73,9 @@ value-stands p sr dr ring cross le b =
       units = y .units;
       size = y .size;
       close = w;
-      above = λ l. lt-value (fin false 0 (pos 0)) v false (y .negative) 0 1 (y .units) (2 ^ 22) (pow-pos 0) (pow-pos 22) zero-value (y .size) ∙ above-zero (y .negative) (2 ^ p) (y .units) plus minus (limit p le) w l;
+      above = λ l. lt-value plusZero v false (y .negative) 0 1 (y .units) (2 ^ 22) (pow-pos 0) (pow-pos 22) zero-value (y .size) ∙ above-zero (y .negative) (2 ^ p) (y .units) plus minus (limit p le) w l;
       none = value-zero p sr dr ring cross le b;
-      below = λ l. lt-value v (fin false 0 (pos 0)) (y .negative) false (y .units) (2 ^ 22) 0 1 (pow-pos 22) (pow-pos 0) (y .size) zero-value ∙ below-zero (y .negative) (2 ^ p) (y .units) plus minus (limit p le) w l;
+      below = λ l. lt-value v plusZero (y .negative) false (y .units) (2 ^ 22) 0 1 (pow-pos 22) (pow-pos 0) (y .size) zero-value ∙ below-zero (y .negative) (2 ^ p) (y .units) plus minus (limit p le) w l;
     }
 
 -- ---- of the samples

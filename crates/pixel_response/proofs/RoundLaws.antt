@@ -18,7 +18,7 @@ use Rattle.floats.proofs.Value.{unit, fitting, zero-of}
 use Rattle.floats.proofs.Half.{Near, grid-near, round-val}
 use Rattle.floats.proofs.Pattern.{closest-upto}
 use Rattle.floats.proofs.Fractions.{sub-value}
-use Rattle.pixel_response.specs.Near.{Within}
+use Rattle.pixel_response.specs.Near.{ByAtMost}
 
 -- ---- a value by another fraction of the same size
 pub value-same : (x : Float) (s : Bool) (a c b d : ℕ) → 0 < c → a * d ≡ b * c → HasValue x s a c → HasValue x s b d
@@ -187,7 +187,7 @@ pub record Difference (x : Float) (plus minus u e : ℕ) : Type 0 where
   pub negative : Bool
   pub steps : ℕ
   pub value : HasValue x negative steps (2 ^ u)
-  pub close : Within (2 ^ e) negative (2 * steps) (2 * plus) (2 * minus)
+  pub close : ByAtMost (2 ^ e) negative (2 * steps) (2 * plus) (2 * minus)
 
 not-less : (f : Format) (a b c : ℕ) → b ≤ a → sum f false a true b c ≡ round f false (a - b) c
 unfolding sum
@@ -234,17 +234,17 @@ module _ (f : Format) (x y : Float) (a b c : ℕ) (C : 0 < c) (k : HasValue y fa
       ∙ joined f (a * c) (b * c) (c * c)
       ∙ round-same f true (a * c + b * c) (c * c) (a + b) c (mul-pos C C) C (scale-add a b c)
 
-within-above : (q a b h : ℕ) → b ≤ a → Near q (a - b) h → Within h false (2 * q) (2 * a) (2 * b)
+within-above : (q a b h : ℕ) → b ≤ a → Near q (a - b) h → ByAtMost h false (2 * q) (2 * a) (2 * b)
 within-above q a b h l k = (omega arith, omega arith)
 
-within-below : (q a b h : ℕ) → a < b → Near q (b - a) h → Within h true (2 * q) (2 * a) (2 * b)
+within-below : (q a b h : ℕ) → a < b → Near q (b - a) h → ByAtMost h true (2 * q) (2 * a) (2 * b)
 within-below q a b h l k = (omega arith, omega arith)
 
-within-shift : (s : Bool) (q a b plus minus h : ℕ) → Within 0 false a plus minus → Within h s (2 * q) (2 * a) (2 * b) → Within h s (2 * q) (2 * plus) (2 * (minus + b))
+within-shift : (s : Bool) (q a b plus minus h : ℕ) → ByAtMost 0 false a plus minus → ByAtMost h s (2 * q) (2 * a) (2 * b) → ByAtMost h s (2 * q) (2 * plus) (2 * (minus + b))
 within-shift false q a b plus minus h w k = (omega arith, omega arith)
 within-shift true q a b plus minus h w k = (omega arith, omega arith)
 
-within-joined : (q a b plus minus h : ℕ) → Within 0 true a plus minus → Near q (a + b) h → Within h true (2 * q) (2 * plus) (2 * (minus + b))
+within-joined : (q a b plus minus h : ℕ) → ByAtMost 0 true a plus minus → Near q (a + b) h → ByAtMost h true (2 * q) (2 * plus) (2 * (minus + b))
 within-joined q a b plus minus h w k = (omega arith, omega arith)
 
 module _ (f : Format) (u j e : ℕ) (split : low f ≡ u + j) (room : prec f + e < suc (emax f)) where
@@ -279,7 +279,7 @@ module _ (f : Format) (u j e : ℕ) (split : low f ≡ u + j) (room : prec f + e
           }
 
   -- where x is plus - minus steps exactly
-  pub difference-of : (x y : Float) (s : Bool) (a b plus minus : ℕ) → HasValue x s a (2 ^ u) → Within 0 s a plus minus → HasValue y false b (2 ^ u) → a + b < 2 ^ (prec f + e)
+  pub difference-of : (x y : Float) (s : Bool) (a b plus minus : ℕ) → HasValue x s a (2 ^ u) → ByAtMost 0 s a plus minus → HasValue y false b (2 ^ u) → a + b < 2 ^ (prec f + e)
       → Difference (sub f x y) plus (minus + b) u e
   difference-of x y false a b plus minus h w k l =
       let r = difference x y a b h k (lt-of-le-of-lt (native.Mathlib.Nat.le-add-right a b) l) (lt-of-le-of-lt (native.Mathlib.Nat.le-add-left b a) l) in

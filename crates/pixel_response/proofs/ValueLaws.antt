@@ -16,8 +16,9 @@ use lib.Ieee.Exact.{HasValue}
 use Rattle.floats.specs.Magnitude.{magnitude}
 use Rattle.floats.proofs.Half.{Near}
 use Rattle.floats.proofs.Fractions.{mul-value, div-value}
+use Rattle.shapes.specs.Numbers.{plusZero}
 use Rattle.pixel_response.specs.Samples.{apart, sixteen, five, valueOf}
-use Rattle.pixel_response.specs.Near.{Within}
+use Rattle.pixel_response.specs.Near.{ByAtMost}
 use Rattle.pixel_response.proofs.SumLaws.{Bounded}
 use Rattle.pixel_response.proofs.RoundLaws.{Rounded, Difference, value-same, exact, many, whole, difference, difference-of, sub-above, shifted}
 
@@ -27,12 +28,12 @@ pub record Way (P sr dr ring cross : ℕ) (v : Float) : Type 0 where
   pub fifth-near : Near (fifth * 5) (cross * 2 ^ 26) (5 * (P * 4))
   pub inner : Bool
   pub middle : ℕ
-  pub middle-near : Within (P * 4) inner (2 * middle) (2 * (ring * 2 ^ 22)) (2 * fifth)
+  pub middle-near : ByAtMost (P * 4) inner (2 * middle) (2 * (ring * 2 ^ 22)) (2 * fifth)
   -- the value, in steps of 2 ^ -22, and so is sixteen times the middle
   pub negative : Bool
   pub units : ℕ
   pub size : HasValue v negative units (2 ^ 22)
-  pub near : Within (P * 8) negative (2 * units) (2 * (sr * 2 ^ 22)) (2 * (dr * 2 ^ 22 + middle))
+  pub near : ByAtMost (P * 8) negative (2 * units) (2 * (sr * 2 ^ 22)) (2 * (dr * 2 ^ 22 + middle))
 
 -- ---- the steps of `valueOf`
 abbrev sided : ℕ → ℕ → Float
@@ -124,18 +125,18 @@ fifth-below P n q h k l = omega arith
 ring-below : (P n : ℕ) → n + 16 ≤ 16 * P → n * 2 ^ 22 < P * 2 ^ 26
 ring-below P n h = omega arith
 
-middle-below : (s : Bool) (P n q m : ℕ) → n + 16 ≤ 16 * P → q < P * 2 ^ 26 → Within (P * 4) s (2 * m) (2 * (n * 2 ^ 22)) (2 * q) → m < P * (2 ^ 26 + 2)
+middle-below : (s : Bool) (P n q m : ℕ) → n + 16 ≤ 16 * P → q < P * 2 ^ 26 → ByAtMost (P * 4) s (2 * m) (2 * (n * 2 ^ 22)) (2 * q) → m < P * (2 ^ 26 + 2)
 middle-below false P n q m h k w = omega arith
 middle-below true P n q m h k w = omega arith
 
 middle-small : (P m : ℕ) → P ≤ 4096 → m < P * (2 ^ 26 + 2) → m < 2 ^ 60
 middle-small P m h k = omega arith
 
-halved : (s : Bool) (d a b : ℕ) → Within 1 s (2 * d) (2 * a) (2 * b) → Within 0 s (d * 2 ^ 22) (a * 2 ^ 22) (b * 2 ^ 22)
+halved : (s : Bool) (d a b : ℕ) → ByAtMost 1 s (2 * d) (2 * a) (2 * b) → ByAtMost 0 s (d * 2 ^ 22) (a * 2 ^ 22) (b * 2 ^ 22)
 halved false d a b w = (omega arith, omega arith)
 halved true d a b w = (omega arith, omega arith)
 
-last-below : (s : Bool) (P a b d m : ℕ) → a ≤ 8 * P → b ≤ 8 * P → Within 1 s (2 * d) (2 * a) (2 * b) → m < P * (2 ^ 26 + 2) → d * 2 ^ 22 + m < P * 2 ^ 27
+last-below : (s : Bool) (P a b d m : ℕ) → a ≤ 8 * P → b ≤ 8 * P → ByAtMost 1 s (2 * d) (2 * a) (2 * b) → m < P * (2 ^ 26 + 2) → d * 2 ^ 22 + m < P * 2 ^ 27
 last-below false P a b d m h k w l = omega arith
 last-below true P a b d m h k w l = omega arith
 
@@ -179,8 +180,8 @@ module _ (p sr dr ring cross : ℕ) (le : p ≤ 12) (b : Bounded (2 ^ p) sr dr r
       (subst (λ (z : ℕ). ring * 2 ^ 22 < z) (sym (power p 2)) (ring-below (2 ^ p) ring (b .by-ring)))
       (subst (λ (z : ℕ). fifthOf .steps < z) (sym (power p 2)) fifth-under)
 
-  middle-is : Within (2 ^ p * 4) (middleOf .negative) (2 * middleOf .steps) (2 * (ring * 2 ^ 22)) (2 * fifthOf .steps)
-  middle-is = subst (λ (z : ℕ). Within z (middleOf .negative) (2 * middleOf .steps) (2 * (ring * 2 ^ 22)) (2 * fifthOf .steps)) (pow-add 2 p 2) (middleOf .close)
+  middle-is : ByAtMost (2 ^ p * 4) (middleOf .negative) (2 * middleOf .steps) (2 * (ring * 2 ^ 22)) (2 * fifthOf .steps)
+  middle-is = subst (λ (z : ℕ). ByAtMost z (middleOf .negative) (2 * middleOf .steps) (2 * (ring * 2 ^ 22)) (2 * fifthOf .steps)) (pow-add 2 p 2) (middleOf .close)
 
   middle-under : middleOf .steps < 2 ^ p * (2 ^ 26 + 2)
   middle-under = middle-below (middleOf .negative) (2 ^ p) ring (fifthOf .steps) (middleOf .steps) (b .by-ring) fifth-under middle-is
@@ -213,7 +214,7 @@ module _ (p sr dr ring cross : ℕ) (le : p ≤ 12) (b : Bounded (2 ^ p) sr dr r
     negative = written .negative;
     units = written .steps;
     size = written .value;
-    near = subst (λ (z : ℕ). Within z (written .negative) (2 * written .steps) (2 * (sr * 2 ^ 22)) (2 * (dr * 2 ^ 22 + middleOf .steps))) (pow-add 2 p 3) (written .close);
+    near = subst (λ (z : ℕ). ByAtMost z (written .negative) (2 * written .steps) (2 * (sr * 2 ^ 22)) (2 * (dr * 2 ^ 22 + middleOf .steps))) (pow-add 2 p 3) (written .close);
   }
 
 -- ---- |a - b|, by which is larger
@@ -233,13 +234,13 @@ five-divides : (sr dr ring cross g : ℕ) → 5 * sr ≡ 5 * dr + g → Apart (5
 five-divides sr dr ring cross g e (inl a) = (ring + dr - (sr + 3 * cross), omega arith)
 five-divides sr dr ring cross g e (inr a) = (ring + sr - (dr + 3 * cross), omega arith)
 
-same-sides : (s : Bool) (sr dr ring w q g : ℕ) → 5 * sr ≡ 5 * dr + g → Apart (5 * ring) (16 * (w * 5)) g → Within 1 s (2 * q) (2 * ring) (2 * (w * 16)) → sr - dr ≡ q
+same-sides : (s : Bool) (sr dr ring w q g : ℕ) → 5 * sr ≡ 5 * dr + g → Apart (5 * ring) (16 * (w * 5)) g → ByAtMost 1 s (2 * q) (2 * ring) (2 * (w * 16)) → sr - dr ≡ q
 same-sides false sr dr ring w q g e (inl a) c = omega arith
 same-sides false sr dr ring w q g e (inr a) c = omega arith
 same-sides true sr dr ring w q g e (inl a) c = omega arith
 same-sides true sr dr ring w q g e (inr a) c = omega arith
 
-round-zero : round binary32 false 0 1 ≡ fin false 0 (pos 0)
+round-zero : round binary32 false 0 1 ≡ plusZero
 unfolding round
 round-zero = refl
 
@@ -254,7 +255,7 @@ module _ (sr dr ring w g : ℕ) (even : 5 * sr ≡ 5 * dr + g) (by : Apart (5 * 
   both : sr - dr ≡ exactly .steps
   both = same-sides (exactly .negative) sr dr ring w (exactly .steps) g even by (exactly .close)
 
-  no-value : valueOf sr dr ring (w * 5) ≡ fin false 0 (pos 0)
+  no-value : valueOf sr dr ring (w * 5) ≡ plusZero
   unfolding valueOf
   no-value =
       sub-above binary32 (sided sr dr) (level ring (w * 5)) (exactly .steps) (exactly .steps) 1 (pow-pos 0)
@@ -266,7 +267,7 @@ module _ (sr dr ring w g : ℕ) (even : 5 * sr ≡ 5 * dr + g) (by : Apart (5 * 
       ∙ ap (λ (z : ℕ). round binary32 false z 1) (sub-self (exactly .steps))
       ∙ round-zero
 
-pub value-zero : (p sr dr ring cross : ℕ) → p ≤ 12 → Bounded (2 ^ p) sr dr ring cross → 5 * sr ≡ 5 * dr + apart (5 * ring) (16 * cross) → valueOf sr dr ring cross ≡ fin false 0 (pos 0)
+pub value-zero : (p sr dr ring cross : ℕ) → p ≤ 12 → Bounded (2 ^ p) sr dr ring cross → 5 * sr ≡ 5 * dr + apart (5 * ring) (16 * cross) → valueOf sr dr ring cross ≡ plusZero
 value-zero p sr dr ring cross le b e =
     let g = apart (5 * ring) (16 * cross) in
     let a = apart-by (5 * ring) (16 * cross) in

@@ -7,21 +7,22 @@ use Prim.Native.Nat.{ℕ, _+_, _*_, _^_, _≤_, _<_}
 use lib.IntN.{pos}
 use lib.Ieee.{Float, fin, lt}
 use lib.Ieee.Exact.{HasValue}
+use Rattle.shapes.specs.Numbers.{plusZero}
 use Rattle.pixel_response.specs.Samples.{gain, loss, responseOf}
 
 -- ±a and ±b differ by at most d, where the sign of a is s (true: negative) and b is given as plus - minus
-abbrev pub Within : ℕ → Bool → ℕ → ℕ → ℕ → Type 0
-Within d false a plus minus = (a + minus ≤ plus + d) × (plus ≤ a + minus + d)
-Within d true a plus minus = (minus ≤ a + plus + d) × (a + plus ≤ minus + d)
+abbrev pub ByAtMost : ℕ → Bool → ℕ → ℕ → ℕ → Type 0
+ByAtMost d false a plus minus = (a + minus ≤ plus + d) × (plus ≤ a + minus + d)
+ByAtMost d true a plus minus = (minus ≤ a + plus + d) × (a + plus ≤ minus + d)
 
 pub record Near (P : ℕ) (v : Float) (plus minus : ℕ) : Type 0 where
   pub negative : Bool
   pub units : ℕ
   pub size : HasValue v negative units (2 ^ 22)
-  pub close : Within (40 * P) negative (5 * units) (plus * 2 ^ 22) (minus * 2 ^ 22)
-  pub above : minus < plus → lt (fin false 0 (pos 0)) v ≡ true
-  pub none : plus ≡ minus → v ≡ fin false 0 (pos 0)
-  pub below : plus < minus → lt v (fin false 0 (pos 0)) ≡ true
+  pub close : ByAtMost (40 * P) negative (5 * units) (plus * 2 ^ 22) (minus * 2 ^ 22)
+  pub above : minus < plus → lt plusZero v ≡ true
+  pub none : plus ≡ minus → v ≡ plusZero
+  pub below : plus < minus → lt v plusZero ≡ true
 
 -- samples below P
 abbrev pub Under : ℕ → ℕ → (ℕ → ℕ) → Type 0

@@ -18,7 +18,7 @@ use Rattle.imageview.specs.Image.{Image}
 use Rattle.pixel_response.specs.Samples.{gain, loss}
 use Rattle.response.specs.Region.{Region, isEmpty, widthOf, heightOf, ringFits, ringSample, crossSample}
 use Rattle.response.specs.Demand.{columnAt, rowAt, fitsAt, gainAt, lossAt, DemandThree}
-use Rattle.peaks.specs.Peak.{Scan, valueAt, border, inside, least, side, cells, middle, neighbour, every, beats, highest, positives, isPeak}
+use Rattle.peaks.specs.Peak.{Scan, valueAt, border, inside, floorOf, side, cells, middle, neighbour, every, beats, highest, positives, isPeak}
 use Rattle.road.specs.Claims.{whole, Positive, Exceeds, scanAt, StrongestIsPeak}
 use Rattle.peaks.proofs.CountLaws.{both, first-of, second-of}
 use Rattle.peaks.proofs.PeakLaws.{peak-by}

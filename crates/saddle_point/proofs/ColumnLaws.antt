@@ -28,7 +28,7 @@ use Rattle.saddle_point.specs.declared.Refined.{Refined}
 use Rattle.saddle_point.specs.declared.Refined.the-variants.{Accepted, Unmoved}
 use Rattle.saddle_point.specs.declared.Refined.the-variants as Refined
 use Rattle.saddle_point.specs.declared.Why.the-variants.{Rejected, IllConditioned}
-use Rattle.refusals.specs.declared.Refusal.the-variants.{BadRadius}
+use Rattle.refusals.specs.declared.Refusal.{Refusal}
 use Rattle.saddle_fit.specs.Numbers.{_⊕_, _⊖_, _⊗_, half}
 use Rattle.fit_cache.specs.Fit.{sampleOf, coefficient, coefficients, Fit, noFit, fitted, fitWithin, fitAt}
 use Rattle.saddle_fit.specs.Solve.{solve, settled}
@@ -170,17 +170,22 @@ module _ (img : Image) (a b : List Float) (radius : ℕ) (same : (k : ℕ) → k
 abbrev isBuilt : Operator → Type 0
 isBuilt Answer.Built = Unit
 isBuilt Answer.Singular = ⊥
-isBuilt Answer.BadRadius = ⊥
+isBuilt (Answer.Refused r) = ⊥
 
 abbrev pub isSingular : Operator → Type 0
 isSingular Answer.Built = ⊥
 isSingular Answer.Singular = Unit
-isSingular Answer.BadRadius = ⊥
+isSingular (Answer.Refused r) = ⊥
+
+abbrev refusalIn : Refusal → Operator → Refusal
+refusalIn d Answer.Built = d
+refusalIn d Answer.Singular = d
+refusalIn d (Answer.Refused r) = r
 
 abbrev isBad : Operator → Type 0
 isBad Answer.Built = ⊥
 isBad Answer.Singular = ⊥
-isBad Answer.BadRadius = Unit
+isBad (Answer.Refused r) = Unit
 
 module _ (img : Image) (cfg : SaddlePointConfig) (seed : Seed) (wanted : Bool) where
   agree : (c rest : List Float) (n : ℕ) → length c ≡ n → (k : ℕ) → k < n → entry (c ++ rest) k ≡ entry c k
@@ -193,7 +198,7 @@ module _ (img : Image) (cfg : SaddlePointConfig) (seed : Seed) (wanted : Bool) w
       ∙ saddle-same img img (c ++ rest) c cfg (pos (seed .«centre_x»)) (pos (seed .«centre_y»)) (seed .x) (seed .y) (fit-same img (c ++ rest) c (cfg .radius) same) overlap wanted (solve cfg (coefficients img c (cfg .radius) (seed .«centre_x») (seed .«centre_y»)))
 
   by-way : (old overlap columns' overlap' : List Float) (w : Operator.Way) → ((c o : List Float) → w ≡ Operator.built c o → length c ≡ 5 * samples (cfg .radius)) → Operator.answerOf w ≡ Answer.Built → columns' ≡ Operator.columnsAfter (cfg .radius) old w → overlap' ≡ Operator.overlapAfter overlap w → refineWith img cfg seed wanted columns' overlap' ≡ withOperator img cfg seed wanted w
-  by-way old overlap columns' overlap' Operator.badRadius l b p q = absurd (subst isBuilt (sym b) tt)
+  by-way old overlap columns' overlap' (Operator.refused r) l b p q = absurd (subst isBuilt (sym b) tt)
   by-way old overlap columns' overlap' Operator.none l b p q = absurd (subst isBuilt (sym b) tt)
   by-way old overlap columns' overlap' (Operator.built c o) l b p q =
       ap (λ (v : List Float). refineWith img cfg seed wanted v overlap') p
@@ -205,17 +210,17 @@ module _ (img : Image) (cfg : SaddlePointConfig) (seed : Seed) (wanted : Bool) w
       by-way old overlap columns' overlap' (Operator.wayOf (cfg .radius)) (built-length (cfg .radius)) (sym (d .answers) ∙ e) (d .leaves-columns) (d .leaves-overlap)
 
   singular-way : (w : Operator.Way) → Operator.answerOf w ≡ Answer.Singular → Unmoved IllConditioned plusZero ≡ withOperator img cfg seed wanted w
-  singular-way Operator.badRadius e = absurd (subst isSingular (sym e) tt)
+  singular-way (Operator.refused r) e = absurd (subst isSingular (sym e) tt)
   singular-way Operator.none e = refl
   singular-way (Operator.built c o) e = absurd (subst isSingular (sym e) tt)
 
   pub fresh-singular : (old overlap columns' overlap' : List Float) (r : Operator) → Operator.Done (cfg .radius) old overlap r columns' overlap' → r ≡ Answer.Singular → Unmoved IllConditioned plusZero ≡ withOperator img cfg seed wanted (Operator.wayOf (cfg .radius))
   fresh-singular old overlap columns' overlap' r d e = singular-way (Operator.wayOf (cfg .radius)) (sym (d .answers) ∙ e)
 
-  bad-way : (w : Operator.Way) → Operator.answerOf w ≡ Answer.BadRadius → Refined.Refused BadRadius ≡ withOperator img cfg seed wanted w
-  bad-way Operator.badRadius e = refl
-  bad-way Operator.none e = absurd (subst isBad (sym e) tt)
-  bad-way (Operator.built c o) e = absurd (subst isBad (sym e) tt)
+  refused-way : (w : Operator.Way) (f : Refusal) → Operator.answerOf w ≡ Answer.Refused f → Refined.Refused f ≡ withOperator img cfg seed wanted w
+  refused-way (Operator.refused r) f e = ap Refined.Refused (sym (ap (refusalIn f) e))
+  refused-way Operator.none f e = absurd (subst isBad (sym e) tt)
+  refused-way (Operator.built c o) f e = absurd (subst isBad (sym e) tt)
 
-  pub fresh-bad : (old overlap columns' overlap' : List Float) (r : Operator) → Operator.Done (cfg .radius) old overlap r columns' overlap' → r ≡ Answer.BadRadius → Refined.Refused BadRadius ≡ withOperator img cfg seed wanted (Operator.wayOf (cfg .radius))
-  fresh-bad old overlap columns' overlap' r d e = bad-way (Operator.wayOf (cfg .radius)) (sym (d .answers) ∙ e)
+  pub fresh-refused : (old overlap columns' overlap' : List Float) (r : Operator) (f : Refusal) → Operator.Done (cfg .radius) old overlap r columns' overlap' → r ≡ Answer.Refused f → Refined.Refused f ≡ withOperator img cfg seed wanted (Operator.wayOf (cfg .radius))
+  fresh-refused old overlap columns' overlap' r f d e = refused-way (Operator.wayOf (cfg .radius)) f (sym (d .answers) ∙ e)

@@ -16,7 +16,7 @@ use Rattle.fit_cache.specs.declared.Seed.{Seed}
 use Rattle.saddle_point.specs.declared.Refined.{Refined}
 use Rattle.saddle_point.specs.declared.Refined.the-variants.{Unmoved, Refused}
 use Rattle.saddle_point.specs.declared.Why.the-variants.{IllConditioned}
-use Rattle.refusals.specs.declared.Refusal.the-variants.{BadRadius}
+use Rattle.refusals.specs.declared.Refusal.{Refusal}
 use Rattle.saddle_point.specs.declared.Admitted.{Admitted}
 use Rattle.saddle_point.specs.declared.Admitted.the-variants as Admitted
 use Rattle.saddle_point.specs.declared.Spot.{Spot}
@@ -25,7 +25,7 @@ use Rattle.saddle_point.specs.Refine.{admitOf, answered, refineLent, ref
 use Rattle.saddle_point.specs.Spot.{spotOf}
 use Rattle.saddle_point.specs.Claims.{LentIsBuilt}
 use Rattle.fit_operator.proofs.Cases.{radius-0}
-use Rattle.saddle_point.proofs.ColumnLaws.{isSingular, fresh-built, fresh-singular, fresh-bad}
+use Rattle.saddle_point.proofs.ColumnLaws.{isSingular, fresh-built, fresh-singular, fresh-refused}
 
 module _ (img : Image) (cfg : SaddlePointConfig) (x y : Float) (wanted : Bool) (old overlap columns' overlap' : List Float) (r : Operator) (done : Operator.Done (cfg .radius) old overlap r columns' overlap') where
   -- an operator that was built is not that of radius 0
@@ -53,9 +53,9 @@ module _ (img : Image) (cfg : SaddlePointConfig) (x y : Float) (wanted : Bool) (
   unfolding refineOf
   none-singular e = without (Unmoved IllConditioned plusZero) refl (λ seed. fresh-singular img cfg seed wanted old overlap columns' overlap' r done e) (admitOf img cfg x y)
 
-  pub none-bad : r ≡ Answer.BadRadius → spotOf (refineOf img cfg x y wanted) ≡ Nowhere
+  pub none-refused : (f : Refusal) → r ≡ Answer.Refused f → spotOf (refineOf img cfg x y wanted) ≡ Nowhere
   unfolding refineOf
-  none-bad e = without (Refused BadRadius) refl (λ seed. fresh-bad img cfg seed wanted old overlap columns' overlap' r done e) (admitOf img cfg x y)
+  none-refused f e = without (Refused f) refl (λ seed. fresh-refused img cfg seed wanted old overlap columns' overlap' r f done e) (admitOf img cfg x y)
 
 pub lent-is-built : LentIsBuilt
 lent-is-built img cfg x y wanted columns overlap columns' overlap' r done e = lent-as-built img cfg x y wanted columns overlap columns' overlap' r done e

@@ -90,7 +90,7 @@ module _ (a : Image) (l : List ℕ) (same : (x y : ℕ) → x < a .width → y <
         ∙ saddle-same a c columns columns cfg (pos (seed .«centre_x»)) (pos (seed .«centre_y»)) (seed .x) (seed .y) (fit-same columns (cfg .radius)) overlap wanted (solve cfg (coefficients c columns (cfg .radius) (seed .«centre_x») (seed .«centre_y»)))
 
     own-same : (seed : Seed) → PatchWithin a (cfg .radius) (seed .«centre_x») (seed .«centre_y») → (w : Operator.Way) → withOperator a cfg seed wanted w ≡ withOperator c cfg seed wanted w
-    own-same seed h Operator.badRadius = refl
+    own-same seed h (Operator.refused r) = refl
     own-same seed h Operator.none = refl
     own-same seed h (Operator.built columns overlap) = with-same seed h columns overlap
 

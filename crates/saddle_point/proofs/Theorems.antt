@@ -168,7 +168,7 @@ module _ (t : Task) (overlap : List Float) (wanted : Bool) (good : goodLimit (t 
 -- ---- with the tests before it
 module _ (img : Image) (cfg : SaddlePointConfig) (x y : Float) (wanted : Bool) where
   by-way : (seed : Seed) (w : Operator.Way) → goodLimit (cfg .«det_margin») ≡ true → Answers (withOperator img cfg seed wanted w)
-  by-way seed Operator.badRadius g = tt
+  by-way seed (Operator.refused r) g = tt
   by-way seed Operator.none g = tt
   by-way seed (Operator.built columns overlap) g =
       let l = coefficients img columns (cfg .radius) (seed .«centre_x») (seed .«centre_y») in

@@ -110,7 +110,7 @@ refineWith img cfg seed wanted columns overlap =
 
 -- with the operator that is built for it
 abbrev pub withOperator : Image → SaddlePointConfig → Seed → Bool → Operator.Way → Refined
-withOperator img cfg seed wanted Operator.badRadius = Refused BadRadius
+withOperator img cfg seed wanted (Operator.refused r) = Refused r
 withOperator img cfg seed wanted Operator.none = Unmoved IllConditioned plusZero
 withOperator img cfg seed wanted (Operator.built columns overlap) = refineWith img cfg seed wanted columns overlap
 

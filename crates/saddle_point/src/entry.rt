@@ -76,7 +76,7 @@ fn refine_fresh(
     match operator {
         Operator::Built => refine_seed(img, sizes, cfg, seed, wanted, &columns, &overlap),
         Operator::Singular => Refined::Unmoved(Why::IllConditioned, 0.0),
-        Operator::BadRadius => Refined::Refused(Refusal::BadRadius),
+        Operator::Refused(refusal) => Refined::Refused(refusal),
     }
 }
 

@@ -9,7 +9,7 @@ use borrow.Author.Tests.{not-true, not-false}
 use Rattle.corners.specs.Corners.{cornersOf}
 use Rattle.corners.specs.declared.Corner.{Corner}
 use Rattle.merge.specs.Meets.{boxOf, finiteBox, gridOf, cellsAcross, cellsDown}
-use Rattle.merge.specs.Steps.{Filled}
+use Rattle.merge.specs.Steps.{Packed}
 use Rattle.merge.proofs.CallLaws.{way-plain, way-big, way-grid, cells-count, grid-rule, few-cells, left-by, left-plain, left-grid}
 use native.Mathlib.Omega.{arith}
 use borrow.Author.Needs.{needs}
@@ -80,8 +80,8 @@ returns-2 c =
 add-t19 : tie.Need-add-t19
 add-t19 c = let h = few c .1 in omega arith
 
-add-t20 : tie.Need-add-t20
-add-t20 c = let h = few c .2 in omega arith
+add-t21 : tie.Need-add-t21
+add-t21 c = let h = few c .2 in omega arith
 
 merge-requires-2 : tie.Need-merge-requires-2
 merge-requires-2 c κs =
@@ -113,7 +113,7 @@ returns-3 c =
     let d = t .before .before in
     let rule = grid-rule (a .radius) (cornersOf (a .corners .now)) (o .of .result) (d .last-cell .result + 1) (t .before .last-cell2 .result + 1) (o .of .ensures) (d .last-cell .ensures) (t .before .last-cell2 .ensures) (mul binary32 (a .radius) (a .radius)) in
     left-by (way-grid (cornersOf (a .corners .now)) (a .radius) (length (a .heads .now)) (boxed f ∙ not-false (f .is-finite .result) (b .if1 .left)) (many t ∙ e .if2 .left))
-    (left-grid (subst (λ (k : List Corner). Filled (a .corners .now) k (g .result) (g .last .0)) rule (g .ensures .0)) (g .ensures .1 .0) (g .ensures .1 .1))
+    (left-grid (subst (λ (k : List Corner). Packed (a .corners .now) k (g .result) (g .last .0)) rule (g .ensures .0)) (g .ensures .1 .0) (g .ensures .1 .1))
 
 pub merge-within-spec : {M : Type 1} → statement M
 merge-within-spec =
@@ -130,7 +130,7 @@ merge-within-spec =
     same-length-2
     returns-2
     add-t19
-    add-t20
+    add-t21
     merge-requires-2
     same-length-3
     same-length-4

@@ -2,7 +2,7 @@
 use mathlib.Core.Bool.{false}
 use borrow.Author.Needs.{needs}
 use Rattle.imageview.specs.Image.{imageOf}
-use Rattle.saddle_point.proofs.LentLaws.{lent-is-built, none-singular, none-bad}
+use Rattle.saddle_point.proofs.LentLaws.{lent-is-built, none-singular, none-refused}
 use Rattle.detect.proofs.ListLaws.{empty}
 use Rattle.detect.proofs.list.refine_list.Statement.{statement}
 use Rattle.detect.proofs.list.refine_list.Tie as tie
@@ -41,7 +41,7 @@ returns-3 : tie.Need-returns-3
 returns-3 c =
     let a = c .before .before .before .before .before .before .before .before .args in
     let img = imageOf (a .img .now) (a .sizes) in
-    empty img (a .cfg) (a .corners .now) (a .out .now) (λ x y. none-bad img (a .cfg) x y false _ _ _ _ _ (c .before .before .fit-operator .ensures) (c .enum-told3 .given .1))
+    empty img (a .cfg) (a .corners .now) (a .out .now) (λ x y. none-refused img (a .cfg) x y false _ _ _ _ _ (c .before .before .fit-operator .ensures) _ (c .enum-told3 .given .1))
 
 pub refine-list-spec : {M : Type 1} → statement M
 refine-list-spec = tie.close (tie.spec fit-operator-requires enum-told refine-all-requires enum-told-2 enum-told-3 same-length returns returns-2 returns-3)

@@ -1,7 +1,7 @@
 -- `fit_operator::inverse::is_below_least` meets its contract.
 use mathlib.Core.Path.{ap}
 use lib.Ieee.{Float, lt}
-use Rattle.fit_operator.specs.Inverse.{least}
+use Rattle.fit_operator.specs.Inverse.{leastPivot}
 use borrow.Author.Needs.{needs}
 use Rattle.fit_operator.proofs.inverse.is_below_least.Statement.{statement}
 use Rattle.fit_operator.proofs.inverse.is_below_least.Tie as tie
@@ -10,7 +10,7 @@ magnitude-f64-requires : tie.Need-magnitude-f64-requires
 magnitude-f64-requires c κs = search needs
 
 returns : tie.Need-returns
-returns c = ap (λ (x : Float). lt x least) (c .magnitude-f64 .ensures)
+returns c = ap (λ (x : Float). lt x leastPivot) (c .magnitude-f64 .ensures)
 
 pub is-below-least-spec : {M : Type 1} → statement M
 is-below-least-spec = tie.close (tie.spec magnitude-f64-requires returns)

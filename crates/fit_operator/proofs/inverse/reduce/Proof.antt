@@ -3,7 +3,7 @@ use mathlib.Core.Path.{_≡_, refl, sym, ap, _∙_}
 use Prim.Native.Nat.{_-_, _≤_}
 use lib.Ieee.{Float, lt}
 use Rattle.floats.specs.Magnitude.{magnitude}
-use Rattle.fit_operator.specs.Inverse.{least, reduceFrom}
+use Rattle.fit_operator.specs.Inverse.{leastPivot, reduceFrom}
 use Rattle.fit_operator.proofs.InverseLaws.{reduce-stop, reduce-more, reduce-all}
 use native.Mathlib.Omega.{arith}
 use Rattle.fit_operator.proofs.inverse.reduce.Statement.{statement}
@@ -39,7 +39,7 @@ returns c =
     let p = c .before .before .before .before in
     sym (l .inv .1)
     ∙ reduce-stop (l .m) (l .col) (p .pivot-of .result) (c .before .before .before .before .before .before .loop-test .taken) (p .pivot-of .ensures .is)
-    (ap (λ (x : Float). lt (magnitude x) least) (sym (c .before .before .entry .ensures)) ∙ sym (c .before .is-below-least .ensures) ∙ c .if1 .taken)
+    (ap (λ (x : Float). lt (magnitude x) leastPivot) (sym (c .before .before .entry .ensures)) ∙ sym (c .before .is-below-least .ensures) ∙ c .if1 .taken)
 
 reduced-column-requires : tie.Need-reduced-column-requires Inv-loop μ-loop
 reduced-column-requires c κs = (omega arith, c .before .before .before .before .before .pivot-of .ensures .row)
@@ -56,7 +56,7 @@ loop-again c =
     let p = c .before .before .before .before .before .before in (
       omega arith,
       reduce-more (l .m) (l .col) (p .pivot-of .result) (c .before .before .before .before .before .before .before .before .loop-test .taken) (p .pivot-of .ensures .is) (c .reduced-column .result)
-          (ap (λ (x : Float). lt (magnitude x) least) (sym (c .before .before .before .before .entry .ensures)) ∙ sym (c .before .before .before .is-below-least .ensures) ∙ c .before .before .if1 .left)
+          (ap (λ (x : Float). lt (magnitude x) leastPivot) (sym (c .before .before .before .before .entry .ensures)) ∙ sym (c .before .before .before .is-below-least .ensures) ∙ c .before .before .if1 .left)
           (c .reduced-column .ensures) ∙ l .inv .1,
     )
 

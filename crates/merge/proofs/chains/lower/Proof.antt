@@ -3,7 +3,7 @@ use mathlib.Core.Path.{sym, _∙_}
 use lib.Dec.{ltb}
 use borrow.Author.Tests.{lt-ltb, le-ltb}
 use Rattle.merge.specs.Steps.{within}
-use Rattle.merge.proofs.LeastLaws.{pick-both, pick-first, pick-second}
+use Rattle.merge.proofs.LowestLaws.{pick-both, pick-first, pick-second}
 use borrow.Author.Needs.{needs}
 use Rattle.merge.proofs.chains.lower.Statement.{statement}
 use Rattle.merge.proofs.chains.lower.Tie as tie

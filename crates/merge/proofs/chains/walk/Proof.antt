@@ -4,7 +4,7 @@ use mathlib.Core.List.{List}
 use Prim.Native.Nat.{ℕ, _-_, _≤_, _<_}
 use native.Mathlib.Nat.{le-refl}
 use lib.ListN.{length, getD}
-use Rattle.merge.specs.Steps.{Nexts, least, top, inCell, within}
+use Rattle.merge.specs.Steps.{Nexts, lowestBelow, top, inCell, within}
 use Rattle.merge.proofs.ChainLaws.{top-le, walk-start, walk-turn, walk-end}
 use native.Mathlib.Omega.{arith}
 use native.Mathlib.Omega.{arith}
@@ -15,7 +15,7 @@ abbrev Inv-loop : tie.InvT-loop
 Inv-loop corners links from disc best p₀ found₀ p found =
     (p ≤ from)
     × ((most c : ℕ) (cs : List ℕ) → Nexts most cs links → c < most → from ≡ top cs c (length cs)
-    → (p ≡ top cs c p) × (least (inCell cs c (within disc corners)) p found ≡ least (inCell cs c (within disc corners)) (length cs) best))
+    → (p ≡ top cs c p) × (lowestBelow (inCell cs c (within disc corners)) p found ≡ lowestBelow (inCell cs c (within disc corners)) (length cs) best))
 
 abbrev μ-loop : tie.MeasureT-loop
 μ-loop corners links from disc best p₀ found₀ p found = p
@@ -61,7 +61,7 @@ loop-again c =
       λ most k cs nexts inside e.
           let i = l .loop .inv .1 most k cs nexts inside e in
           let t = walk-turn most k cs (a .links .now) (within (a .disc) (a .corners .now)) (p - 1) p (l .loop .found) nexts inside (omega arith) (i .0) (omega (arith, top-le cs k (length cs))) in
-          (t .0, ap (λ (b : ℕ). least (inCell cs k (within (a .disc) (a .corners .now))) (getD (a .links .now) (p - 1) 0) b) (c .before .lower .ensures) ∙ t .1 ∙ i .1),
+          (t .0, ap (λ (b : ℕ). lowestBelow (inCell cs k (within (a .disc) (a .corners .now))) (getD (a .links .now) (p - 1) 0) b) (c .before .lower .ensures) ∙ t .1 ∙ i .1),
     )
 
 returns : tie.Need-returns Inv-loop μ-loop

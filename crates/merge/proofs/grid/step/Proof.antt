@@ -5,7 +5,7 @@ use lib.ListN.{length}
 use lib.Ieee.{nan}
 use Rattle.corners.proofs.CornerLaws.{read}
 use Rattle.corners.specs.Corners.{cornersOf, cornerAt}
-use Rattle.merge.specs.Steps.{least, cellIn, meetsIn}
+use Rattle.merge.specs.Steps.{lowestBelow, cellIn, meetsIn}
 use Rattle.merge.proofs.StepLaws.{replaces, stays, adds}
 use Rattle.merge.proofs.GridLaws.{column-lt, row-lt, placed-room, cell-of, cell-inside, nine-meets, new-joins, joined-new}
 use native.Mathlib.Omega.{arith}
@@ -15,7 +15,7 @@ use Rattle.merge.proofs.grid.step.Statement.{statement}
 use Rattle.merge.proofs.grid.step.Tie as tie
 
 -- whom the corner meets
-found : (c : tie.After-lowest) → let a = c .before .before .before .before .before .before .before .before .before .before .before .before .args in c .lowest .result ≡ least (λ j. meetsIn (a .cells) (a .r2) (read (a .corners .now) (a .i) nan) (cornerAt (cornersOf (a .corners .now)) j)) (a .count) (a .count)
+found : (c : tie.After-lowest) → let a = c .before .before .before .before .before .before .before .before .before .before .before .before .args in c .lowest .result ≡ lowestBelow (λ j. meetsIn (a .cells) (a .r2) (read (a .corners .now) (a .i) nan) (cornerAt (cornersOf (a .corners .now)) j)) (a .count) (a .count)
 found c =
     let r = c .before .before .before .before in
     let a = r .before .before .before .before .before .before .before .before .args in

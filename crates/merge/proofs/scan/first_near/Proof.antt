@@ -4,7 +4,7 @@ use mathlib.Core.Bool.{false}
 use Prim.Native.Nat.{ℕ, _-_, _<_}
 use borrow.Author.Count.{below-none, below-more}
 use Rattle.merge.specs.Steps.{within}
-use Rattle.merge.proofs.LeastLaws.{first-found, none-found}
+use Rattle.merge.proofs.LowestLaws.{first-found, none-found}
 use native.Mathlib.Omega.{arith}
 use native.Mathlib.Omega.{arith}
 use Rattle.merge.proofs.scan.first_near.Statement.{statement}

@@ -38,7 +38,7 @@ floor-of-requires : tie.Need-floor-of-requires
 floor-of-requires c κs = tt
 
 first-in-requires : tie.Need-first-in-requires
-first-in-requires c κs = record { sound = c .before .before .before .before .before .before .before .before .before .before .before .pre .0; above = c .before .before .before .before .before .before .before .if1 .left; below = c .before .before .before .before .before .if2 .left; left = omega arith; start-most = let h = c .before .before .before .if3 .left in omega arith; right = let h = c .before .before .before .if3 .left in omega arith; least-is = c .before .floor-of .ensures }
+first-in-requires c κs = record { sound = c .before .before .before .before .before .before .before .before .before .before .before .pre .0; above = c .before .before .before .before .before .before .before .if1 .left; below = c .before .before .before .before .before .if2 .left; left = omega arith; start-most = let h = c .before .before .before .if3 .left in omega arith; right = let h = c .before .before .before .if3 .left in omega arith; floor-is = c .before .floor-of .ensures }
 
 returns-4 : tie.Need-returns-4
 returns-4 c =
@@ -47,7 +47,7 @@ returns-4 c =
     row-from s (a .x) (a .y) _ _ (c .first-in .result) (let h = c .before .before .before .before .if3 .left in omega arith) (c .first-in .ensures) (let h = c .before .if4 .taken in omega arith) (λ k u v. left-out s k (a .y) v)
 
 first-in-requires-2 : tie.Need-first-in-requires-2
-first-in-requires-2 c κs = record { sound = c .before .before .before .before .before .before .before .before .before .before .before .pre .0; above = c .before .before .before .before .before .before .before .if1 .left; below = c .before .before .before .before .before .if2 .left; left = c .if4 .left; start-most = c .before .before .before .before .before .before .before .before .before .before .before .pre .1 .0; right = let h = c .before .before .before .if3 .left in omega arith; least-is = c .before .floor-of .ensures }
+first-in-requires-2 c κs = record { sound = c .before .before .before .before .before .before .before .before .before .before .before .pre .0; above = c .before .before .before .before .before .before .before .if1 .left; below = c .before .before .before .before .before .if2 .left; left = c .if4 .left; start-most = c .before .before .before .before .before .before .before .before .before .before .before .pre .1 .0; right = let h = c .before .before .before .if3 .left in omega arith; floor-is = c .before .floor-of .ensures }
 
 returns-5 : tie.Need-returns-5
 returns-5 c =

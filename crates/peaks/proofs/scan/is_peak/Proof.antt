@@ -46,7 +46,7 @@ returns-2 c =
     let s = scanOf (a .response .now) (a .rule) in
     let v = getD (a .response .now) (a .y * a .rule .width + a .x) nan in
     c .has-cluster .ensures
-    ∙ peak-by s (a .x) (a .y) (c .before .before .before .before .before .before .before .before .pre .0 .inner) (ap (λ (z : Float). lt z v) (sym (c .before .before .before .before .before .before .before .before .pre .0 .least-is)) ∙ c .before .before .before .if2 .taken) (sym (c .before .before .is-highest .ensures) ∙ c .before .if3 .taken)
+    ∙ peak-by s (a .x) (a .y) (c .before .before .before .before .before .before .before .before .pre .0 .inner) (ap (λ (z : Float). lt z v) (sym (c .before .before .before .before .before .before .before .before .pre .0 .floor-is)) ∙ c .before .before .before .if2 .taken) (sym (c .before .before .is-highest .ensures) ∙ c .before .if3 .taken)
 
 returns-3 : tie.Need-returns-3
 returns-3 c = let a = c .before .before .before .before .before .before .before .args in not-highest (scanOf (a .response .now) (a .rule)) (a .x) (a .y) (sym (c .before .is-highest .ensures) ∙ c .if3 .left)
@@ -55,7 +55,7 @@ returns-4 : tie.Need-returns-4
 returns-4 c =
     let a = c .before .before .before .before .before .args in
     let v = getD (a .response .now) (a .y * a .rule .width + a .x) nan in
-    not-above (scanOf (a .response .now) (a .rule)) (a .x) (a .y) (ap (λ (z : Float). lt z v) (sym (c .before .before .before .before .before .pre .0 .least-is)) ∙ c .if2 .left)
+    not-above (scanOf (a .response .now) (a .rule)) (a .x) (a .y) (ap (λ (z : Float). lt z v) (sym (c .before .before .before .before .before .pre .0 .floor-is)) ∙ c .if2 .left)
 
 pub is-peak-spec : {M : Type 1} → statement M
 is-peak-spec =

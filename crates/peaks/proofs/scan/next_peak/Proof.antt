@@ -1,4 +1,4 @@
--- `peaks::scan::next_peak` meets its contract: there is no peak from the place asked for up to (x, y).
+-- `peaks::scan::next_peak` meets its contract: there is no peak from the pixel asked for up to (x, y).
 use Prim.Native.Nat.{_+_, _-_, _*_, _≤_}
 use native.Mathlib.Nat.{mod-lt, le-of-lt}
 use native.Mathlib.Omega.{arith}

@@ -1,4 +1,4 @@
--- `peaks::scan::note` meets its contract: the places of the peaks before `at` are noted.
+-- `peaks::scan::note` meets its contract: the numbers of the peaks before `at` are noted.
 use mathlib.Core.Path.{_≡_, _∙_}
 use Prim.Native.Nat.{zero-le, _-_}
 use native.Mathlib.Omega.{arith}

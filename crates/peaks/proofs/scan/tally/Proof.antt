@@ -1,4 +1,4 @@
--- `peaks::scan::tally` meets its contract: `count` peaks lie before the place `at`, which is one too, or the end.
+-- `peaks::scan::tally` meets its contract: `count` peaks lie before the pixel `at`, which is one too, or the end.
 use mathlib.Core.Path.{subst}
 use Prim.Native.Nat.{ℕ, _-_, _<_}
 use native.Mathlib.Omega.{arith}

@@ -1,4 +1,4 @@
--- `peaks::scan::write` meets its contract: the records of the n peaks before the place `at` are written.
+-- `peaks::scan::write` meets its contract: the records of the n peaks before the pixel `at` are written.
 use mathlib.Core.Path.{_≡_, refl, _∙_}
 use mathlib.Core.List.{List}
 use Prim.Native.Nat.{_-_}

@@ -1,4 +1,4 @@
--- `peaks::scan::write_noted` meets its contract: the records of the first i places noted are written.
+-- `peaks::scan::write_noted` meets its contract: the records of the first i pixels noted are written.
 use mathlib.Core.Path.{_≡_, refl, ap, _∙_}
 use mathlib.Core.List.{_++_}
 use Prim.Native.Nat.{ℕ, _+_, _-_, _*_, _≤_}
@@ -28,7 +28,7 @@ element-copy-out-k : tie.Need-element-copy-out-k Inv-loop μ-loop
 element-copy-out-k c = let h = c .before .before .before .before .pre .1 .0 .most in omega arith
 
 cast-k : tie.Need-cast-k Inv-loop μ-loop
-cast-k c = let h = c .before .before .before .before .before .pre .1 .0 .places (c .before .before .loop .i) (c .before .loop-test .taken) in omega arith
+cast-k c = let h = c .before .before .before .before .before .pre .1 .0 .pixels (c .before .before .loop .i) (c .before .loop-test .taken) in omega arith
 
 rem-put : tie.Need-rem-put Inv-loop μ-loop
 rem-put c = let h = c .before .before .before .before .before .before .before .pre .0 .wide in omega arith
@@ -37,10 +37,10 @@ div-put : tie.Need-div-put Inv-loop μ-loop
 div-put c = let h = c .before .before .before .before .before .before .before .before .pre .0 .wide in omega arith
 
 mul-put : tie.Need-mul-put Inv-loop μ-loop
-mul-put c = let h = c .before .before .before .before .before .before .before .before .pre .1 .0 .places (c .before .before .before .before .before .loop .i) (c .before .before .before .before .loop-test .taken) in omega arith
+mul-put c = let h = c .before .before .before .before .before .before .before .before .pre .1 .0 .pixels (c .before .before .before .before .before .loop .i) (c .before .before .before .before .loop-test .taken) in omega arith
 
 shared-slice-read-put : tie.Need-shared-slice-read-put Inv-loop μ-loop
-shared-slice-read-put c = let h = c .before .before .before .before .before .before .before .before .before .pre .1 .0 .places (c .before .before .before .before .before .before .loop .i) (c .before .before .before .before .before .loop-test .taken) in omega arith
+shared-slice-read-put c = let h = c .before .before .before .before .before .before .before .before .before .pre .1 .0 .pixels (c .before .before .before .before .before .before .loop .i) (c .before .before .before .before .before .loop-test .taken) in omega arith
 
 put-requires : tie.Need-put-requires Inv-loop μ-loop
 put-requires c κs =
@@ -49,7 +49,7 @@ put-requires c κs =
     let s = scanOf (a .response .now) (a .rule) in (
       let h = c .before .before .before .before .before .before .before .before .before .pre .1 .1 in let e = l .inv .1 in let t = c .before .before .before .before .before .loop-test .taken in omega arith,
       column-most s (getD (a .notes .now) (l .i) 0) (c .before .before .before .before .before .before .before .before .before .pre .0),
-      row-most s (getD (a .notes .now) (l .i) 0) (c .before .before .before .before .before .before .before .before .before .pre .0) (c .before .before .before .before .before .before .before .before .before .pre .1 .0 .places (l .i) (c .before .before .before .before .before .loop-test .taken)),
+      row-most s (getD (a .notes .now) (l .i) 0) (c .before .before .before .before .before .before .before .before .before .pre .0) (c .before .before .before .before .before .before .before .before .before .pre .1 .0 .pixels (l .i) (c .before .before .before .before .before .loop-test .taken)),
     )
 
 add-i : tie.Need-add-i Inv-loop μ-loop

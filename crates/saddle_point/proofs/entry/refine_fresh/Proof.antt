@@ -3,7 +3,7 @@ use borrow.Author.Needs.{needs}
 use mathlib.Core.Path.{_∙_}
 use lib.Ieee.{ofBits}
 use Rattle.imageview.specs.Image.{imageOf}
-use Rattle.saddle_point.proofs.ColumnLaws.{fresh-built, fresh-singular, fresh-bad}
+use Rattle.saddle_point.proofs.ColumnLaws.{fresh-built, fresh-singular, fresh-refused}
 use Rattle.saddle_point.proofs.entry.refine_fresh.Statement.{statement}
 use Rattle.saddle_point.proofs.entry.refine_fresh.Tie as tie
 
@@ -19,8 +19,8 @@ refine-seed-requires c κs = search needs
 enum-told-2 : tie.Need-enum-told-2
 enum-told-2 c = search needs
 
-enum-told-3 : tie.Need-enum-told-3
-enum-told-3 c = search needs
+enum-known-operator : tie.Need-enum-known-operator
+enum-known-operator c = search needs
 
 returns : tie.Need-returns
 returns c =
@@ -37,8 +37,8 @@ returns-2 c =
 
 returns-3 : tie.Need-returns-3
 returns-3 c =
-    let a = c .before .before .before .before .before .before .args in
-    fresh-bad (imageOf (a .img .now) (a .sizes)) (a .cfg) (a .seed) (a .wanted) _ _ _ _ _ (c .before .before .fit-operator .ensures) (c .enum-told3 .given .1)
+    let a = c .before .before .before .before .before .before .before .args in
+    fresh-refused (imageOf (a .img .now) (a .sizes)) (a .cfg) (a .seed) (a .wanted) _ _ _ _ _ _ (c .before .before .before .fit-operator .ensures) (c .before .operator .given .1)
 
 pub refine-fresh-spec : {M : Type 1} → statement M
-refine-fresh-spec = tie.close (tie.spec fit-operator-requires enum-told refine-seed-requires enum-told-2 enum-told-3 returns returns-2 returns-3)
+refine-fresh-spec = tie.close (tie.spec fit-operator-requires enum-told refine-seed-requires enum-told-2 enum-known-operator returns returns-2 returns-3)
