@@ -4,7 +4,8 @@
  * a number: 0 done, 1 to 3 a seed's status, from 10 up a refusal. A refusal writes nothing, neither to a buffer
  * nor to a further answer. A call that is done decides every element of what it may write; which elements stay
  * as they were is said with each call. Nothing is kept after a call, nothing is allocated, nothing is called
- * back; calls on separate buffers may run at the same time.
+ * back; calls on separate buffers may run at the same time. docs/RULES.md has the rules by which each answer is
+ * decided; docs/USING.md units, settings with their defaults, two rings, and what the archive needs.
  *
  * A buffer goes in as a pointer and the number of its elements. The caller owns all of them. The pointer must be
  * one of that many elements for as long as the call lasts, aligned for its type and not null, also where the

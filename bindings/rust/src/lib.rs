@@ -2,8 +2,9 @@
 //! refiner and the merge, behind slices and `Result`.
 //!
 //! Every call takes any numbers and any contents of its slices, and ends. A
-//! refusal has document 01's name and number and writes nothing. Which elements
-//! of a slice a call leaves as they were is said in `include/chess_corners.h`.
+//! refusal has its name and number from docs/RULES.md and writes nothing. Which
+//! elements of a slice a call leaves as they were is said in
+//! `include/chess_corners.h`; units, defaults and rings in docs/USING.md.
 
 use std::fmt;
 
@@ -108,51 +109,74 @@ pub mod raw {
     }
 }
 
-/// Why a call was refused, by document 01's names.
+/// Why a call was refused, by the names of docs/RULES.md.
 #[derive(Clone, Copy, Debug, PartialEq, Eq)]
-#[repr(u32)]
 pub enum Refusal {
     /// No fit operator: radius 0.
-    IllConditioned = 3,
-    BadImage = 10,
-    BadRadius = 11,
-    BadLimit = 12,
-    BadRing = 13,
-    EmptyRoi = 14,
-    BadOut = 15,
-    TooMany = 16,
-    GridTooBig = 17,
-    BadScratch = 18,
-    BadLength = 19,
+    IllConditioned,
+    BadImage,
+    BadRadius,
+    BadLimit,
+    BadRing,
+    EmptyRoi,
+    BadOut,
+    TooMany,
+    GridTooBig,
+    BadScratch,
+    BadLength,
+    /// A number that this crate has no name for, as an archive that is newer
+    /// than it may give. Nothing was written.
+    Other(u32),
 }
 
+/// Every case that has a name.
+const NAMED: [Refusal; 11] = [
+    Refusal::IllConditioned,
+    Refusal::BadImage,
+    Refusal::BadRadius,
+    Refusal::BadLimit,
+    Refusal::BadRing,
+    Refusal::EmptyRoi,
+    Refusal::BadOut,
+    Refusal::TooMany,
+    Refusal::GridTooBig,
+    Refusal::BadScratch,
+    Refusal::BadLength,
+];
+
 impl Refusal {
-    /// Document 01's number.
+    /// The number that the call returned.
     pub fn number(self) -> u32 {
-        self as u32
+        match self {
+            Refusal::IllConditioned => 3,
+            Refusal::BadImage => 10,
+            Refusal::BadRadius => 11,
+            Refusal::BadLimit => 12,
+            Refusal::BadRing => 13,
+            Refusal::EmptyRoi => 14,
+            Refusal::BadOut => 15,
+            Refusal::TooMany => 16,
+            Refusal::GridTooBig => 17,
+            Refusal::BadScratch => 18,
+            Refusal::BadLength => 19,
+            Refusal::Other(number) => number,
+        }
     }
 
     fn of(number: u32) -> Refusal {
-        match number {
-            3 => Refusal::IllConditioned,
-            10 => Refusal::BadImage,
-            11 => Refusal::BadRadius,
-            12 => Refusal::BadLimit,
-            13 => Refusal::BadRing,
-            14 => Refusal::EmptyRoi,
-            15 => Refusal::BadOut,
-            16 => Refusal::TooMany,
-            17 => Refusal::GridTooBig,
-            18 => Refusal::BadScratch,
-            19 => Refusal::BadLength,
-            _ => unreachable!("no call answers {number}"),
-        }
+        NAMED
+            .into_iter()
+            .find(|named| named.number() == number)
+            .unwrap_or(Refusal::Other(number))
     }
 }
 
 impl fmt::Display for Refusal {
     fn fmt(&self, f: &mut fmt::Formatter<'_>) -> fmt::Result {
-        write!(f, "{self:?} ({})", self.number())
+        match self {
+            Refusal::Other(number) => write!(f, "Other ({number})"),
+            _ => write!(f, "{self:?} ({})", self.number()),
+        }
     }
 }
 
@@ -453,4 +477,40 @@ pub fn merge(
         )
     };
     done(number, count)
+}
+
+#[cfg(test)]
+mod tests {
+    use super::*;
+
+    #[test]
+    fn named_numbers_go_both_ways() {
+        for refusal in NAMED {
+            assert_eq!(Refusal::of(refusal.number()), refusal);
+        }
+        let numbers: Vec<u32> = (0..=u8::MAX.into())
+            .filter(|&number| !matches!(Refusal::of(number), Refusal::Other(_)))
+            .collect();
+        assert_eq!(numbers, [3, 10, 11, 12, 13, 14, 15, 16, 17, 18, 19]);
+    }
+
+    #[test]
+    fn a_number_without_a_name_is_told() {
+        for number in [1, 2, 4, 9, 20, 35, u32::MAX] {
+            assert_eq!(Refusal::of(number), Refusal::Other(number));
+            assert_eq!(Refusal::of(number).number(), number);
+            assert_eq!(done(number, ()), Err(Refusal::Other(number)));
+        }
+        let told = told(77, [0.0; 3], [0; 3], [0.0; 3]);
+        assert_eq!(told.err(), Some(Refusal::Other(77)));
+        assert_eq!(Refusal::Other(77).to_string(), "Other (77)");
+    }
+
+    /// Through the library: a refusal that it has, and a radius that is none.
+    #[test]
+    fn the_library_refuses_by_name() {
+        assert_eq!(Operator::new(0).err(), Some(Refusal::IllConditioned));
+        assert_eq!(Operator::new(8).err(), Some(Refusal::BadRadius));
+        assert!(Operator::new(2).is_ok());
+    }
 }

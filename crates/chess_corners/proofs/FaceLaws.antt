@@ -18,10 +18,10 @@ use Rattle.peaks.specs.Peak.{Scan}
 use Rattle.peaks.specs.Call as P
 use Rattle.chess_corners.specs.Face.{Responded, Merging, Refining, Scanning, widthAfter, heightAfter, countAfter, recordsAfter, peaksAfter}
 
-pub responded : {img : Image} {ring : List ℤ} {radius : ℕ} {r : Region} {out : List Float} {answer : Response} {out' : List Float} (w h : ℕ) (known : Response)
-    → answer ≡ known → R.Done img ring radius r out answer out' → Responded img ring radius r out w h (R.numberOf known) out' (widthAfter w known) (heightAfter h known)
-responded w h known e d = record {
-  says = ap R.numberOf (sym e ∙ d .answers);
+pub responded : {img : Image} {ring : List ℤ} {radius : ℕ} {r : Region} {out : List Float} {answer : Response} {out' : List Float} (w h : ℕ) (known : Response) (n : ℕ)
+    → n ≡ R.numberOf known → answer ≡ known → R.Done img ring radius r out answer out' → Responded img ring radius r out w h n out' (widthAfter w known) (heightAfter h known)
+responded w h known n q e d = record {
+  says = q ∙ ap R.numberOf (sym e ∙ d .answers);
   leaves = d .leaves;
   width = ap (widthAfter w) (sym e ∙ d .answers);
   height = ap (heightAfter h) (sym e ∙ d .answers);
@@ -37,10 +37,10 @@ merging count known e d = record {
   counts = ap (countAfter count) (sym e ∙ d .answers);
 }
 
-pub refining : {img : Image} {cfg : SaddlePointConfig} {corners out : List Float} {answer : Refinements} {out' : List Float} (count : ℕ) (known : Refinements)
-    → answer ≡ known → L.Done img cfg corners out answer out' → Refining img cfg corners out count (L.numberOf known) out' (recordsAfter count known)
-refining count known e d = record {
-  says = ap L.numberOf (sym e ∙ d .answers);
+pub refining : {img : Image} {cfg : SaddlePointConfig} {corners out : List Float} {answer : Refinements} {out' : List Float} (count : ℕ) (known : Refinements) (n : ℕ)
+    → n ≡ L.numberOf known → answer ≡ known → L.Done img cfg corners out answer out' → Refining img cfg corners out count n out' (recordsAfter count known)
+refining count known n q e d = record {
+  says = q ∙ ap L.numberOf (sym e ∙ d .answers);
   leaves = d .leaves;
   counts = ap (recordsAfter count) (sym e ∙ d .answers);
 }

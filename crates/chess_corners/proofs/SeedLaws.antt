@@ -14,9 +14,9 @@ use Rattle.saddle_point.specs.Refine.{numberOf, valuesOf}
 use Rattle.chess_corners.specs.Seed.{flag, placeAfter, given, stateAfter, entriesAfter, covarianceAfter, Told, Operating}
 
 module _ (x y : Float) (place : List Float) (state : List ℕ) (covariance : List Float) where
-  pub told : (answer known : Refined) → answer ≡ known → Told answer x y place state covariance (numberOf known) (placeAfter place (valuesOf x y known)) (stateAfter state known) (covarianceAfter covariance known)
-  told answer known e = record {
-    says = ap numberOf (sym e);
+  pub told : (answer known : Refined) (n : ℕ) → n ≡ numberOf known → answer ≡ known → Told answer x y place state covariance n (placeAfter place (valuesOf x y known)) (stateAfter state known) (covarianceAfter covariance known)
+  told answer known n q e = record {
+    says = q ∙ ap numberOf (sym e);
     leaves-place = ap (λ (a : Refined). placeAfter place (valuesOf x y a)) (sym e);
     leaves-state = ap (stateAfter state) (sym e);
     leaves-covariance = ap (covarianceAfter covariance) (sym e);

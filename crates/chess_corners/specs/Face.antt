@@ -8,7 +8,8 @@ use lib.ListN.{length}
 use lib.Ieee.{Float}
 use Rattle.imageview.specs.Image.{Image}
 use Rattle.response.specs.declared.Response.{Response}
-use Rattle.response.specs.declared.Response.the-variants.{Written, BadImage, BadRadius, BadRing, EmptyRoi, BadOut}
+use Rattle.response.specs.declared.Response.the-variants as Response
+use Rattle.response.specs.declared.Response.the-variants.{Written}
 use Rattle.response.specs.Region.{Region}
 use Rattle.response.specs.Call as R
 use Rattle.merge.specs.declared.Merge.{Merge}
@@ -17,7 +18,7 @@ use Rattle.merge.specs.Call as M
 use Rattle.saddle_fit.specs.declared.SaddlePointConfig.{SaddlePointConfig}
 use Rattle.detect.specs.declared.Refinements.{Refinements}
 use Rattle.detect.specs.declared.Refinements.the-variants as Refinements
-use Rattle.detect.specs.declared.Refinements.the-variants.{Refined, BadLimit}
+use Rattle.detect.specs.declared.Refinements.the-variants.{Refined}
 use Rattle.detect.specs.Refining as L
 use Rattle.peaks.specs.declared.Peaks.{Peaks}
 use Rattle.peaks.specs.declared.Peaks.the-variants as Peaks
@@ -28,19 +29,11 @@ use Rattle.peaks.specs.Call as P
 -- ---- the response: the clamped width and height
 abbrev pub widthAfter : ℕ → Response → ℕ
 widthAfter old (Written w h) = w
-widthAfter old BadImage = old
-widthAfter old BadRadius = old
-widthAfter old BadRing = old
-widthAfter old EmptyRoi = old
-widthAfter old BadOut = old
+widthAfter old (Response.Refused r) = old
 
 abbrev pub heightAfter : ℕ → Response → ℕ
 heightAfter old (Written w h) = h
-heightAfter old BadImage = old
-heightAfter old BadRadius = old
-heightAfter old BadRing = old
-heightAfter old EmptyRoi = old
-heightAfter old BadOut = old
+heightAfter old (Response.Refused r) = old
 
 pub record Responded (img : Image) (ring : List ℤ) (radius : ℕ) (r : Region) (out : List Float) (w h : ℕ) (number : ℕ) (out' : List Float) (w' h' : ℕ) : Type 0 where
   pub says : number ≡ R.numberOf (R.answerOf (R.wayOf img ring radius r (length out)))
@@ -66,12 +59,7 @@ pub record Merging (list : List Float) (radius : Float) (heads links : List ℕ)
 -- ---- refining a list: the count of records written
 abbrev pub recordsAfter : ℕ → Refinements → ℕ
 recordsAfter old (Refined n) = n
-recordsAfter old Refinements.BadImage = old
-recordsAfter old Refinements.BadRadius = old
-recordsAfter old BadLimit = old
-recordsAfter old Refinements.BadLength = old
-recordsAfter old Refinements.TooMany = old
-recordsAfter old Refinements.BadOut = old
+recordsAfter old (Refinements.Refused r) = old
 
 pub record Refining (img : Image) (cfg : SaddlePointConfig) (corners out : List Float) (count : ℕ) (number : ℕ) (out' : List Float) (count' : ℕ) : Type 0 where
   pub says : number ≡ L.numberOf (L.answerOf (L.wayOf img cfg corners (length out)))

@@ -12,7 +12,7 @@ use Rattle.saddle_fit.specs.declared.Covariance.{Covariance}
 use Rattle.saddle_fit.specs.declared.Covariance.the-variants.{Known, Unknown}
 use Rattle.saddle_point.specs.declared.Estimate.{Estimate}
 use Rattle.saddle_point.specs.declared.Refined.{Refined}
-use Rattle.saddle_point.specs.declared.Refined.the-variants.{Accepted, Rejected, OutOfBounds, IllConditioned, BadImage, BadRadius, BadLimit}
+use Rattle.saddle_point.specs.declared.Refined.the-variants.{Accepted, Unmoved, Refused}
 use Rattle.saddle_point.specs.Refine.{numberOf, Values, nothing, values, valuesOf}
 
 abbrev pub settings : ℕ → Float → Float → Float → SaddlePointConfig
@@ -37,12 +37,8 @@ given Unknown = 0
 -- converged, tries, whether there is a covariance
 abbrev pub stateAfter : List ℕ → Refined → List ℕ
 stateAfter old (Accepted e) = flag (e .converged) ∷ e .tries ∷ given (e .covariance) ∷ []
-stateAfter old (Rejected det) = old
-stateAfter old OutOfBounds = old
-stateAfter old (IllConditioned det) = old
-stateAfter old BadImage = old
-stateAfter old BadRadius = old
-stateAfter old BadLimit = old
+stateAfter old (Unmoved why score) = old
+stateAfter old (Refused r) = old
 
 -- xx, xy and yy, where there is one
 abbrev pub entriesAfter : List Float → Covariance → List Float
@@ -51,12 +47,8 @@ entriesAfter old Unknown = old
 
 abbrev pub covarianceAfter : List Float → Refined → List Float
 covarianceAfter old (Accepted e) = entriesAfter old (e .covariance)
-covarianceAfter old (Rejected det) = old
-covarianceAfter old OutOfBounds = old
-covarianceAfter old (IllConditioned det) = old
-covarianceAfter old BadImage = old
-covarianceAfter old BadRadius = old
-covarianceAfter old BadLimit = old
+covarianceAfter old (Unmoved why score) = old
+covarianceAfter old (Refused r) = old
 
 -- what is told of a seed's answer
 pub record Told (answer : Refined) (x y : Float) (place : List Float) (state : List ℕ) (covariance : List Float) (number : ℕ) (place' : List Float) (state' : List ℕ) (covariance' : List Float) : Type 0 where

@@ -3,11 +3,13 @@
 mod seed;
 
 use detect::Refinements;
+use imageview::Sizes;
 use merge::Merge;
 use peaks::Peaks;
 use response::Response;
 use response::Roi;
 use saddle_fit::SaddlePointConfig;
+ghost use Rattle.imageview.specs.Image.{imageOf, sizesOf};
 ghost use Rattle.response.specs.Call.{regionOf};
 ghost use Rattle.chess_corners.specs.Face.{Responded, Merging, Refining, Scanning};
 ghost use Rattle.chess_corners.specs.Seed.{settings};
@@ -28,12 +30,11 @@ pub extern "C" fn chess_corners_response(
     out_width: &mut usize,
     out_height: &mut usize,
 ) -> u32
-    ensures { λ r. ⌜ Responded (record { samples = now (img .entry); width = width; height = height }) (now (ring .entry)) radius (record { x0 = x0; y0 = y0; x1 = x1; y1 = y1 }) (now (out .entry)) (now («out_width» .entry)) (now («out_height» .entry)) r (now (out .exit)) (now («out_width» .exit)) (now («out_height» .exit)) ⌝ }
+    ensures { λ r. ⌜ Responded (imageOf (now (img .entry)) (sizesOf width height)) (now (ring .entry)) radius (record { x0 = x0; y0 = y0; x1 = x1; y1 = y1 }) (now (out .entry)) (now («out_width» .entry)) (now («out_height» .entry)) r (now (out .exit)) (now («out_width» .exit)) (now («out_height» .exit)) ⌝ }
 {
     let answer = response::chess_response_u8_patch(
         img,
-        width,
-        height,
+        Sizes { width, height },
         ring,
         radius,
         Roi { x0, y0, x1, y1 },
@@ -45,11 +46,7 @@ pub extern "C" fn chess_corners_response(
             *out_height = height;
             0
         }
-        Response::BadImage => 10,
-        Response::BadRadius => 11,
-        Response::BadRing => 13,
-        Response::EmptyRoi => 14,
-        Response::BadOut => 15,
+        Response::Refused(refusal) => refusals::number(refusal),
     }
 }
 
@@ -131,7 +128,7 @@ pub extern "C" fn chess_corners_refine_list(
     out: &mut [f32],
     count: &mut usize,
 ) -> u32
-    ensures { λ r. ⌜ Refining (record { samples = now (img .entry); width = width; height = height }) (settings radius «det_margin» «max_offset» «min_abs_det») (now (corners .entry)) (now (out .entry)) (now (count .entry)) r (now (out .exit)) (now (count .exit)) ⌝ }
+    ensures { λ r. ⌜ Refining (imageOf (now (img .entry)) (sizesOf width height)) (settings radius «det_margin» «max_offset» «min_abs_det») (now (corners .entry)) (now (out .entry)) (now (count .entry)) r (now (out .exit)) (now (count .exit)) ⌝ }
 {
     let cfg = SaddlePointConfig {
         radius,
@@ -139,17 +136,12 @@ pub extern "C" fn chess_corners_refine_list(
         max_offset,
         min_abs_det,
     };
-    let answer = detect::refine_corners_on_image(img, width, height, cfg, corners, out);
+    let answer = detect::refine_corners_on_image(img, Sizes { width, height }, cfg, corners, out);
     match answer {
         Refinements::Refined(accepted) => {
             *count = accepted;
             0
         }
-        Refinements::BadImage => 10,
-        Refinements::BadRadius => 11,
-        Refinements::BadLimit => 12,
-        Refinements::BadLength => 19,
-        Refinements::TooMany => 16,
-        Refinements::BadOut => 15,
+        Refinements::Refused(refusal) => refusals::number(refusal),
     }
 }

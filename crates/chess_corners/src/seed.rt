@@ -1,11 +1,12 @@
 // The refiner of one seed, and the operator that serves many.
 use fit_operator::Operator;
+use imageview::Sizes;
 use saddle_fit::Covariance;
 use saddle_fit::SaddlePointConfig;
 use saddle_point::Estimate;
 use saddle_point::Refined;
 ghost use mathlib.Core.Path.{_≡_};
-ghost use Rattle.imageview.specs.Image.{imageOf};
+ghost use Rattle.imageview.specs.Image.{imageOf, sizesOf};
 ghost use Rattle.saddle_point.specs.Refine.{refineLent, refineOf};
 ghost use Rattle.saddle_point.specs.declared.Refined.the-variants.{Accepted};
 ghost use Rattle.chess_corners.specs.Seed.{settings, asked, flag, Told, Operating};
@@ -27,7 +28,7 @@ pub extern "C" fn chess_corners_refine(
     state: &mut [u32; 3],
     covariance: &mut [f32; 3],
 ) -> u32
-    ensures { λ r. ⌜ Told (refineOf (imageOf (now (img .entry)) width height) (settings radius «det_margin» «max_offset» «min_abs_det») x y (asked wanted)) x y (now (place .entry)) (now (state .entry)) (now (covariance .entry)) r (now (place .exit)) (now (state .exit)) (now (covariance .exit)) ⌝ }
+    ensures { λ r. ⌜ Told (refineOf (imageOf (now (img .entry)) (sizesOf width height)) (settings radius «det_margin» «max_offset» «min_abs_det») x y (asked wanted)) x y (now (place .entry)) (now (state .entry)) (now (covariance .entry)) r (now (place .exit)) (now (state .exit)) (now (covariance .exit)) ⌝ }
 {
     let cfg = SaddlePointConfig {
         radius,
@@ -35,7 +36,7 @@ pub extern "C" fn chess_corners_refine(
         max_offset,
         min_abs_det,
     };
-    let answer = saddle_point::refine(img, width, height, cfg, x, y, wanted != 0);
+    let answer = saddle_point::refine(img, Sizes { width, height }, cfg, x, y, wanted != 0);
     tell(answer, x, y, place, state, covariance)
 }
 
@@ -58,7 +59,7 @@ pub extern "C" fn chess_corners_refine_with(
     state: &mut [u32; 3],
     covariance: &mut [f32; 3],
 ) -> u32
-    ensures { λ r. ⌜ Told (refineLent (imageOf (now (img .entry)) width height) (settings radius «det_margin» «max_offset» «min_abs_det») x y (asked wanted) (now (columns .entry)) (now (overlap .entry))) x y (now (place .entry)) (now (state .entry)) (now (covariance .entry)) r (now (place .exit)) (now (state .exit)) (now (covariance .exit)) ⌝ }
+    ensures { λ r. ⌜ Told (refineLent (imageOf (now (img .entry)) (sizesOf width height)) (settings radius «det_margin» «max_offset» «min_abs_det») x y (asked wanted) (now (columns .entry)) (now (overlap .entry))) x y (now (place .entry)) (now (state .entry)) (now (covariance .entry)) r (now (place .exit)) (now (state .exit)) (now (covariance .exit)) ⌝ }
 {
     let cfg = SaddlePointConfig {
         radius,
@@ -68,8 +69,7 @@ pub extern "C" fn chess_corners_refine_with(
     };
     let answer = saddle_point::refine_with(
         img,
-        width,
-        height,
+        Sizes { width, height },
         cfg,
         x,
         y,
@@ -109,21 +109,11 @@ fn tell(
 {
     match answer {
         Refined::Accepted(e) => tell_estimate(e, x, y, place, state, covariance),
-        Refined::Rejected(det) => {
-            *place = [x, y, det];
-            1
+        Refined::Unmoved(why, score) => {
+            *place = [x, y, score];
+            saddle_point::why_number(why)
         }
-        Refined::OutOfBounds => {
-            *place = [x, y, 0.0];
-            2
-        }
-        Refined::IllConditioned(det) => {
-            *place = [x, y, det];
-            3
-        }
-        Refined::BadImage => 10,
-        Refined::BadRadius => 11,
-        Refined::BadLimit => 12,
+        Refined::Refused(refusal) => refusals::number(refusal),
     }
 }
 

@@ -12,7 +12,9 @@ use Rattle.imageview.specs.Image.{Image, isImage}
 use Rattle.saddle_fit.specs.declared.SaddlePointConfig.{SaddlePointConfig}
 use Rattle.saddle_point.specs.Refine.{goodLimits}
 use Rattle.detect.specs.declared.Refinements.{Refinements}
-use Rattle.detect.specs.declared.Refinements.the-variants.{Refined, BadImage, BadRadius, BadLimit, BadLength, TooMany, BadOut}
+use Rattle.detect.specs.declared.Refinements.the-variants.{Refined, Refused}
+use Rattle.refusals.specs.declared.Refusal.{Refusal}
+use Rattle.refusals.specs.declared.Refusal.the-variants.{BadImage, BadRadius, BadLimit, BadLength, TooMany, BadOut}
 use Rattle.detect.specs.Refining.{recordsOf, Way, refused, wrote, wayOf, answerOf, outAfter, Done}
 use Rattle.detect.specs.Steps.{Filled}
 
@@ -44,7 +46,7 @@ module _ (img : Image) (cfg : SaddlePointConfig) (corners out : List Float) wher
   abbrev way : Way
   way = wayOf img cfg corners (length out)
 
-  refuses : (r : Refinements) → way ≡ refused r → Done img cfg corners out r out
+  refuses : (r : Refusal) → way ≡ refused r → Done img cfg corners out (Refused r) out
   refuses r e = record { answers = sym (ap answerOf e); leaves = sym (ap (outAfter out) e) }
 
   -- ---- test by test
@@ -56,39 +58,39 @@ module _ (img : Image) (cfg : SaddlePointConfig) (corners out : List Float) wher
   unfolding wayOf
   first-yes h = goes (not (isImage img)) (refused BadImage) second (ap not h)
 
-  pub bad-image : isImage img ≡ false → Done img cfg corners out BadImage out
+  pub bad-image : isImage img ≡ false → Done img cfg corners out (Refused BadImage) out
   bad-image h = refuses BadImage (first-no h)
 
   module _ (i : isImage img ≡ true) where
-    pub bad-radius : 7 < cfg .radius → Done img cfg corners out BadRadius out
+    pub bad-radius : 7 < cfg .radius → Done img cfg corners out (Refused BadRadius) out
     bad-radius h = refuses BadRadius (first-yes i ∙ stops (not (leb (cfg .radius) 7)) (refused BadRadius) third (ap not (lt-leb (cfg .radius) 7 h)))
 
     module _ (r : cfg .radius ≤ 7) where
       to-third : way ≡ third
       to-third = first-yes i ∙ goes (not (leb (cfg .radius) 7)) (refused BadRadius) third (ap not (le-leb (cfg .radius) 7 r))
 
-      pub bad-limit : goodLimits cfg ≡ false → Done img cfg corners out BadLimit out
+      pub bad-limit : goodLimits cfg ≡ false → Done img cfg corners out (Refused BadLimit) out
       bad-limit h = refuses BadLimit (to-third ∙ stops (not (goodLimits cfg)) (refused BadLimit) fourth (ap not h))
 
       module _ (l : goodLimits cfg ≡ true) where
         to-fourth : way ≡ fourth
         to-fourth = to-third ∙ goes (not (goodLimits cfg)) (refused BadLimit) fourth (ap not l)
 
-        pub bad-length : whole (length corners) ≡ false → Done img cfg corners out BadLength out
+        pub bad-length : whole (length corners) ≡ false → Done img cfg corners out (Refused BadLength) out
         bad-length h = refuses BadLength (to-fourth ∙ stops (not (whole (length corners))) (refused BadLength) fifth (ap not h))
 
         module _ (w : whole (length corners) ≡ true) where
           to-fifth : way ≡ fifth
           to-fifth = to-fourth ∙ goes (not (whole (length corners))) (refused BadLength) fifth (ap not w)
 
-          pub too-many : tooMany (length corners) ≡ true → Done img cfg corners out TooMany out
+          pub too-many : tooMany (length corners) ≡ true → Done img cfg corners out (Refused TooMany) out
           too-many h = refuses TooMany (to-fifth ∙ stops (tooMany (length corners)) (refused TooMany) sixth h)
 
           module _ (f : tooMany (length corners) ≡ false) where
             to-sixth : way ≡ sixth
             to-sixth = to-fifth ∙ goes (tooMany (length corners)) (refused TooMany) sixth f
 
-            pub bad-out : length out < length corners → Done img cfg corners out BadOut out
+            pub bad-out : length out < length corners → Done img cfg corners out (Refused BadOut) out
             bad-out h = refuses BadOut (to-sixth ∙ stops (ltb (length out) (length corners)) (refused BadOut) last (lt-ltb (length out) (length corners) h))
 
             pub refined : length corners ≤ length out → (n : ℕ) (out' : List Float) → Filled img cfg corners out n out' → Done img cfg corners out (Refined (n / 3)) out'

@@ -9,6 +9,9 @@ use lib.ListN.{length, drop}
 use lib.Ieee.{Float}
 use Rattle.shapes.specs.Numbers.{entry}
 use Rattle.corners.specs.Corners.{whole, tooMany}
+use Rattle.refusals.specs.declared.Refusal.{Refusal}
+use Rattle.refusals.specs.declared.Refusal.the-variants.{BadImage, BadRadius, BadLimit, BadLength, TooMany, BadOut}
+use Rattle.refusals.specs.Numbers as Refusals
 use Rattle.imageview.specs.Image.{Image, isImage}
 use Rattle.saddle_fit.specs.declared.SaddlePointConfig.{SaddlePointConfig}
 use Rattle.saddle_point.specs.declared.Spot.{Spot}
@@ -16,17 +19,12 @@ use Rattle.saddle_point.specs.declared.Spot.the-variants.{At, Nowhere}
 use Rattle.saddle_point.specs.Refine.{goodLimits, refineOf}
 use Rattle.saddle_point.specs.Spot.{spotOf}
 use Rattle.detect.specs.declared.Refinements.{Refinements}
-use Rattle.detect.specs.declared.Refinements.the-variants.{Refined, BadImage, BadRadius, BadLimit, BadLength, TooMany, BadOut}
+use Rattle.detect.specs.declared.Refinements.the-variants.{Refined, Refused}
 
--- document 01's number of each case; 0 is done
+-- the number of each case; 0 is done
 abbrev pub numberOf : Refinements → ℕ
 numberOf (Refined n) = 0
-numberOf BadImage = 10
-numberOf BadRadius = 11
-numberOf BadLimit = 12
-numberOf BadLength = 19
-numberOf TooMany = 16
-numberOf BadOut = 15
+numberOf (Refused r) = Refusals.numberOf r
 
 -- what is written of a seed: where it was refined to and its own strength, if it was accepted
 abbrev pub recordOf : Spot → Float → List Float
@@ -45,7 +43,7 @@ recordsOf img cfg corners zero = []
 recordsOf img cfg corners (suc n) = recordsOf img cfg corners n ++ recordOf (spotFor img cfg corners n) (entry corners (3 * n + 2))
 
 pub data Way : Type 0 where
-  refused : Refinements → Way
+  refused : Refusal → Way
   wrote : List Float → Way
 
 -- room is the output's length
@@ -62,7 +60,7 @@ wayOf img cfg corners room =
 
 -- a record is three numbers
 abbrev pub answerOf : Way → Refinements
-answerOf (refused r) = r
+answerOf (refused r) = Refused r
 answerOf (wrote l) = Refined (length l / 3)
 
 abbrev pub outAfter : List Float → Way → List Float

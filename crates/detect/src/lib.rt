@@ -4,48 +4,44 @@ mod list;
 ghost use mathlib.Core.Path.{_≡_};
 ghost use Rattle.imageview.specs.Image.{imageOf};
 ghost use Rattle.detect.specs.Refining.{Done};
+use imageview::Sizes;
+use refusals::Refusal;
 use saddle_fit::SaddlePointConfig;
 
-// How the call ended, by document 01's names.
+// How the call ended.
 pub enum Refinements {
     Refined(usize),
-    BadImage,
-    BadRadius,
-    BadLimit,
-    BadLength,
-    TooMany,
-    BadOut,
+    Refused(Refusal),
 }
 
 // Refines the corners, x, y and strength of each, and writes those that are accepted, in input order with their own strength.
 pub fn refine_corners_on_image(
     img: &[u8],
-    width: usize,
-    height: usize,
+    sizes: Sizes,
     cfg: SaddlePointConfig,
     corners: &[f32],
     out: &mut [f32],
 ) -> Refinements
-    ensures { λ r. ⌜ Done (imageOf (now (img .entry)) width height) cfg (now (corners .entry)) (now (out .entry)) r (now (out .exit)) ⌝ }
+    ensures { λ r. ⌜ Done (imageOf (now (img .entry)) sizes) cfg (now (corners .entry)) (now (out .entry)) r (now (out .exit)) ⌝ }
 {
-    if !imageview::is_image(img, width, height) {
-        return Refinements::BadImage;
+    if !imageview::is_image(img, sizes) {
+        return Refinements::Refused(Refusal::BadImage);
     }
     if 7 < cfg.radius {
-        return Refinements::BadRadius;
+        return Refinements::Refused(Refusal::BadRadius);
     }
     if !saddle_point::good_limits(cfg) {
-        return Refinements::BadLimit;
+        return Refinements::Refused(Refusal::BadLimit);
     }
     let len = corners.len();
     if !corners::is_whole(len) {
-        return Refinements::BadLength;
+        return Refinements::Refused(Refusal::BadLength);
     }
     if corners::too_many(len) {
-        return Refinements::TooMany;
+        return Refinements::Refused(Refusal::TooMany);
     }
     if out.len() < len {
-        return Refinements::BadOut;
+        return Refinements::Refused(Refusal::BadOut);
     }
-    Refinements::Refined(list::refine_list(img, width, height, cfg, corners, out) / 3)
+    Refinements::Refined(list::refine_list(img, sizes, cfg, corners, out) / 3)
 }

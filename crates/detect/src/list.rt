@@ -9,26 +9,26 @@ ghost use Rattle.detect.specs.Refining.{recordOf};
 ghost use Rattle.detect.specs.Steps.{Front, Filled, Usable};
 use corners::Corner;
 use fit_operator::Operator;
+use imageview::Sizes;
 use saddle_fit::SaddlePointConfig;
 use saddle_point::Spot;
 
 // How many numbers were written. Without an operator no seed is accepted.
 pub fn refine_list(
     img: &[u8],
-    width: usize,
-    height: usize,
+    sizes: Sizes,
     cfg: SaddlePointConfig,
     corners: &[f32],
     out: &mut [f32],
 ) -> usize
     requires { ⌜ length (now corners) ≤ length (now out) ⌝ }
-    ensures { λ n. ⌜ Filled (imageOf (now (img .entry)) width height) cfg (now (corners .entry)) (now (out .entry)) n (now (out .exit)) ⌝ }
+    ensures { λ n. ⌜ Filled (imageOf (now (img .entry)) sizes) cfg (now (corners .entry)) (now (out .entry)) n (now (out .exit)) ⌝ }
 {
     let mut columns = [0.0f32; 1125];
     let mut overlap = [0.0f32; 225];
     let operator = fit_operator::fit_operator(cfg.radius, &mut columns, &mut overlap);
     match operator {
-        Operator::Built => refine_all(img, width, height, cfg, &columns, corners, out),
+        Operator::Built => refine_all(img, sizes, cfg, &columns, corners, out),
         Operator::Singular => 0,
         Operator::BadRadius => 0,
     }
@@ -37,15 +37,14 @@ pub fn refine_list(
 // All seeds in order.
 fn refine_all(
     img: &[u8],
-    width: usize,
-    height: usize,
+    sizes: Sizes,
     cfg: SaddlePointConfig,
     columns: &[f32; 1125],
     corners: &[f32],
     out: &mut [f32],
 ) -> usize
     requires { ⌜ length (now corners) ≤ length (now out) ⌝ ∗ ⌜ Usable cfg (now columns) ⌝ }
-    ensures { λ n. ⌜ Filled (imageOf (now (img .entry)) width height) cfg (now (corners .entry)) (now (out .entry)) n (now (out .exit)) ⌝ }
+    ensures { λ n. ⌜ Filled (imageOf (now (img .entry)) sizes) cfg (now (corners .entry)) (now (out .entry)) n (now (out .exit)) ⌝ }
 {
     let n = corners.len() / 3;
     let mut written = 0;
@@ -53,8 +52,7 @@ fn refine_all(
     while i < n {
         let spot = saddle_point::spot_with(
             img,
-            width,
-            height,
+            sizes,
             cfg,
             corners[3 * i],
             corners[3 * i + 1],

@@ -6,11 +6,12 @@ use Prim.Native.Nat.{ℕ, zero, suc, _+_, _-_, _*_, _/_, _%_, _≤_, _<_}
 use native.Mathlib.Nat.{eq-or-lt-of-le, le-of-suc-le-suc, add-zero}
 use native.Mathlib.Omega.{arith}
 use mathlib.Core.Bool.{Bool, true, false, _&&_, cond}
-use lib.Dec.{leb, ltb, eqb}
+use lib.Dec.{T, leb, ltb, eqb, leb→le}
+use lib.Ieee.Fits.{and-l, and-r}
 use lib.IntN.{pos}
-use borrow.Author.Tests.{eqb-true, eqb-false, le-leb, lt-leb, lt-ltb, le-ltb}
-use Rattle.shapes.specs.Lists.{tabulated}
+use borrow.Author.Tests.{eqb-true, eqb-false, leb-false, ltb-true, ltb-false, le-leb, lt-leb, lt-ltb, le-ltb}
 use Rattle.shapes.specs.Numbers.{entry}
+use Rattle.shapes.specs.Lists.{tabulated}
 use Rattle.saddle_fit.specs.declared.Corners.{Corners}
 use Rattle.saddle_fit.specs.Between.{Fits, lacking, four, fits4, cornersAt}
 use lib.ListN.{length, getD, set, length-set}
@@ -22,10 +23,10 @@ use Rattle.fit_cache.specs.declared.Looked.{Looked}
 use Rattle.fit_cache.specs.declared.Around.{Around}
 use Rattle.imageview.specs.Patch.{inside, supportsPatch}
 use Rattle.imageview.proofs.PatchLaws.{before}
-use Rattle.fit_cache.specs.Adding.{Sound, Within, Room}
+use Rattle.fit_cache.specs.Adding.{Sound, PatchWithin, FourWithin, hasRoom}
 use Rattle.saddle_fit.proofs.Choice.{and-both, and-first, and-second}
 use Rattle.saddle_fit.specs.Fit.{Fit, noFit, fitted, fitAt, coefficients}
-use Rattle.fit_cache.specs.Cache.{fitIn, centreX, centreY, named, filled, Sized, Kept, Slot, Counted, Found, fitsOf, Surrounds}
+use Rattle.fit_cache.specs.Cache.{fitIn, centreX, centreY, named, filled, Shaped, Kept, Slot, Counted, Found, fitsOf, Surrounds}
 
 -- ---- the count
 pub count-again : (len : ℕ) → len ≡ 17 → Counted len 9
@@ -117,7 +118,7 @@ abbrev fiveOf : List Float → List Float
 fiveOf l = entry l 0 ∷ entry l 1 ∷ entry l 2 ∷ entry l 3 ∷ entry l 4 ∷ []
 
 pub record Stored (fits : IntegerFits) (x y : ℕ) (coefs : List Float) (r : IntegerFits) : Type 0 where
-  pub sized : Sized r
+  pub sized : Shaped r
   pub used : (slot : ℕ) → slot < 9 → slot < r .len → (slot < fits .len) ⊎ (slot ≡ fits .len % 9)
   pub fit : fitIn (r .coefs) (fits .len % 9) ≡ fiveOf coefs
   pub at-x : centreX (r .centres) (fits .len % 9) ≡ x
@@ -133,7 +134,7 @@ pub record Stored (fits : IntegerFits) (x y : ℕ) (coefs : List Float) (r : Int
 abbrev holding : IntegerFits → List ℕ → List Float → ℕ → IntegerFits
 holding fits centres coefs len = record { centres = centres; coefs = coefs; len = len; corners = fits .corners; «base_x» = fits .«base_x»; «base_y» = fits .«base_y» }
 
-put-in : (fits : IntegerFits) (x y len : ℕ) (coefs : List Float) → Sized fits → Counted (fits .len) len → Stored fits x y coefs (holding fits (named (fits .centres) (fits .len % 9) x y) (filled (fits .coefs) (fits .len % 9) coefs) len)
+put-in : (fits : IntegerFits) (x y len : ℕ) (coefs : List Float) → Shaped fits → Counted (fits .len) len → Stored fits x y coefs (holding fits (named (fits .centres) (fits .len % 9) x y) (filled (fits .coefs) (fits .len % 9) coefs) len)
 put-in fits x y len coefs z n =
     let s = fits .len % 9 in
     let l = fits .coefs in
@@ -174,7 +175,7 @@ put-in fits x y len coefs z n =
     half-2 : (slot s : ℕ) → (2 * slot + 1) / 2 ≡ s → slot ≡ s
     half-2 slot s q = omega arith
 
-pub stored : (fits : IntegerFits) (x y len : ℕ) (coefs : List Float) (centres' : List ℕ) (coefs' : List Float) → Sized fits → Counted (fits .len) len → centres' ≡ named (fits .centres) (fits .len % 9) x y → coefs' ≡ filled (fits .coefs) (fits .len % 9) coefs → Stored fits x y coefs (holding fits centres' coefs' len)
+pub stored : (fits : IntegerFits) (x y len : ℕ) (coefs : List Float) (centres' : List ℕ) (coefs' : List Float) → Shaped fits → Counted (fits .len) len → centres' ≡ named (fits .centres) (fits .len % 9) x y → coefs' ≡ filled (fits .coefs) (fits .len % 9) coefs → Stored fits x y coefs (holding fits centres' coefs' len)
 stored fits x y len coefs centres' coefs' z n p q =
     subst (λ (v : List ℕ). Stored fits x y coefs (holding fits v coefs' len)) (sym p)
     (subst (λ (w : List Float). Stored fits x y coefs (holding fits (named (fits .centres) (fits .len % 9) x y) w len)) (sym q) (put-in fits x y len coefs z n))
@@ -218,7 +219,7 @@ kept-stored img columns radius x y coefs fits r k e s =
     kept-about c c' u u' v v' p q w h l = ap (λ (n : ℕ). cornersAt img columns radius (pos n) (pos v')) q ∙ ap (λ (n : ℕ). cornersAt img columns radius (pos u) (pos n)) w ∙ h (subst (λ (n : ℕ). n < 8192) q l) ∙ ap four (sym p)
 
 -- ---- the four fits about a base
-pub there : (img : Image) (columns : List Float) (radius x y : ℕ) → Within img radius x y → fitAt img columns radius (pos x) (pos y) ≡ fitted (coefficients img columns radius x y)
+pub there : (img : Image) (columns : List Float) (radius x y : ℕ) → PatchWithin img radius x y → fitAt img columns radius (pos x) (pos y) ≡ fitted (coefficients img columns radius x y)
 unfolding fitAt supportsPatch
 there img columns radius x y w =
     let f = fitted (coefficients img columns radius x y) in
@@ -263,19 +264,19 @@ behind radius n c h = ap (λ (b : Bool). leb radius c && b) (le-ltb (c + radius)
     never true = refl
     never false = refl
 
-pub room00 : {img : Image} {radius x y : ℕ} → Room img radius x y → Within img radius x y
+pub room00 : {img : Image} {radius x y : ℕ} → FourWithin img radius x y → PatchWithin img radius x y
 room00 w = record { sound = w .sound; left = w .left; right = omega (arith, w .right); above = w .above; below = omega (arith, w .below) }
 
-pub room10 : {img : Image} {radius x y : ℕ} → Room img radius x y → Within img radius (x + 1) y
+pub room10 : {img : Image} {radius x y : ℕ} → FourWithin img radius x y → PatchWithin img radius (x + 1) y
 room10 w = record { sound = w .sound; left = omega (arith, w .left); right = w .right; above = w .above; below = omega (arith, w .below) }
 
-pub room01 : {img : Image} {radius x y : ℕ} → Room img radius x y → Within img radius x (y + 1)
+pub room01 : {img : Image} {radius x y : ℕ} → FourWithin img radius x y → PatchWithin img radius x (y + 1)
 room01 w = record { sound = w .sound; left = w .left; right = omega (arith, w .right); above = omega (arith, w .above); below = w .below }
 
-pub room11 : {img : Image} {radius x y : ℕ} → Room img radius x y → Within img radius (x + 1) (y + 1)
+pub room11 : {img : Image} {radius x y : ℕ} → FourWithin img radius x y → PatchWithin img radius (x + 1) (y + 1)
 room11 w = record { sound = w .sound; left = omega (arith, w .left); right = w .right; above = omega (arith, w .above); below = w .below }
 
-pub room-at : {img : Image} {radius x y : ℕ} (k : ℕ) → Room img radius x y → k < 4 → Within img radius (x + k % 2) (y + k / 2)
+pub room-at : {img : Image} {radius x y : ℕ} (k : ℕ) → FourWithin img radius x y → k < 4 → PatchWithin img radius (x + k % 2) (y + k / 2)
 room-at k w h = record { sound = w .sound; left = omega (arith, w .left); right = omega (arith, w .right); above = omega (arith, w .above); below = omega (arith, w .below) }
 
 -- the four, by one of them
@@ -296,7 +297,42 @@ module _ (img : Image) (columns : List Float) (radius x y : ℕ) where
   unfolding cornersAt
   lacks-below h = none-third (fitAt img columns radius (pos x) (pos y)) (fitAt img columns radius (pos (x + 1)) (pos y)) (fitAt img columns radius (pos x) (pos (y + 1))) (fitAt img columns radius (pos (x + 1)) (pos (y + 1))) (away-y img columns radius x (y + 1) (behind radius (img .height) (y + 1) h))
 
-  pub has-four : Room img radius x y → cornersAt img columns radius (pos x) (pos y) ≡ four (record { c00 = coefficients img columns radius x y; c10 = coefficients img columns radius (x + 1) y; c01 = coefficients img columns radius x (y + 1); c11 = coefficients img columns radius (x + 1) (y + 1) })
+  pub lacks : hasRoom radius x y (img .width) (img .height) ≡ false → cornersAt img columns radius (pos x) (pos y) ≡ lacking
+  lacks e = by (leb radius x) (ltb (x + 1 + radius) (img .width)) (leb radius y) (ltb (y + 1 + radius) (img .height)) refl refl refl refl e
+    where
+      by : (a b c d : Bool) → leb radius x ≡ a → ltb (x + 1 + radius) (img .width) ≡ b → leb radius y ≡ c → ltb (y + 1 + radius) (img .height) ≡ d → (a && b && c && d) ≡ false → cornersAt img columns radius (pos x) (pos y) ≡ lacking
+      by false b c d p q r s h = lacks-left (leb-false radius x p)
+      by true false c d p q r s h = lacks-right (ltb-false (x + 1 + radius) (img .width) q)
+      by true true false d p q r s h = lacks-above (leb-false radius y r)
+      by true true true false p q r s h = lacks-below (ltb-false (y + 1 + radius) (img .height) s)
+      by true true true true p q r s h = absurd (subst never (sym h) tt)
+        where
+          never : Bool → Type 0
+          never true = ⊥
+          never false = Unit
+
+  pub roomy : Sound img radius → hasRoom radius x y (img .width) (img .height) ≡ true → FourWithin img radius x y
+  roomy s e =
+      let a = leb radius x in
+      let b = ltb (x + 1 + radius) (img .width) in
+      let c = leb radius y in
+      let d = ltb (y + 1 + radius) (img .height) in
+      let all : T (a && b && c && d) = subst T (sym e) tt in
+      let abc : T (a && b && c) = and-l (a && b && c) d all in
+      let ab : T (a && b) = and-l (a && b) c abc in
+      record {
+        sound = s;
+        left = leb→le radius x (and-l a b ab);
+        right = ltb-true (x + 1 + radius) (img .width) (is-true b (and-r a b ab));
+        above = leb→le radius y (and-r (a && b) c abc);
+        below = ltb-true (y + 1 + radius) (img .height) (is-true d (and-r (a && b && c) d all));
+      }
+    where
+      is-true : (b : Bool) → T b → b ≡ true
+      is-true true t = refl
+      is-true false t = absurd t
+
+  pub has-four : FourWithin img radius x y → cornersAt img columns radius (pos x) (pos y) ≡ four (record { c00 = coefficients img columns radius x y; c10 = coefficients img columns radius (x + 1) y; c01 = coefficients img columns radius x (y + 1); c11 = coefficients img columns radius (x + 1) (y + 1) })
   unfolding cornersAt
   has-four w =
       ap (λ (f : Fit). fits4 f (fitAt img columns radius (pos (x + 1)) (pos y)) (fitAt img columns radius (pos x) (pos (y + 1))) (fitAt img columns radius (pos (x + 1)) (pos (y + 1)))) (there img columns radius x y (room00 w))
@@ -305,7 +341,7 @@ module _ (img : Image) (columns : List Float) (radius x y : ℕ) where
       ∙ ap (λ (f : Fit). fits4 (fitted (coefficients img columns radius x y)) (fitted (coefficients img columns radius (x + 1) y)) (fitted (coefficients img columns radius x (y + 1))) f) (there img columns radius (x + 1) (y + 1) (room11 w))
 
   -- the fits that were looked up, as the new corners
-  pub looked : (c00 c10 c01 c11 : List Float) (fits : IntegerFits) → Room img radius x y → c00 ≡ coefficients img columns radius x y → c10 ≡ coefficients img columns radius (x + 1) y → c01 ≡ coefficients img columns radius x (y + 1) → c11 ≡ coefficients img columns radius (x + 1) (y + 1) → Kept img columns radius fits → Surrounds img columns radius x y (record { found = true; fits = record { centres = fits .centres; coefs = fits .coefs; len = fits .len; corners = record { c00 = c00; c10 = c10; c01 = c01; c11 = c11 }; «base_x» = x; «base_y» = y } })
+  pub looked : (c00 c10 c01 c11 : List Float) (fits : IntegerFits) → FourWithin img radius x y → c00 ≡ coefficients img columns radius x y → c10 ≡ coefficients img columns radius (x + 1) y → c01 ≡ coefficients img columns radius x (y + 1) → c11 ≡ coefficients img columns radius (x + 1) (y + 1) → Kept img columns radius fits → Surrounds img columns radius x y (record { found = true; fits = record { centres = fits .centres; coefs = fits .coefs; len = fits .len; corners = record { c00 = c00; c10 = c10; c01 = c01; c11 = c11 }; «base_x» = x; «base_y» = y } })
   looked c00 c10 c01 c11 fits w a b c d k =
       let e : cornersAt img columns radius (pos x) (pos y) ≡ four (record { c00 = c00; c10 = c10; c01 = c01; c11 = c11 }) =
       has-four w
@@ -345,7 +381,7 @@ module _ (img : Image) (columns : List Float) (radius x y : ℕ) where
         fourth = λ j q. e ∙ ap about (let r : k ≡ j = omega arith in r);
       }
 
-  pub look-last : (fits : IntegerFits) (c00 c10 c01 c11 : List Float) (k : ℕ) → Room img radius x y → Looking fits c00 c10 c01 c11 k → 4 ≤ k → Surrounds img columns radius x y (record { found = true; fits = record { centres = fits .centres; coefs = fits .coefs; len = fits .len; corners = record { c00 = c00; c10 = c10; c01 = c01; c11 = c11 }; «base_x» = x; «base_y» = y } })
+  pub look-last : (fits : IntegerFits) (c00 c10 c01 c11 : List Float) (k : ℕ) → FourWithin img radius x y → Looking fits c00 c10 c01 c11 k → 4 ≤ k → Surrounds img columns radius x y (record { found = true; fits = record { centres = fits .centres; coefs = fits .coefs; len = fits .len; corners = record { c00 = c00; c10 = c10; c01 = c01; c11 = c11 }; «base_x» = x; «base_y» = y } })
   look-last fits c00 c10 c01 c11 k w l h =
       looked c00 c10 c01 c11 fits w
       (l .first 0 (let r : k ≡ 0 + 4 = omega (arith, l .most) in r) ∙ ap (λ (u : ℕ). coefficients img columns radius u (y + 0)) (add-zero x) ∙ ap (λ (v : ℕ). coefficients img columns radius x v) (add-zero y))

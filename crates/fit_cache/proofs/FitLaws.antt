@@ -10,16 +10,16 @@ use lib.IntN.{pos}
 use lib.ListN.{length, getD, take, drop, length-drop}
 use lib.Seq.{getD-take, getD-drop, length-take-le}
 use lib.Ieee.{Float, binary32, ofInt}
-use Rattle.shapes.specs.Lists.{tabulated}
 use Rattle.shapes.specs.Numbers.{plusZero, entry}
 use Rattle.shapes.specs.Turns.{turns}
-use Rattle.imageview.specs.Image.{Image, pixel}
-use Rattle.imageview.proofs.ImageLaws.{count-most}
+use Rattle.shapes.specs.Lists.{tabulated}
+use Rattle.imageview.specs.Image.{Image, stride, pixel}
+use Rattle.imageview.proofs.ImageLaws.{index}
 use Rattle.fit_operator.specs.Basis.{side, samples}
 use Rattle.fit_cache.specs.declared.Sums.{Sums}
 use Rattle.saddle_fit.specs.Numbers.{_⊕_, _⊖_, _⊗_}
 use Rattle.saddle_fit.specs.Fit.{sampleOf, coefficient, coefficients}
-use Rattle.fit_cache.specs.Adding.{added, rowAdded, term, sumsOf, Within}
+use Rattle.fit_cache.specs.Adding.{added, rowAdded, term, sumsOf, PatchWithin}
 
 -- ---- a row
 pub row-none : (columns : List Float) (row : List ℕ) (centre : Float) (from : ℕ) (s : Sums) → s ≡ rowAdded columns row centre from 0 s
@@ -36,14 +36,14 @@ row-more columns row centre from n s t u p q =
 place : (w x0 y0 row i : ℕ) → (y0 + row) * w + x0 + i ≡ (y0 + row) * w + (x0 + i)
 place w x0 y0 row i = add-assoc ((y0 + row) * w) x0 i
 
-pub row-sample : (img : Image) (radius x y row i : ℕ) → i < side radius → getD (take (side radius) (drop ((y - radius + row) * img .width + (x - radius)) (img .samples))) i 0 ≡ pixel img (x - radius + (row * side radius + i) % side radius) (y - radius + (row * side radius + i) / side radius)
+pub row-sample : (img : Image) (radius x y row i : ℕ) → i < side radius → getD (take (side radius) (drop ((y - radius + row) * stride img + (x - radius)) (img .samples))) i 0 ≡ pixel img (x - radius + (row * side radius + i) % side radius) (y - radius + (row * side radius + i) / side radius)
 unfolding pixel
 row-sample img radius x y row i h =
-    getD-take (side radius) (drop ((y - radius + row) * img .width + (x - radius)) (img .samples)) i 0 h
-    ∙ getD-drop ((y - radius + row) * img .width + (x - radius)) (img .samples) i 0
-    ∙ ap (λ (k : ℕ). getD (img .samples) k 0) (place (img .width) (x - radius) (y - radius) row i)
-    ∙ ap (λ (k : ℕ). getD (img .samples) ((y - radius + k) * img .width + (x - radius + i)) 0) (sym (digits-div row h))
-    ∙ ap (λ (k : ℕ). getD (img .samples) ((y - radius + (row * side radius + i) / side radius) * img .width + (x - radius + k)) 0) (sym (digits-mod row h))
+    getD-take (side radius) (drop ((y - radius + row) * stride img + (x - radius)) (img .samples)) i 0 h
+    ∙ getD-drop ((y - radius + row) * stride img + (x - radius)) (img .samples) i 0
+    ∙ ap (λ (k : ℕ). getD (img .samples) k 0) (place (stride img) (x - radius) (y - radius) row i)
+    ∙ ap (λ (k : ℕ). getD (img .samples) ((y - radius + k) * stride img + (x - radius + i)) 0) (sym (digits-div row h))
+    ∙ ap (λ (k : ℕ). getD (img .samples) ((y - radius + (row * side radius + i) / side radius) * stride img + (x - radius + k)) 0) (sym (digits-mod row h))
 
 -- the middle sample is the centre
 twice : (r p : ℕ) → (2 * p + (2 * r + 1)) / 2 ≡ p + r
@@ -52,11 +52,11 @@ twice r p = omega arith
 middle : (r : ℕ) → samples r / 2 ≡ r * side r + r
 middle r = ap (λ (n : ℕ). n / 2) (add-mul (2 * r) 1 (side r) ∙ ap (λ (n : ℕ). n + 1 * side r) (mul-assoc 2 r (side r)) ∙ ap (λ (n : ℕ). 2 * (r * side r) + n) (one-mul (side r))) ∙ twice r (r * side r)
 
--- the sample at column u of row v
+-- the sample entry column u of row v
 abbrev sampleAt : Image → ℕ → ℕ → Float
-sampleAt img u v = ofInt binary32 (pos (getD (img .samples) (v * img .width + u) 0))
+sampleAt img u v = ofInt binary32 (pos (getD (img .samples) (v * stride img + u) 0))
 
-pub centre-sample : (img : Image) (radius x y : ℕ) → radius ≤ x → radius ≤ y → ofInt binary32 (pos (getD (img .samples) (y * img .width + x) 0)) ≡ sampleOf img radius x y (samples radius / 2)
+pub centre-sample : (img : Image) (radius x y : ℕ) → radius ≤ x → radius ≤ y → ofInt binary32 (pos (pixel img x y)) ≡ sampleOf img radius x y (samples radius / 2)
 unfolding sampleOf pixel
 centre-sample img radius x y hx hy =
     let small : radius < side radius = omega arith in
@@ -78,7 +78,7 @@ sums-more img columns radius x y k z e =
     record { a = s .a ⊕ entry columns n ⊗ v; b = s .b ⊕ entry columns (5 * k + 1) ⊗ v; c = s .c ⊕ entry columns (5 * k + 2) ⊗ v; d = s .d ⊕ entry columns (5 * k + 3) ⊗ v; e = s .e ⊕ entry columns (5 * k + 4) ⊗ v })
     (sym (add-zero (5 * k)))
 
-along-row : (img : Image) (columns : List Float) (radius x y row n : ℕ) (part : List ℕ) (centre : Float) → part ≡ take (side radius) (drop ((y - radius + row) * img .width + (x - radius)) (img .samples)) → centre ≡ sampleOf img radius x y (samples radius / 2) → n ≤ side radius → rowAdded columns part centre (row * side radius) n (sumsOf img columns radius x y (row * side radius)) ≡ sumsOf img columns radius x y (row * side radius + n)
+along-row : (img : Image) (columns : List Float) (radius x y row n : ℕ) (part : List ℕ) (centre : Float) → part ≡ take (side radius) (drop ((y - radius + row) * stride img + (x - radius)) (img .samples)) → centre ≡ sampleOf img radius x y (samples radius / 2) → n ≤ side radius → rowAdded columns part centre (row * side radius) n (sumsOf img columns radius x y (row * side radius)) ≡ sumsOf img columns radius x y (row * side radius + n)
 unfolding rowAdded sampleOf
 along-row img columns radius x y row zero part centre p c h = ap (λ (k : ℕ). sumsOf img columns radius x y k) (sym (add-zero (row * side radius)))
 along-row img columns radius x y row (suc n) part centre p c h =
@@ -94,7 +94,7 @@ pub sums-none : (img : Image) (columns : List Float) (radius x y : ℕ) → reco
 unfolding turns
 sums-none img columns radius x y = ap (λ (n : ℕ). sumsOf img columns radius x y n) (sym (zero-mul (side radius)))
 
-pub row-done : (img : Image) (columns : List Float) (radius x y row : ℕ) (part : List ℕ) (centre : Float) (s r : Sums) → s ≡ sumsOf img columns radius x y (row * side radius) → part ≡ take (side radius) (drop ((y - radius + row) * img .width + (x - radius)) (img .samples)) → length part ≡ side radius → centre ≡ sampleOf img radius x y (samples radius / 2) → r ≡ rowAdded columns part centre (row * side radius) (length part) s → r ≡ sumsOf img columns radius x y ((row + 1) * side radius)
+pub row-done : (img : Image) (columns : List Float) (radius x y row : ℕ) (part : List ℕ) (centre : Float) (s r : Sums) → s ≡ sumsOf img columns radius x y (row * side radius) → part ≡ take (side radius) (drop ((y - radius + row) * stride img + (x - radius)) (img .samples)) → length part ≡ side radius → centre ≡ sampleOf img radius x y (samples radius / 2) → r ≡ rowAdded columns part centre (row * side radius) (length part) s → r ≡ sumsOf img columns radius x y ((row + 1) * side radius)
 row-done img columns radius x y row part centre s r e p l c q =
     q
     ∙ ap (λ (n : ℕ). rowAdded columns part centre (row * side radius) n s) l
@@ -108,17 +108,9 @@ all-rows img columns radius x y row s h e =
     ap (λ (t : Sums). t .a ∷ t .b ∷ t .c ∷ t .d ∷ t .e ∷ []) (e ∙ ap (λ (n : ℕ). sumsOf img columns radius x y (n * side radius)) h)
 
 -- ---- what lies in the image
-below-rows : (q m c t : ℕ) → q < m → t ≤ c → q * c + t ≤ m * c
-below-rows q m c t h g = le-trans (subst (λ (n : ℕ). q * c + t ≤ n) (sym (suc-mul q c)) (more (q * c) t c g)) (mul-le-mul-right c h)
-  where
-    more : (p t c : ℕ) → t ≤ c → p + t ≤ p + c
-    more p t c g = omega arith
-
-pub row-within : (img : Image) (radius x y row : ℕ) → Within img radius x y → row < side radius → (y - radius + row) * img .width + (x - radius) + side radius ≤ length (img .samples)
+pub row-within : (img : Image) (radius x y row : ℕ) → PatchWithin img radius x y → row < side radius → (y - radius + row) * stride img + (x - radius) + side radius ≤ length (img .samples)
 row-within img radius x y row w h =
-    subst (λ (n : ℕ). n ≤ length (img .samples)) (sym (add-assoc ((y - radius + row) * img .width) (x - radius) (side radius)))
-    (subst (λ (n : ℕ). (y - radius + row) * img .width + (x - radius + side radius) ≤ n) (mul-comm (img .height) (img .width) ∙ sym (w .sound .count))
-    (below-rows (y - radius + row) (img .height) (img .width) (x - radius + side radius) (in-height y radius row (img .height) (w .above) (w .below) h) (in-width x radius (img .width) (w .left) (w .right))))
+    index img (w .sound .image) (x - radius) (y - radius + row) (side radius) (in-width x radius (img .width) (w .left) (w .right)) (in-height y radius row (img .height) (w .above) (w .below) h)
   where
     in-height : (y radius row height : ℕ) → radius ≤ y → y + radius < height → row < 2 * radius + 1 → y - radius + row < height
     in-height y radius row height p q h = omega arith
@@ -126,16 +118,8 @@ row-within img radius x y row w h =
     in-width : (x radius width : ℕ) → radius ≤ x → x + radius < width → x - radius + (2 * radius + 1) ≤ width
     in-width x radius width p q = omega arith
 
-pub centre-within : (img : Image) (radius x y : ℕ) → Within img radius x y → y * img .width + x < length (img .samples)
-centre-within img radius x y w =
-    subst (λ (n : ℕ). y * img .width + x < n) (mul-comm (img .height) (img .width) ∙ sym (w .sound .count))
-    (digits-lt (shorter y radius (img .height) (w .below)) (shorter x radius (img .width) (w .right)))
-  where
-    shorter : (y radius n : ℕ) → y + radius < n → y < n
-    shorter y radius n h = omega arith
-
-pub few : (img : Image) (radius x y : ℕ) → Within img radius x y → length (img .samples) ≤ 0x100_0000
-few img radius x y w = subst (λ (n : ℕ). n ≤ 0x100_0000) (sym (w .sound .count)) (count-most (img .width) (img .height) (w .sound .wide) (w .sound .high))
+pub centre-within : (img : Image) (radius x y : ℕ) → PatchWithin img radius x y → y * stride img + x < length (img .samples)
+centre-within img radius x y w = omega (arith, index img (w .sound .image) x y 1 (omega (arith, w .right)) (omega (arith, w .below)))
 
 -- a row of the patch is whole, and its samples are numbered below 225
 pub part-length : (img : Image) (from count : ℕ) (part : List ℕ) → from + count ≤ length (img .samples) → part ≡ take count (drop from (img .samples)) → length part ≡ count

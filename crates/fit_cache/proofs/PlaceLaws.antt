@@ -104,8 +104,8 @@ along n radius corners m far (pos a) = by (ltb a 8192) refl
 
 pub same-corners : (img : Image) (columns : List Float) (radius : ℕ) (z w : ℤ) → Sound img radius → cornersAt img columns radius z w ≡ cornersAt img columns radius (pos (pixelOf z)) (pos (pixelOf w))
 same-corners img columns radius z w s =
-    along (img .width) radius (λ u. cornersAt img columns radius u w) (s .wide) (λ u h. far-x img columns radius u w h) z
-    ∙ along (img .height) radius (λ v. cornersAt img columns radius (pos (pixelOf z)) v) (s .high) (λ v h. far-y img columns radius (pos (pixelOf z)) v h) w
+    along (img .width) radius (λ u. cornersAt img columns radius u w) (s .image .sized .width-most) (λ u h. far-x img columns radius u w h) z
+    ∙ along (img .height) radius (λ v. cornersAt img columns radius (pos (pixelOf z)) v) (s .image .sized .height-most) (λ v h. far-y img columns radius (pos (pixelOf z)) v h) w
 
 pub pixel-most : (z : ℤ) → pixelOf z ≤ 8192
 pixel-most (negsuc n) = omega arith

@@ -1,13 +1,16 @@
 -- The five sums of a fit while samples are added, and what a fit asks of the patch.
 use mathlib.Core.Path.{_≡_}
+use mathlib.Core.Bool.{Bool, _&&_}
 use mathlib.Core.List.{List}
 use Prim.Native.Nat.{ℕ, zero, suc, _+_, _*_, _/_, _≤_, _<_}
+use lib.Dec.{leb, ltb}
 use lib.IntN.{pos}
 use lib.ListN.{length, getD}
 use lib.Ieee.{Float, binary32, ofInt}
 use Rattle.shapes.specs.Numbers.{plusZero, entry}
 use Rattle.shapes.specs.Turns.{turns}
 use Rattle.imageview.specs.Image.{Image}
+use Rattle.imageview.specs.Steps.{Tested}
 use Rattle.fit_operator.specs.Basis.{samples}
 use Rattle.fit_cache.specs.declared.Sums.{Sums}
 use Rattle.saddle_fit.specs.Numbers.{_⊕_, _⊖_, _⊗_}
@@ -44,21 +47,23 @@ sumsOf img columns radius x y n = record {
 
 -- an image and a radius that passed the tests
 pub record Sound (img : Image) (radius : ℕ) : Type 0 where
-  pub count : length (img .samples) ≡ img .width * img .height
-  pub wide : img .width ≤ 4096
-  pub high : img .height ≤ 4096
+  pub image : Tested img
   pub small : radius ≤ 7
 
 -- the patch about a pixel lies in the image
-pub record Within (img : Image) (radius x y : ℕ) : Type 0 where
+pub record PatchWithin (img : Image) (radius x y : ℕ) : Type 0 where
   pub sound : Sound img radius
   pub left : radius ≤ x
   pub right : x + radius < img .width
   pub above : radius ≤ y
   pub below : y + radius < img .height
 
--- so do the patches to the right, below, and below right
-pub record Room (img : Image) (radius x y : ℕ) : Type 0 where
+-- the test of the patches about a base: here, right, below, and below right
+abbrev pub hasRoom : ℕ → ℕ → ℕ → ℕ → ℕ → Bool
+hasRoom radius x y width height = leb radius x && ltb (x + 1 + radius) width && leb radius y && ltb (y + 1 + radius) height
+
+-- all four lie in the image
+pub record FourWithin (img : Image) (radius x y : ℕ) : Type 0 where
   pub sound : Sound img radius
   pub left : radius ≤ x
   pub right : x + 1 + radius < img .width

@@ -27,13 +27,13 @@ abbrev pub centreY : List ℕ → ℕ → ℕ
 centreY centres slot = getD centres (2 * slot + 1) 0
 
 -- the arrays' lengths, and the count's bound
-pub record Sized (fits : IntegerFits) : Type 0 where
+pub record Shaped (fits : IntegerFits) : Type 0 where
   pub centres : length (fits .centres) ≡ 18
   pub coefs : length (fits .coefs) ≡ 45
   pub count : fits .len < 18
 
 pub record Kept (img : Image) (columns : List Float) (radius : ℕ) (fits : IntegerFits) : Type 0 where
-  pub sized : Sized fits
+  pub sized : Shaped fits
   pub fresh : (slot : ℕ) → slot < 9 → slot < fits .len → fitIn (fits .coefs) slot ≡ coefficients img columns radius (centreX (fits .centres) slot) (centreY (fits .centres) slot)
   pub about : fits .«base_x» < 8192 → cornersAt img columns radius (pos (fits .«base_x»)) (pos (fits .«base_y»)) ≡ four (fits .corners)
 

@@ -3,12 +3,13 @@ use super::Around;
 use super::IntegerFits;
 use super::Looked;
 use crate::fits;
+use imageview::Sizes;
 use saddle_fit::Corners;
 ghost use mathlib.Core.Path.{_≡_};
 ghost use mathlib.Core.Bool.{true};
 ghost use Prim.Native.Nat.{_+_, _*_, _<_, _≤_};
 ghost use Rattle.imageview.specs.Image.{imageOf};
-ghost use Rattle.fit_cache.specs.Adding.{Sound, Within, Room};
+ghost use Rattle.fit_cache.specs.Adding.{Sound, PatchWithin, FourWithin, hasRoom};
 ghost use Rattle.fit_cache.specs.Cache.{Kept, Slot, fitIn, named, filled, Counted, Found, Surrounds};
 
 impl IntegerFits {
@@ -16,15 +17,14 @@ impl IntegerFits {
     pub fn at(
         mut self,
         img: &[u8],
-        width: usize,
-        height: usize,
+        sizes: Sizes,
         x: usize,
         y: usize,
         radius: usize,
         columns: &[f32; 1125],
     ) -> Looked
-        requires { ⌜ Within (imageOf (now img) width height) radius x y ⌝ ∗ ⌜ Kept (imageOf (now img) width height) (now columns) radius self ⌝ }
-        ensures { λ r. ⌜ Found (imageOf (now (img .entry)) width height) (now (columns .entry)) radius x y r ⌝ }
+        requires { ⌜ PatchWithin (imageOf (now img) sizes) radius x y ⌝ ∗ ⌜ Kept (imageOf (now img) sizes) (now columns) radius self ⌝ }
+        ensures { λ r. ⌜ Found (imageOf (now (img .entry)) sizes) (now (columns .entry)) radius x y r ⌝ }
     {
         let centre_x = x as u16;
         let centre_y = y as u16;
@@ -36,7 +36,7 @@ impl IntegerFits {
                 fits: self,
             };
         }
-        let coefs = fits::fit_patch(img, width, height, x, y, radius, columns);
+        let coefs = fits::fit_patch(img, sizes, x, y, radius, columns);
         let oldest = len % 9;
         name_slot(&mut self.centres, oldest, centre_x, centre_y);
         fill_slot(&mut self.coefs, oldest, coefs);
@@ -48,51 +48,30 @@ impl IntegerFits {
     pub fn about(
         self,
         img: &[u8],
-        width: usize,
-        height: usize,
+        sizes: Sizes,
         x: usize,
         y: usize,
         radius: usize,
         columns: &[f32; 1125],
     ) -> Around
-        requires { ⌜ Sound (imageOf (now img) width height) radius ⌝ ∗ ⌜ Kept (imageOf (now img) width height) (now columns) radius self ⌝ ∗ ⌜ (x ≤ 8192) × (y ≤ 8192) ⌝ }
-        ensures { λ r. ⌜ Surrounds (imageOf (now (img .entry)) width height) (now (columns .entry)) radius x y r ⌝ }
+        requires { ⌜ Sound (imageOf (now img) sizes) radius ⌝ ∗ ⌜ Kept (imageOf (now img) sizes) (now columns) radius self ⌝ ∗ ⌜ (x ≤ 8192) × (y ≤ 8192) ⌝ }
+        ensures { λ r. ⌜ Surrounds (imageOf (now (img .entry)) sizes) (now (columns .entry)) radius x y r ⌝ }
     {
-        if x < radius {
+        if !has_room(sizes, x, y, radius) {
             return Around {
                 found: false,
                 fits: self,
             };
         }
-        if width <= x + 1 + radius {
+        if (self.base_x == x) & (self.base_y == y) {
             return Around {
-                found: false,
+                found: true,
                 fits: self,
             };
-        }
-        if y < radius {
-            return Around {
-                found: false,
-                fits: self,
-            };
-        }
-        if height <= y + 1 + radius {
-            return Around {
-                found: false,
-                fits: self,
-            };
-        }
-        if self.base_x == x {
-            if self.base_y == y {
-                return Around {
-                    found: true,
-                    fits: self,
-                };
-            }
         }
         Around {
             found: true,
-            fits: self.look(img, width, height, x, y, radius, columns),
+            fits: self.look(img, sizes, x, y, radius, columns),
         }
     }
 
@@ -100,15 +79,14 @@ impl IntegerFits {
     fn look(
         self,
         img: &[u8],
-        width: usize,
-        height: usize,
+        sizes: Sizes,
         x: usize,
         y: usize,
         radius: usize,
         columns: &[f32; 1125],
     ) -> IntegerFits
-        requires { ⌜ Room (imageOf (now img) width height) radius x y ⌝ ∗ ⌜ Kept (imageOf (now img) width height) (now columns) radius self ⌝ }
-        ensures { λ r. ⌜ Surrounds (imageOf (now (img .entry)) width height) (now (columns .entry)) radius x y (record { found = true; fits = r }) ⌝ }
+        requires { ⌜ FourWithin (imageOf (now img) sizes) radius x y ⌝ ∗ ⌜ Kept (imageOf (now img) sizes) (now columns) radius self ⌝ }
+        ensures { λ r. ⌜ Surrounds (imageOf (now (img .entry)) sizes) (now (columns .entry)) radius x y (record { found = true; fits = r }) ⌝ }
     {
         let mut fits = self;
         let mut c00 = [0.0f32; 5];
@@ -117,7 +95,7 @@ impl IntegerFits {
         let mut c11 = [0.0f32; 5];
         let mut k: usize = 0;
         while k < 4 {
-            let found = fits.at(img, width, height, x + k % 2, y + k / 2, radius, columns);
+            let found = fits.at(img, sizes, x + k % 2, y + k / 2, radius, columns);
             fits = found.fits;
             // each fit comes in at the end and moves up, so that the first of four is c00
             c00 = c10;
@@ -132,6 +110,14 @@ impl IntegerFits {
         fits.base_y = y;
         fits
     }
+}
+
+// Whether all four patches about the base (x, y) lie in the image.
+fn has_room(sizes: Sizes, x: usize, y: usize, radius: usize) -> bool
+    requires { ⌜ (x ≤ 8192) × (y ≤ 8192) × (radius ≤ 7) ⌝ }
+    ensures { λ r. ⌜ r ≡ hasRoom radius x y (sizes .width) (sizes .height) ⌝ }
+{
+    (radius <= x) & (x + 1 + radius < sizes.width) & (radius <= y) & (y + 1 + radius < sizes.height)
 }
 
 // The slot of the fit about (x, y), or 9 where it is not kept.

@@ -1,11 +1,12 @@
 // The fit on the patch about a pixel: rows one after the other, each a part of the image.
 use super::Sums;
+use imageview::Sizes;
 ghost use mathlib.Core.Path.{_≡_};
 ghost use Prim.Native.Nat.{_+_, _*_, _<_, _≤_};
 ghost use lib.ListN.{length};
 ghost use Rattle.imageview.specs.Image.{imageOf};
 ghost use Rattle.saddle_fit.specs.Fit.{coefficients};
-ghost use Rattle.fit_cache.specs.Adding.{added, rowAdded, Within};
+ghost use Rattle.fit_cache.specs.Adding.{added, rowAdded, PatchWithin};
 
 // The sums with the sample k, which is z above the centre's.
 fn add_sample(s: Sums, columns: &[f32; 1125], k: usize, z: f32) -> Sums
@@ -39,18 +40,17 @@ fn add_row(s: Sums, columns: &[f32; 1125], row: &[u8], centre: f32, from: usize)
 // The coefficients a to e of the fit about the pixel (x, y).
 pub fn fit_patch(
     img: &[u8],
-    width: usize,
-    height: usize,
+    sizes: Sizes,
     x: usize,
     y: usize,
     radius: usize,
     columns: &[f32; 1125],
 ) -> [f32; 5]
-    requires { ⌜ Within (imageOf (now img) width height) radius x y ⌝ }
-    ensures { λ r. ⌜ r ≡ coefficients (imageOf (now (img .entry)) width height) (now (columns .entry)) radius x y ⌝ }
+    requires { ⌜ PatchWithin (imageOf (now img) sizes) radius x y ⌝ }
+    ensures { λ r. ⌜ r ≡ coefficients (imageOf (now (img .entry)) sizes) (now (columns .entry)) radius x y ⌝ }
 {
     let side = 2 * radius + 1;
-    let centre = img[y * width + x] as f32;
+    let centre = imageview::sample(img, sizes, x, y) as f32;
     let mut sums = Sums {
         a: 0.0,
         b: 0.0,
@@ -60,7 +60,7 @@ pub fn fit_patch(
     };
     let mut row: usize = 0;
     while row < side {
-        let part = imageview::patch_row(img, width, x - radius, y - radius + row, side);
+        let part = imageview::patch_row(img, sizes.width, x - radius, y - radius + row, side);
         sums = add_row(sums, columns, part, centre, row * side);
         row += 1;
     }

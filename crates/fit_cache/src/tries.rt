@@ -4,6 +4,7 @@ use super::IntegerFits;
 use super::Seed;
 use super::Weighed;
 use crate::place;
+use imageview::Sizes;
 use saddle_fit::Corners;
 use saddle_fit::PatchSaddle;
 use saddle_fit::SaddlePointConfig;
@@ -92,8 +93,7 @@ fn weigh(
 pub fn candidate(
     fits: IntegerFits,
     img: &[u8],
-    width: usize,
-    height: usize,
+    sizes: Sizes,
     columns: &[f32; 1125],
     cfg: SaddlePointConfig,
     seed: Seed,
@@ -101,14 +101,14 @@ pub fn candidate(
     ox: f32,
     oy: f32,
 ) -> Candidate
-    requires { ⌜ Sound (imageOf (now img) width height) (cfg .radius) ⌝ ∗ ⌜ (seed .«centre_x» < 4096) × (seed .«centre_y» < 4096) ⌝ ∗ ⌜ Kept (imageOf (now img) width height) (now columns) (cfg .radius) fits ⌝ }
-    ensures { λ r. ⌜ Tries (taskAt (imageOf (now (img .entry)) width height) (now (columns .entry)) cfg seed) f ox oy r ⌝ }
+    requires { ⌜ Sound (imageOf (now img) sizes) (cfg .radius) ⌝ ∗ ⌜ (seed .«centre_x» < 4096) × (seed .«centre_y» < 4096) ⌝ ∗ ⌜ Kept (imageOf (now img) sizes) (now columns) (cfg .radius) fits ⌝ }
+    ensures { λ r. ⌜ Tries (taskAt (imageOf (now (img .entry)) sizes) (now (columns .entry)) cfg seed) f ox oy r ⌝ }
 {
     let window = place::window_at(seed.centre_x, seed.centre_y, ox, oy);
     let radius = cfg.radius;
     let base_x = window.base_x;
     let base_y = window.base_y;
-    let around = fits.about(img, width, height, base_x, base_y, radius, columns);
+    let around = fits.about(img, sizes, base_x, base_y, radius, columns);
     let next = around.fits;
     if around.found {
         let corners = next.corners;

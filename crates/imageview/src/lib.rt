@@ -1,53 +1,66 @@
-// What an image is: bytes, row after row, with a width and a height. The core takes the bytes as a plain slice and the sizes as numbers.
+// What an image is: bytes, row after row, with its sizes. The core takes the bytes as a plain slice and the sizes as one struct by value beside it.
 ghost use mathlib.Core.Path.{_≡_};
 ghost use mathlib.Core.Bool.{_&&_};
-ghost use Prim.Native.Nat.{_+_, _*_, _≤_};
+ghost use Prim.Native.Nat.{_+_, _*_, _≤_, _<_};
 ghost use lib.ListN.{length, take, drop};
-ghost use Rattle.imageview.specs.Image.{sizesFit, isImage};
+ghost use Rattle.imageview.specs.Image.{imageOf, stride, pixel, isSize, sizesFit, isImage};
 ghost use Rattle.imageview.specs.Patch.{inside};
 
-// Document 01's test of an image.
-pub fn is_image(img: &[u8], width: usize, height: usize) -> bool
-    ensures { λ r. ⌜ r ≡ isImage (record { samples = now (img .entry); width = width; height = height }) ⌝ }
+// The sizes that go with an image's bytes.
+pub struct Sizes {
+    pub width: usize,
+    pub height: usize,
+}
+
+// The test of an image.
+pub fn is_image(img: &[u8], sizes: Sizes) -> bool
+    ensures { λ r. ⌜ r ≡ isImage (imageOf (now (img .entry)) sizes) ⌝ }
 {
-    fits(img.len(), width, height)
+    fits(img.len(), sizes.width, sizes.height)
 }
 
 // The same of any list of so many entries; the product is taken only of sizes that cannot wrap it.
 pub fn fits(count: usize, width: usize, height: usize) -> bool
     ensures { λ r. ⌜ r ≡ sizesFit count width height ⌝ }
 {
-    if width < 1 {
-        return false;
-    }
-    if 4096 < width {
-        return false;
-    }
-    if height < 1 {
-        return false;
-    }
-    if 4096 < height {
-        return false;
-    }
-    count == width * height
-}
-
-// Whether the square of half-size radius about (x, y) lies in an image of these sizes.
-pub fn supports_patch(width: usize, height: usize, x: i32, y: i32, radius: usize) -> bool
-    ensures { λ r. ⌜ r ≡ (inside radius width x && inside radius height y) ⌝ }
-{
-    if within(width, x, radius) {
-        return within(height, y, radius);
+    if is_size(width, height) {
+        return count == width * height;
     }
     false
 }
 
-// One row of a patch, as a part of the image: side samples from column x0 of row y.
-pub fn patch_row(img: &[u8], width: usize, x0: usize, y: usize, side: usize) -> &[u8]
-    requires { ⌜ y * width + x0 + side ≤ length (now img) ⌝ }
-    ensures { λ r. ⌜ now r ≡ take side (drop (y * width + x0) (now (img .entry))) ⌝ }
+// The test of a width and a height alone.
+pub fn is_size(width: usize, height: usize) -> bool
+    ensures { λ r. ⌜ r ≡ isSize width height ⌝ }
 {
-    let start = y * width + x0;
+    (1 <= width) & (width <= 4096) & (1 <= height) & (height <= 4096)
+}
+
+// Whether the square of half-size radius about (x, y) lies in an image of these sizes.
+pub fn supports_patch(sizes: Sizes, x: i32, y: i32, radius: usize) -> bool
+    ensures { λ r. ⌜ r ≡ (inside radius (sizes .width) x && inside radius (sizes .height) y) ⌝ }
+{
+    if within(sizes.width, x, radius) {
+        return within(sizes.height, y, radius);
+    }
+    false
+}
+
+// The sample of a pixel.
+pub fn sample(img: &[u8], sizes: Sizes, x: usize, y: usize) -> u8
+    requires { ⌜ y * stride (imageOf (now img) sizes) + x < length (now img) ⌝ }
+    ensures { λ r. ⌜ r ≡ pixel (imageOf (now (img .entry)) sizes) x y ⌝ }
+{
+    let stride = sizes.width;
+    img[y * stride + x]
+}
+
+// One row of a patch, as a part of the image: side samples from column x0 of row y.
+pub fn patch_row(img: &[u8], stride: usize, x0: usize, y: usize, side: usize) -> &[u8]
+    requires { ⌜ y * stride + x0 + side ≤ length (now img) ⌝ }
+    ensures { λ r. ⌜ now r ≡ take side (drop (y * stride + x0) (now (img .entry))) ⌝ }
+{
+    let start = y * stride + x0;
     let end = start + side;
     &img[start..end]
 }

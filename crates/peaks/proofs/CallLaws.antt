@@ -10,7 +10,7 @@ use lib.Ieee.Scale.{finite}
 use borrow.Author.Tests.{lt-leb, le-leb, leb-true, lt-ltb, le-ltb}
 use Rattle.corners.specs.Corners.{whole}
 use Rattle.imageview.specs.Image.{sizesFit}
-use Rattle.imageview.proofs.ImageLaws.{sized}
+use Rattle.imageview.proofs.ImageLaws.{counted}
 use Rattle.peaks.specs.declared.Peaks.{Peaks}
 use Rattle.peaks.specs.declared.Peaks.the-variants.{Found, BadImage, BadRadius, BadLimit, BadLength, TooMany}
 use Rattle.peaks.specs.Peak.{Scan}
@@ -63,17 +63,17 @@ scanFor values width height ring window refine threshold cluster =
 -- what the tests leave
 pub sound : (s : Scan) → sizesFit (length (s .values)) (s .width) (s .height) ≡ true → radiiFit s ≡ true → Sound s
 sound s e f =
-    let z = sized (length (s .values)) (s .width) (s .height) (subst T (sym e) tt) in
+    let z = counted (length (s .values)) (s .width) (s .height) (subst T (sym e) tt) in
     let a = leb 1 (s .ring) in
     let b = leb (s .ring) 10 in
     let c = leb 1 (s .window) in
     let d = leb (s .window) 8 in
     let abcd = first-of (a && b && c && d) (leb (s .refine) 7) f in
     record {
-      wide = z .wide;
-      width-most = z .width-most;
-      height-most = z .height-most;
-      size = z .count;
+      wide = z .0 .wide;
+      width-most = z .0 .width-most;
+      height-most = z .0 .height-most;
+      size = z .1;
       ring-most = leb-true (s .ring) 10 (second-of a b (first-of (a && b) c (first-of (a && b && c) d abcd)));
       window-most = leb-true (s .window) 8 (second-of (a && b && c) d abcd);
       refine-most = leb-true (s .refine) 7 (second-of (a && b && c && d) (leb (s .refine) 7) f);

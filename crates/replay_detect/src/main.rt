@@ -1,6 +1,7 @@
 // Replays the oracle's list of refined lists (data/refine_list.bin): the number, the count, every record written, and a painted output that keeps
 // what stands past the last record, and all of it where the call is refused. A line: cases run, and how many differ.
 use detect::Refinements;
+use imageview::Sizes;
 use saddle_fit::SaddlePointConfig;
 ghost use Prim.Native.Nat.{_≤_};
 
@@ -95,14 +96,7 @@ fn one(
 ) -> bool {
     paint::load(rest, corners);
     paint::paint(out);
-    let answer = detect::refine_corners_on_image(
-        img,
-        words::long(head, 0) as usize,
-        words::long(head, 8) as usize,
-        settings(rest),
-        corners,
-        out,
-    );
+    let answer = detect::refine_corners_on_image(img, sizes(head), settings(rest), corners, out);
     let number = words::word(want, 4);
     match answer {
         Refinements::Refined(count) => number == 0 && refined(want, count, out),
@@ -112,6 +106,13 @@ fn one(
         Refinements::BadLength => number == 19 && refused(want, out),
         Refinements::TooMany => number == 16 && refused(want, out),
         Refinements::BadOut => number == 15 && refused(want, out),
+    }
+}
+
+fn sizes(head: &[u8]) -> Sizes {
+    Sizes {
+        width: words::long(head, 0) as usize,
+        height: words::long(head, 8) as usize,
     }
 }
 

@@ -2,6 +2,7 @@
 use crate::moving;
 use crate::numbers;
 use fit_cache::fits;
+use imageview::Sizes;
 use saddle_fit::Covariance;
 use saddle_fit::Jacobian;
 use saddle_fit::noise;
@@ -69,6 +70,10 @@ fn fit_is(case: &[u8], patch: &[u8], radius: usize) -> bool
     let mut overlap = [0.0f32; 225];
     fit_operator::fit_operator(radius, &mut columns, &mut overlap);
     let side = 2 * radius + 1;
-    let coefs = fits::fit_patch(patch, side, side, radius, radius, radius, &columns);
+    let sizes = Sizes {
+        width: side,
+        height: side,
+    };
+    let coefs = fits::fit_patch(patch, sizes, radius, radius, radius, &columns);
     numbers::are(case, 4 + (patch.len() + 3) / 4 * 4, coefs)
 }

@@ -1,5 +1,6 @@
 // The seeds of a case: `head` begins with the image's size, `rest` with the settings, and a record of fourteen words for each seed follows them.
 use crate::answers;
+use imageview::Sizes;
 use saddle_fit::SaddlePointConfig;
 ghost use Prim.Native.Nat.{_<_, _≤_};
 
@@ -70,8 +71,7 @@ fn record(rest: &[u8], i: usize) -> &[u8]
 fn own_holds(head: &[u8], img: &[u8], rest: &[u8], seed: &[u8]) -> bool {
     let answer = saddle_point::refine(
         img,
-        words::long(head, 0) as usize,
-        words::long(head, 8) as usize,
+        sizes(head),
         settings(rest),
         float(seed, 0),
         float(seed, 4),
@@ -90,8 +90,7 @@ fn lent_holds(
 ) -> bool {
     let answer = saddle_point::refine_with(
         img,
-        words::long(head, 0) as usize,
-        words::long(head, 8) as usize,
+        sizes(head),
         settings(rest),
         float(seed, 0),
         float(seed, 4),
@@ -100,6 +99,13 @@ fn lent_holds(
         overlap,
     );
     answers::same(seed, answer)
+}
+
+fn sizes(head: &[u8]) -> Sizes {
+    Sizes {
+        width: words::long(head, 0) as usize,
+        height: words::long(head, 8) as usize,
+    }
 }
 
 // A radius below zero becomes one above every limit.

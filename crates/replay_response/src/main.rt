@@ -1,5 +1,6 @@
 // Replays the oracle's list of response patches (data/response.bin): the number, the size, every value written, and a painted buffer that a
 // refusal must leave. A line: cases run, and how many differ.
+use imageview::Sizes;
 use response::Response;
 use response::Roi;
 
@@ -73,8 +74,7 @@ fn one(case: &[u8], at: usize, img: &[u8], out: &mut [f32]) -> bool {
     paint::load_ring(case, at, &mut ring);
     let answer = response::chess_response_u8_patch(
         img,
-        width,
-        height,
+        Sizes { width, height },
         &ring,
         replay::word_from(case, at, 0) as usize,
         region(case, at),

@@ -1,22 +1,26 @@
 -- The call: the clamped region's size, the values by the ring itself, the list that is written, and document 01's tests in their order.
 use mathlib.Core.Path.{_≡_, refl, sym, ap, _∙_, subst}
+use mathlib.Core.Logic.{⊎-elim}
 use mathlib.Core.Bool.{Bool, true, false, not, _&&_, _||_, cond}
-use mathlib.Core.List.{List}
+use mathlib.Core.List.{List, [], _∷_, _++_}
 use Prim.Native.Nat.{ℕ, zero, suc, _+_, _-_, _*_, _/_, _%_, min, _≤_, _<_}
-use native.Mathlib.Nat.{zero-add, le-trans}
+use native.Mathlib.Nat.{zero-add, le-trans, eq-or-lt-of-le, le-of-suc-le-suc}
+use native.Mathlib.Numerals.{add-one}
 use native.Mathlib.Omega.{arith}
 use lib.Dec.{T, leb}
 use lib.IntN.{ℤ, pos, negsuc, natAbs}
-use lib.ListN.{length, getD}
-use lib.Seq.{ext-getD}
+use lib.ListN.{length, getD, length-append, List·getD-append}
+use lib.Seq.{ext-getD, getD-at}
 use lib.Ieee.{Float}
 use borrow.Author.Tests.{le-leb, lt-leb, leb-false, eqb-true, eq-eqb, ne-eqb}
+use Rattle.shapes.specs.Numbers.{plusZero}
 use Rattle.shapes.specs.Lists.{tabulated}
 use Rattle.shapes.proofs.ListLaws.{length-tabulated, getD-tabulated}
-use Rattle.shapes.specs.Numbers.{plusZero}
 use Rattle.imageview.specs.Image.{Image, isImage, pixel}
 use Rattle.response.specs.declared.Response.{Response}
-use Rattle.response.specs.declared.Response.the-variants.{Written, BadImage, BadRadius, BadRing, EmptyRoi, BadOut}
+use Rattle.response.specs.declared.Response.the-variants.{Written, Refused}
+use Rattle.refusals.specs.declared.Refusal.{Refusal}
+use Rattle.refusals.specs.declared.Refusal.the-variants.{BadImage, BadRadius, BadRing, EmptyRoi, BadOut}
 use Rattle.response.specs.Region.{Region, clamped, isEmpty, widthOf, heightOf, moved, ringSample, crossSample, ringFits, ringWithin, writtenAt, written}
 use Rattle.response.specs.Call.{Way, refused, wrote, wayOf, answerOf, outAfter, Done}
 use Rattle.pixel_response.specs.Steps.{Wrote}
@@ -103,11 +107,11 @@ module _ {img : Image} {r : Region} {a b c d w h : ℕ} (k : Cornered img r a b 
   size-is = ap (λ (z : ℕ). z * h) width-is ∙ ap (λ (z : ℕ). widthOf (clamped img r) * z) height-is
 
   module _ (offsets : List ℕ) (radius : ℕ) (out : List Float) where
-    pub misfit : (length out ≡ w * h → ⊥) → Clamped img offsets radius r out BadOut out
+    pub misfit : (length out ≡ w * h → ⊥) → Clamped img offsets radius r out (Refused BadOut) out
     misfit f =
         let e : sizeFits img r (length out) ≡ false = ne-eqb (length out) (widthOf (clamped img r) * heightOf (clamped img r)) (λ q. f (q ∙ sym size-is)) in
         record {
-          answers = sym (ap (λ (z : Bool). cond z (Written (widthOf (clamped img r)) (heightOf (clamped img r))) BadOut) e);
+          answers = sym (ap (λ (z : Bool). cond z (Written (widthOf (clamped img r)) (heightOf (clamped img r))) (Refused BadOut)) e);
           full = λ t. absurd (false-true (sym e ∙ t));
           kept = λ t. refl;
         }
@@ -118,7 +122,7 @@ module _ {img : Image} {r : Region} {a b c d w h : ℕ} (k : Cornered img r a b 
         record {
           answers =
               ap (λ (z : ℕ). Written z h) width-is ∙ ap (λ (z : ℕ). Written (widthOf (clamped img r)) z) height-is
-              ∙ sym (ap (λ (z : Bool). cond z (Written (widthOf (clamped img r)) (heightOf (clamped img r))) BadOut) e);
+              ∙ sym (ap (λ (z : Bool). cond z (Written (widthOf (clamped img r)) (heightOf (clamped img r))) (Refused BadOut)) e);
           full = λ t.
               subst (λ (z : ℕ). Wrote plusZero (length out) 0 (λ i. shiftedAt img offsets radius (clamped img r .x0 + i % z) (clamped img r .y0 + i / z)) out out') width-is
               (subst (λ (z : Region). Wrote plusZero (length out) 0 (λ i. shiftedAt img offsets radius (z .x0 + i % w) (z .y0 + i / w)) out out') is-clamped v);
@@ -209,17 +213,17 @@ module _ (img : Image) (ring : List ℤ) (radius : ℕ) (r : Region) (out : List
       ∙ ap (λ (z : Bool). way a b c z (sizeFits img r (length out))) t
       ∙ ap (λ (z : Bool). way a b c d z) u
 
-  refuse : (a : Response) → left ≡ refused a → Done img ring radius r out a out
+  refuse : (a : Refusal) → left ≡ refused a → Done img ring radius r out (Refused a) out
   refuse a e = record { answers = sym (ap answerOf e); leaves = sym (ap (outAfter img ring radius out) e) }
 
-  pub bad-image : isImage img ≡ false → Done img ring radius r out BadImage out
+  pub bad-image : isImage img ≡ false → Done img ring radius r out (Refused BadImage) out
   bad-image p = refuse BadImage (to false radiusFits (ringWithin radius ring) (isEmpty r) (sizeFits img r (length out)) p refl refl refl refl)
 
   module _ (i : isImage img ≡ true) where
-    pub small-radius : radius < 1 → Done img ring radius r out BadRadius out
+    pub small-radius : radius < 1 → Done img ring radius r out (Refused BadRadius) out
     small-radius h = refuse BadRadius (to true false (ringWithin radius ring) (isEmpty r) (sizeFits img r (length out)) i (ap (λ (z : Bool). z && leb radius 10) (lt-leb 1 radius h)) refl refl refl)
 
-    pub large-radius : 1 ≤ radius → 10 < radius → Done img ring radius r out BadRadius out
+    pub large-radius : 1 ≤ radius → 10 < radius → Done img ring radius r out (Refused BadRadius) out
     large-radius l h =
         refuse BadRadius (to true false (ringWithin radius ring) (isEmpty r) (sizeFits img r (length out)) i (ap (λ (z : Bool). z && leb radius 10) (le-leb 1 radius l) ∙ lt-leb radius 10 h) refl refl refl)
 
@@ -227,14 +231,14 @@ module _ (img : Image) (ring : List ℤ) (radius : ℕ) (r : Region) (out : List
       radius-fits : radiusFits ≡ true
       radius-fits = ap (λ (z : Bool). z && leb radius 10) (le-leb 1 radius low) ∙ le-leb radius 10 high
 
-      pub bad-ring : ringWithin radius ring ≡ false → Done img ring radius r out BadRing out
+      pub bad-ring : ringWithin radius ring ≡ false → Done img ring radius r out (Refused BadRing) out
       bad-ring q = refuse BadRing (to true true false (isEmpty r) (sizeFits img r (length out)) i radius-fits q refl refl)
 
       module _ (w : ringWithin radius ring ≡ true) where
-        pub empty-columns : r .x1 ≤ r .x0 → Done img ring radius r out EmptyRoi out
+        pub empty-columns : r .x1 ≤ r .x0 → Done img ring radius r out (Refused EmptyRoi) out
         empty-columns h = refuse EmptyRoi (to true true true true (sizeFits img r (length out)) i radius-fits w (ap (λ (z : Bool). z || leb (r .y1) (r .y0)) (le-leb (r .x1) (r .x0) h)) refl)
 
-        pub empty-lines : r .x0 < r .x1 → r .y1 ≤ r .y0 → Done img ring radius r out EmptyRoi out
+        pub empty-lines : r .x0 < r .x1 → r .y1 ≤ r .y0 → Done img ring radius r out (Refused EmptyRoi) out
         empty-lines l h =
             refuse EmptyRoi (to true true true true (sizeFits img r (length out)) i radius-fits w (ap (λ (z : Bool). z || leb (r .y1) (r .y0)) (lt-leb (r .x1) (r .x0) l) ∙ le-leb (r .y1) (r .y0) h) refl)
 
@@ -244,8 +248,8 @@ module _ (img : Image) (ring : List ℤ) (radius : ℕ) (r : Region) (out : List
             roomy : isEmpty r ≡ false
             roomy = ap (λ (z : Bool). z || leb (r .y1) (r .y0)) (lt-leb (r .x1) (r .x0) h) ∙ lt-leb (r .y1) (r .y0) l
 
-            answer : (b : Bool) → sizeFits img r (length out) ≡ b → a ≡ cond b (Written (widthOf (clamped img r)) (heightOf (clamped img r))) BadOut
-            answer b e = c .answers ∙ ap (λ (z : Bool). cond z (Written (widthOf (clamped img r)) (heightOf (clamped img r))) BadOut) e
+            answer : (b : Bool) → sizeFits img r (length out) ≡ b → a ≡ cond b (Written (widthOf (clamped img r)) (heightOf (clamped img r))) (Refused BadOut)
+            answer b e = c .answers ∙ ap (λ (z : Bool). cond z (Written (widthOf (clamped img r)) (heightOf (clamped img r))) (Refused BadOut)) e
 
             go : (b : Bool) → sizeFits img r (length out) ≡ b → Done img ring radius r out a out'
             go true e =

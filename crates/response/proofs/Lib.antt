@@ -5,3 +5,4 @@ pub mod RingLaws
 pub mod RegionLaws
 pub mod CallLaws
 pub mod DemandThree
+pub mod PixelsAlone

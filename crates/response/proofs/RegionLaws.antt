@@ -14,6 +14,7 @@ use lib.Ieee.{Float}
 use borrow.Author.Tests.{lt-ltb, le-ltb, le-leb, lt-leb}
 use Rattle.shapes.specs.Numbers.{plusZero}
 use Rattle.imageview.specs.Image.{Image}
+use Rattle.imageview.proofs.ImageLaws.{index}
 use Rattle.response.specs.Region.{ringFits}
 use Rattle.pixel_response.specs.Steps.{Wrote}
 use Rattle.response.specs.Starts.{sampleOf, valueAt, Reach, startOf, Startable, startedAt, Started}
@@ -43,14 +44,6 @@ module _ (img offsets : List ℕ) (width x y : ℕ) (starts : List ℕ) (w : Wro
   started clear i =
       response-cong (sampleOf img starts i) (λ k. sampleOf img starts i (k + 16)) (λ k. getD img (startOf offsets width (x + i) y k) 0) (λ k. getD img (startOf offsets width (x + i) y (k + 16)) 0)
       (λ k h. sample-is clear i k (omega arith)) (λ k h. sample-is clear i (k + 16) (omega arith))
-
--- n samples of a row lie in the image
-within : (p x n width height count : ℕ) → count ≡ width * height → x + n ≤ width → p + 1 ≤ height → p * width + x + n ≤ count
-within p x n width height count e h l =
-    all (p * width) (suc p * width) (suc-mul p width) (subst (λ (z : ℕ). suc p * width ≤ z) (mul-comm height width ∙ sym e) (mul-le-mul-right width (subst (λ (z : ℕ). z ≤ height) (add-one p) l)))
-  where
-    all : (q m : ℕ) → m ≡ q + width → m ≤ count → q + x + n ≤ count
-    all q m a b = omega arith
 
 -- ---- a row of three parts
 picked : {A : Type 0} (a b : A) (p q : Bool) → p ≡ true → q ≡ true → a ≡ cond (p && q) a b
@@ -166,9 +159,9 @@ module _ (img : Image) (offsets : List ℕ) (radius x0 y : ℕ) where
       pub startable : Startable offsets (img .width) (x0 + from) y
       startable =
           record {
-            width-most = g .width-most;
-            x-most = omega (arith, g .right, f .most, g .width-most);
-            y-most = omega (arith, g .height-most);
+            stride-most = g .image .sized .width-most;
+            x-most = omega (arith, g .right, f .most, g .image .sized .width-most);
+            y-most = omega (arith, g .image .sized .height-most);
             clear = λ k h.
                 let a = g .around k h .0 in
                 let b = f .on from (omega arith) (omega (arith, t .most)) in
@@ -181,12 +174,12 @@ module _ (img : Image) (offsets : List ℕ) (radius x0 y : ℕ) where
           let b = t .inside (to - 1) (omega arith) (omega arith) in
           omega arith
 
-      lines : (k : ℕ) → k < 21 → y + getD offsets (2 * k + 1) 0 - 10 + 1 ≤ img .height
+      lines : (k : ℕ) → k < 21 → y + getD offsets (2 * k + 1) 0 - 10 < img .height
       lines k h = let a = g .around (2 * k + 1) (omega arith) .1 in omega arith
 
       pub started-all : Started (img .samples) offsets (img .width) (x0 + from) y (to - from)
       started-all k h =
-          within (y + getD offsets (2 * k + 1) 0 - 10) (x0 + from + getD offsets (2 * k) 0 - 10) (to - from) (img .width) (img .height) (length (img .samples)) (g .count) (columns k h) (lines k h)
+          index img (g .image) (x0 + from + getD offsets (2 * k) 0 - 10) (y + getD offsets (2 * k + 1) 0 - 10) (to - from) (columns k h) (lines k h)
 
 -- ---- row after row
 grid : (f : ℕ → ℕ → Float) (r w i : ℕ) → i < w → f i r ≡ f ((r * w + i) % w) ((r * w + i) / w)

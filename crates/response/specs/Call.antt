@@ -8,22 +8,21 @@ use lib.IntN.{ℤ}
 use lib.ListN.{length}
 use lib.Ieee.{Float}
 use Rattle.imageview.specs.Image.{Image, isImage}
+use Rattle.refusals.specs.declared.Refusal.{Refusal}
+use Rattle.refusals.specs.declared.Refusal.the-variants.{BadImage, BadRadius, BadRing, EmptyRoi, BadOut}
+use Rattle.refusals.specs.Numbers as Refusals
 use Rattle.response.specs.declared.Roi.{Roi}
 use Rattle.response.specs.declared.Response.{Response}
-use Rattle.response.specs.declared.Response.the-variants.{Written, BadImage, BadRadius, BadRing, EmptyRoi, BadOut}
+use Rattle.response.specs.declared.Response.the-variants.{Written, Refused}
 use Rattle.response.specs.Region.{Region, clamped, isEmpty, widthOf, heightOf, written, ringWithin}
 
--- document 01's number of each case; 0 is done
+-- the number of each case; 0 is done
 abbrev pub numberOf : Response → ℕ
 numberOf (Written w h) = 0
-numberOf BadImage = 10
-numberOf BadRadius = 11
-numberOf BadRing = 13
-numberOf EmptyRoi = 14
-numberOf BadOut = 15
+numberOf (Refused r) = Refusals.numberOf r
 
 pub data Way : Type 0 where
-  refused : Response → Way
+  refused : Refusal → Way
   wrote : Region → Way
 
 abbrev pub regionOf : Roi → Region
@@ -40,7 +39,7 @@ wayOf img ring radius r room =
     (wrote c)))))
 
 abbrev pub answerOf : Way → Response
-answerOf (refused r) = r
+answerOf (refused r) = Refused r
 answerOf (wrote c) = Written (widthOf c) (heightOf c)
 
 abbrev pub outAfter : Image → List ℤ → ℕ → List Float → Way → List Float

@@ -7,19 +7,21 @@ use lib.Dec.{leb, ltb, eqb}
 use lib.ListN.{length}
 use lib.Ieee.{Float}
 use Rattle.shapes.specs.Numbers.{plusZero}
-use Rattle.imageview.specs.Image.{Image}
+use Rattle.imageview.specs.Image.{Image, stride}
+use Rattle.imageview.specs.Steps.{Tested}
+use Rattle.refusals.specs.declared.Refusal.the-variants.{BadOut}
 use Rattle.response.specs.declared.Response.{Response}
-use Rattle.response.specs.declared.Response.the-variants.{Written, BadOut}
+use Rattle.response.specs.declared.Response.the-variants.{Written, Refused}
 use Rattle.response.specs.Region.{Region, ringFits, clamped, widthOf, heightOf}
 use Rattle.pixel_response.specs.Steps.{Wrote}
 use Rattle.response.specs.Starts.{Around, startedAt}
 
 -- a row in which the ring fits from column `from` on, up to `to`
 abbrev pub insideAt : List ℕ → List ℕ → ℕ → ℕ → ℕ → ℕ → ℕ → ℕ → Float
-insideAt img offsets width x0 y from to i = cond (leb from i && ltb i to) (startedAt img offsets width (x0 + i) y) plusZero
+insideAt img offsets stride x0 y from to i = cond (leb from i && ltb i to) (startedAt img offsets stride (x0 + i) y) plusZero
 
 abbrev pub shiftedAt : Image → List ℕ → ℕ → ℕ → ℕ → Float
-shiftedAt img offsets radius x y = cond (ringFits img radius x y) (startedAt (img .samples) offsets (img .width) x y) plusZero
+shiftedAt img offsets radius x y = cond (ringFits img radius x y) (startedAt (img .samples) offsets (stride img) x y) plusZero
 
 -- the columns of a region in which the ring fits
 pub record From (x0 w radius from : ℕ) : Type 0 where
@@ -35,9 +37,7 @@ pub record To (x0 w width radius from to : ℕ) : Type 0 where
 
 -- a region's columns lie in an image that is one, and its ring within the radius
 pub record Framed (img : Image) (offsets : List ℕ) (radius x0 w : ℕ) : Type 0 where
-  pub width-most : img .width ≤ 4096
-  pub height-most : img .height ≤ 4096
-  pub count : length (img .samples) ≡ img .width * img .height
+  pub image : Tested img
   pub radius-most : radius ≤ 10
   pub around : Around radius offsets
   pub right : x0 + w ≤ img .width
@@ -47,7 +47,7 @@ abbrev pub sizeFits : Image → Region → ℕ → Bool
 sizeFits img r room = eqb room (widthOf (clamped img r) * heightOf (clamped img r))
 
 pub record Clamped (img : Image) (offsets : List ℕ) (radius : ℕ) (r : Region) (out : List Float) (answer : Response) (out' : List Float) : Type 0 where
-  pub answers : answer ≡ cond (sizeFits img r (length out)) (Written (widthOf (clamped img r)) (heightOf (clamped img r))) BadOut
+  pub answers : answer ≡ cond (sizeFits img r (length out)) (Written (widthOf (clamped img r)) (heightOf (clamped img r))) (Refused BadOut)
   pub full :
       sizeFits img r (length out) ≡ true
       → Wrote plusZero (length out) 0 (λ i. shiftedAt img offsets radius (clamped img r .x0 + i % widthOf (clamped img r)) (clamped img r .y0 + i / widthOf (clamped img r))) out out'

@@ -2,5 +2,6 @@
 pub mod Demand
 pub mod Region
 pub mod Call
+pub mod Alone
 pub mod Starts
 pub mod Frame

@@ -1,10 +1,14 @@
 // The ChESS response of an image over a region, after `response.rs`.
 ghost use mathlib.Core.Path.{_≡_};
+ghost use Rattle.imageview.specs.Image.{imageOf};
 ghost use Rattle.response.specs.Call.{Done, regionOf};
 
 mod region;
 mod ring;
 mod row;
+
+use imageview::Sizes;
+use refusals::Refusal;
 
 // A region from (x0, y0) up to but without (x1, y1).
 pub struct Roi {
@@ -14,47 +18,42 @@ pub struct Roi {
     pub y1: usize,
 }
 
-// How the call ended, by document 01's names.
+// How the call ended.
 pub enum Response {
     Written { width: usize, height: usize },
-    BadImage,
-    BadRadius,
-    BadRing,
-    EmptyRoi,
-    BadOut,
+    Refused(Refusal),
 }
 
 // The response over the region, written to `out`, which has the size of the region that is left within the image. The ring is sixteen
 // pairs (dx, dy); +0.0 is written where the pixel has not the radius of pixels on all four sides.
 pub fn chess_response_u8_patch(
     img: &[u8],
-    width: usize,
-    height: usize,
+    sizes: Sizes,
     ring: &[i32; 32],
     radius: usize,
     roi: Roi,
     out: &mut [f32],
 ) -> Response
-    ensures { λ r. ⌜ Done (record { samples = now (img .entry); width = width; height = height }) (now (ring .entry)) radius (regionOf roi) (now (out .entry)) r (now (out .exit)) ⌝ }
+    ensures { λ r. ⌜ Done (imageOf (now (img .entry)) sizes) (now (ring .entry)) radius (regionOf roi) (now (out .entry)) r (now (out .exit)) ⌝ }
 {
-    if !imageview::is_image(img, width, height) {
-        return Response::BadImage;
+    if !imageview::is_image(img, sizes) {
+        return Response::Refused(Refusal::BadImage);
     }
     if radius < 1 {
-        return Response::BadRadius;
+        return Response::Refused(Refusal::BadRadius);
     }
     if 10 < radius {
-        return Response::BadRadius;
+        return Response::Refused(Refusal::BadRadius);
     }
     let offsets = ring::offsets_of(ring);
     if !ring::are_around(&offsets, radius) {
-        return Response::BadRing;
+        return Response::Refused(Refusal::BadRing);
     }
     if roi.x1 <= roi.x0 {
-        return Response::EmptyRoi;
+        return Response::Refused(Refusal::EmptyRoi);
     }
     if roi.y1 <= roi.y0 {
-        return Response::EmptyRoi;
+        return Response::Refused(Refusal::EmptyRoi);
     }
-    region::write_clamped(img, width, height, &offsets, radius, roi, out)
+    region::write_clamped(img, sizes, &offsets, radius, roi, out)
 }

@@ -2,7 +2,8 @@
 ghost use mathlib.Core.Path.{_≡_};
 ghost use Prim.Native.Nat.{_+_, _-_, _*_, _/_, _%_, min, _≤_, _<_};
 ghost use lib.ListN.{length};
-ghost use Rattle.shapes.specs.Numbers.{plusZero};
+ghost use Rattle.shapes.specs.Numbers.{plusZero, lesser};
+ghost use Rattle.imageview.specs.Image.{imageOf, stride};
 ghost use Rattle.response.specs.Region.{widthOf, heightOf};
 ghost use Rattle.response.specs.Call.{regionOf};
 ghost use Rattle.pixel_response.specs.Steps.{Wrote};
@@ -12,6 +13,8 @@ use crate::Response;
 use crate::Roi;
 use crate::ring;
 use crate::row;
+use imageview::Sizes;
+use refusals::Refusal;
 
 // +0.0 throughout.
 fn fill(out: &mut [f32])
@@ -55,7 +58,7 @@ fn to_column(x0: usize, w: usize, width: usize, radius: usize, from: usize) -> u
 // A row in which the ring fits in the columns from `from` up to `to`.
 fn row_inside(
     img: &[u8],
-    width: usize,
+    sizes: Sizes,
     offsets: &[u8; 42],
     x0: usize,
     y: usize,
@@ -64,12 +67,13 @@ fn row_inside(
     out: &mut [f32],
 )
     requires { ⌜ (from < to) × (to ≤ length (now out)) × (x0 + from ≤ 4096) ⌝ }
-    requires { ⌜ Startable (now offsets) width (x0 + from) y ⌝ }
-    requires { ⌜ Started (now img) (now offsets) width (x0 + from) y (to - from) ⌝ }
-    ensures { λ _. ⌜ Wrote plusZero (length (now (out .entry))) 0 (insideAt (now (img .entry)) (now (offsets .entry)) width x0 y from to) (now (out .entry)) (now (out .exit)) ⌝ }
+    requires { ⌜ Startable (now offsets) (stride (imageOf (now img) sizes)) (x0 + from) y ⌝ }
+    requires { ⌜ Started (now img) (now offsets) (stride (imageOf (now img) sizes)) (x0 + from) y (to - from) ⌝ }
+    ensures { λ _. ⌜ Wrote plusZero (length (now (out .entry))) 0 (insideAt (now (img .entry)) (now (offsets .entry)) (stride (imageOf (now (img .entry)) sizes)) x0 y from to) (now (out .entry)) (now (out .exit)) ⌝ }
 {
     let n = out.len();
-    let starts = ring::starts_of(offsets, width, x0 + from, y);
+    let stride = sizes.width;
+    let starts = ring::starts_of(offsets, stride, x0 + from, y);
     fill(&mut out[0..from]);
     row::write_row(img, &starts, &mut out[from..to]);
     fill(&mut out[to..n]);
@@ -78,8 +82,7 @@ fn row_inside(
 // A row of the region, whose columns in which the ring fits go from `from` up to `to`.
 fn region_row(
     img: &[u8],
-    width: usize,
-    height: usize,
+    sizes: Sizes,
     offsets: &[u8; 42],
     radius: usize,
     x0: usize,
@@ -88,17 +91,17 @@ fn region_row(
     to: usize,
     out: &mut [f32],
 )
-    requires { ⌜ Framed (record { samples = now img; width = width; height = height }) (now offsets) radius x0 (length (now out)) ⌝ }
+    requires { ⌜ Framed (imageOf (now img) sizes) (now offsets) radius x0 (length (now out)) ⌝ }
     requires { ⌜ From x0 (length (now out)) radius from ⌝ }
-    requires { ⌜ To x0 (length (now out)) width radius from to ⌝ }
-    requires { ⌜ y < height ⌝ }
-    ensures { λ _. ⌜ Wrote plusZero (length (now (out .entry))) 0 (λ i. shiftedAt (record { samples = now (img .entry); width = width; height = height }) (now (offsets .entry)) radius (x0 + i) y) (now (out .entry)) (now (out .exit)) ⌝ }
+    requires { ⌜ To x0 (length (now out)) (sizes .width) radius from to ⌝ }
+    requires { ⌜ y < sizes .height ⌝ }
+    ensures { λ _. ⌜ Wrote plusZero (length (now (out .entry))) 0 (λ i. shiftedAt (imageOf (now (img .entry)) sizes) (now (offsets .entry)) radius (x0 + i) y) (now (out .entry)) (now (out .exit)) ⌝ }
 {
     if y < radius {
         fill(out);
         return;
     }
-    if height <= y + radius {
+    if sizes.height <= y + radius {
         fill(out);
         return;
     }
@@ -106,14 +109,13 @@ fn region_row(
         fill(out);
         return;
     }
-    row_inside(img, width, offsets, x0, y, from, to, out);
+    row_inside(img, sizes, offsets, x0, y, from, to, out);
 }
 
 // The region of w columns from x0 on and h rows from y0 on.
 pub fn write_region(
     img: &[u8],
-    width: usize,
-    height: usize,
+    sizes: Sizes,
     offsets: &[u8; 42],
     radius: usize,
     x0: usize,
@@ -122,20 +124,19 @@ pub fn write_region(
     h: usize,
     out: &mut [f32],
 )
-    requires { ⌜ Framed (record { samples = now img; width = width; height = height }) (now offsets) radius x0 w ⌝ }
-    requires { ⌜ (y0 + h ≤ height) × (length (now out) ≡ w * h) ⌝ }
-    ensures { λ _. ⌜ Wrote plusZero (length (now (out .entry))) 0 (λ i. shiftedAt (record { samples = now (img .entry); width = width; height = height }) (now (offsets .entry)) radius (x0 + i % w) (y0 + i / w)) (now (out .entry)) (now (out .exit)) ⌝ }
+    requires { ⌜ Framed (imageOf (now img) sizes) (now offsets) radius x0 w ⌝ }
+    requires { ⌜ (y0 + h ≤ sizes .height) × (length (now out) ≡ w * h) ⌝ }
+    ensures { λ _. ⌜ Wrote plusZero (length (now (out .entry))) 0 (λ i. shiftedAt (imageOf (now (img .entry)) sizes) (now (offsets .entry)) radius (x0 + i % w) (y0 + i / w)) (now (out .entry)) (now (out .exit)) ⌝ }
 {
     let from = from_column(x0, w, radius);
-    let to = to_column(x0, w, width, radius, from);
+    let to = to_column(x0, w, sizes.width, radius, from);
     let mut r: usize = 0;
     while r < h {
         let at = r * w;
         let end = at + w;
         region_row(
             img,
-            width,
-            height,
+            sizes,
             offsets,
             radius,
             x0,
@@ -148,7 +149,7 @@ pub fn write_region(
     }
 }
 
-fn least(a: usize, b: usize) -> usize
+fn lesser(a: usize, b: usize) -> usize
     ensures { λ r. ⌜ r ≡ min a b ⌝ }
 {
     if a < b { a } else { b }
@@ -182,28 +183,27 @@ fn height_of(x0: usize, y0: usize, x1: usize, y1: usize) -> usize
 // The region that is left of the roi within the image, if the lent response has its size.
 pub fn write_clamped(
     img: &[u8],
-    width: usize,
-    height: usize,
+    sizes: Sizes,
     offsets: &[u8; 42],
     radius: usize,
     roi: Roi,
     out: &mut [f32],
 ) -> Response
-    requires { ⌜ Framed (record { samples = now img; width = width; height = height }) (now offsets) radius 0 0 ⌝ }
-    ensures { λ r. ⌜ Clamped (record { samples = now (img .entry); width = width; height = height }) (now (offsets .entry)) radius (regionOf roi) (now (out .entry)) r (now (out .exit)) ⌝ }
+    requires { ⌜ Framed (imageOf (now img) sizes) (now offsets) radius 0 0 ⌝ }
+    ensures { λ r. ⌜ Clamped (imageOf (now (img .entry)) sizes) (now (offsets .entry)) radius (regionOf roi) (now (out .entry)) r (now (out .exit)) ⌝ }
 {
-    let x0 = least(roi.x0, width);
-    let y0 = least(roi.y0, height);
-    let x1 = least(roi.x1, width);
-    let y1 = least(roi.y1, height);
+    let x0 = lesser(roi.x0, sizes.width);
+    let y0 = lesser(roi.y0, sizes.height);
+    let x1 = lesser(roi.x1, sizes.width);
+    let y1 = lesser(roi.y1, sizes.height);
     let w = width_of(x0, y0, x1, y1);
     let h = height_of(x0, y0, x1, y1);
     let room = out.len();
     let size = w * h;
     if room != size {
-        return Response::BadOut;
+        return Response::Refused(Refusal::BadOut);
     }
-    write_region(img, width, height, offsets, radius, x0, y0, w, h, out);
+    write_region(img, sizes, offsets, radius, x0, y0, w, h, out);
     Response::Written {
         width: w,
         height: h,

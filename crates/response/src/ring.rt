@@ -66,11 +66,11 @@ pub fn are_around(offsets: &[u8; 42], radius: usize) -> bool
 }
 
 // Where the pixel (x, y) stands.
-fn place(width: usize, x: usize, y: usize) -> usize
-    requires { ⌜ (width ≤ 4096) × (x ≤ 8192) × (y ≤ 8192) ⌝ }
-    ensures { λ r. ⌜ r ≡ y * width + x ⌝ }
+fn place(stride: usize, x: usize, y: usize) -> usize
+    requires { ⌜ (stride ≤ 4096) × (x ≤ 8192) × (y ≤ 8192) ⌝ }
+    ensures { λ r. ⌜ r ≡ y * stride + x ⌝ }
 {
-    y * width + x
+    y * stride + x
 }
 
 // A coordinate moved by a component.
@@ -82,16 +82,16 @@ fn moved_by(x: usize, offset: u8) -> usize
 }
 
 // The 21 samples of the pixel (x, y).
-pub fn starts_of(offsets: &[u8; 42], width: usize, x: usize, y: usize) -> [usize; 21]
-    requires { ⌜ Startable (now offsets) width x y ⌝ }
-    ensures { λ r. ⌜ Wrote 0 21 0 (startOf (now (offsets .entry)) width x y) (replicate 21 0) r ⌝ }
+pub fn starts_of(offsets: &[u8; 42], stride: usize, x: usize, y: usize) -> [usize; 21]
+    requires { ⌜ Startable (now offsets) stride x y ⌝ }
+    ensures { λ r. ⌜ Wrote 0 21 0 (startOf (now (offsets .entry)) stride x y) (replicate 21 0) r ⌝ }
 {
     let mut starts = [0usize; 21];
     let mut k: usize = 0;
     while k < 21 {
         let column = moved_by(x, offsets[2 * k]);
         let line = moved_by(y, offsets[2 * k + 1]);
-        starts[k] = place(width, column, line);
+        starts[k] = place(stride, column, line);
         k = k + 1;
     }
     starts

@@ -9,7 +9,7 @@ use Rattle.floats.specs.Convert.{convert}
 use Rattle.floats.specs.Whole.{floor, roundAway}
 use Rattle.floats.specs.Root.{sqrt}
 use Rattle.floats.specs.TotalOrder.{totalCmp}
-use Rattle.imageview.specs.Image.{Image, isImage, pixel}
+use Rattle.imageview.specs.Image.{imageOf, sizesOf, isImage, pixel}
 use Rattle.imageview.specs.Patch.{supportsPatch}
 use Rattle.fit_operator.specs.Call.{wayOf}
 use Rattle.fit_operator.specs.Inverse.{inverseNormalMatrix, pivotOf, swapped, scaled, cleared}
@@ -23,7 +23,7 @@ use Rattle.saddle_fit.specs.Covariance.{covarianceOf}
 use Rattle.saddle_fit.specs.declared.Covariance.{Covariance}
 use Rattle.saddle_fit.specs.declared.Covariance.the-variants.{Known, Unknown}
 use Rattle.saddle_point.specs.declared.Refined.{Refined}
-use Rattle.saddle_point.specs.declared.Refined.the-variants.{Accepted, Rejected, OutOfBounds, IllConditioned, BadImage, BadRadius, BadLimit}
+use Rattle.saddle_point.specs.declared.Refined.the-variants.{Accepted, Unmoved, Refused}
 use Rattle.saddle_point.specs.Refine.{refineOf, numberOf}
 
 abbrev f32 : ℕ → Float
@@ -41,16 +41,12 @@ cov (Known xx xy yy) = 1 ∷ b32 xx ∷ b32 xy ∷ b32 yy ∷ []
 
 abbrev rest : Refined → List ℕ
 rest (Accepted e) = b32 (e .x) ∷ b32 (e .y) ∷ b32 (e .score) ∷ flag (e .converged) ∷ e .tries ∷ cov (e .covariance)
-rest (Rejected d) = b32 d ∷ []
-rest OutOfBounds = []
-rest (IllConditioned d) = b32 d ∷ []
-rest BadImage = []
-rest BadRadius = []
-rest BadLimit = []
+rest (Unmoved why score) = b32 score ∷ []
+rest (Refused r) = []
 
 abbrev shown : List ℕ → ℕ → ℕ → ℕ → ℕ → ℕ → ℕ → Bool → ℕ → ℕ → List ℕ
 shown s w h r dm mo md c x y =
-    let a = refineOf (record { samples = s; width = w; height = h }) (record { radius = r; «det_margin» = f32 dm; «max_offset» = f32 mo; «min_abs_det» = f32 md }) (f32 x) (f32 y) c in
+    let a = refineOf (imageOf s (sizesOf w h)) (record { radius = r; «det_margin» = f32 dm; «max_offset» = f32 mo; «min_abs_det» = f32 md }) (f32 x) (f32 y) c in
     numberOf a ∷ rest a
 
 unsettled : shown (128 ∷ 126 ∷ 128 ∷ 129 ∷ 128 ∷ 131 ∷ 126 ∷ 126 ∷ 130 ∷ []) 3 3 1 0 1090519040 0 true 1065353216 1065353216 ≡ 0 ∷ 1061405636 ∷ 1064366321 ∷ 1082388603 ∷ 0 ∷ 4 ∷ 0 ∷ 0 ∷ 0 ∷ 0 ∷ []

@@ -32,7 +32,7 @@ use Rattle.saddle_fit.specs.Sensitivity.{regular, Along, noWay, way, along, bot
 use Rattle.saddle_fit.specs.Covariance.{covarianceOf}
 use Rattle.saddle_fit.specs.Run.{Task, Finish, atStart, settled, runOf, picked, stepsFrom, searchFrom}
 use Rattle.saddle_point.specs.Refine.{single, estimate, closed, closedAt, finished}
-use Rattle.fit_cache.specs.Adding.{Sound, Within}
+use Rattle.fit_cache.specs.Adding.{Sound, PatchWithin}
 use Rattle.fit_cache.specs.Tries.{taskAt}
 use Rattle.saddle_point.specs.Ending.{Ends, centred, Closes, wayOf, GoesX, GoesY}
 use Rattle.fit_cache.proofs.CacheLaws.{there, behind}
@@ -129,7 +129,7 @@ module _ (fit : ℤ → Fit) (coef : ℕ → List Float) (radius n x : ℕ) (fit
       by zero e = ap (λ (k : ℕ). fit (subℕ k 1)) e ∙ away (negsuc 0) refl
       by (suc k) e = ap fit (back (omega (arith, e))) ∙ away (pos (x - 1)) (sym (before radius n (x - 1) (omega (arith, e))))
 
-module _ (img : Image) (columns : List Float) (radius x y : ℕ) (w : Within img radius x y) where
+module _ (img : Image) (columns : List Float) (radius x y : ℕ) (w : PatchWithin img radius x y) where
   fits-x : (k : ℕ) → radius ≤ k → k + radius < img .width → fitAt img columns radius (pos k) (pos y) ≡ fitted (coefficients img columns radius k y)
   fits-x k l h = there img columns radius k y (record { sound = w .sound; left = l; right = h; above = w .above; below = w .below })
 
@@ -163,11 +163,11 @@ module _ (img : Image) (columns : List Float) (radius x y : ℕ) (w : Within img
   y-none here h g = record { is = from-none (λ z. fitAt img columns radius (pos x) z) (λ k. coefficients img columns radius x k) radius (img .height) y fits-y outside-y (w .above) (w .below) h g }
 
 -- ---- a centre's column and row are those of some image
-pub column : {img : Image} {radius x y : ℕ} → Within img radius x y → x < 4096
-column w = omega (arith, w .right, w .sound .wide)
+pub column : {img : Image} {radius x y : ℕ} → PatchWithin img radius x y → x < 4096
+column w = omega (arith, w .right, w .sound .image .sized .width-most)
 
-pub row : {img : Image} {radius x y : ℕ} → Within img radius x y → y < 4096
-row w = omega (arith, w .below, w .sound .high)
+pub row : {img : Image} {radius x y : ℕ} → PatchWithin img radius x y → y < 4096
+row w = omega (arith, w .below, w .sound .image .sized .height-most)
 
 -- ---- the whole run
 module _ (img : Image) (columns overlap : List Float) (cfg : SaddlePointConfig) (seed : Seed) (first : PatchSaddle) (wanted : Bool) where

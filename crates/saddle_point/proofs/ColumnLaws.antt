@@ -1,4 +1,4 @@
--- A fit reads the first columns of an operator and no more, so two operators that agree there refine alike.
+-- Two tasks whose fits are the same entry every pixel run alike. A fit reads the first columns of an operator and no more, so two operators that agree there refine alike.
 use mathlib.Core.Path.{_≡_, refl, sym, ap, _∙_, subst}
 use mathlib.Core.Bool.{Bool, true, false, cond}
 use mathlib.Core.List.{List, _++_}
@@ -7,8 +7,6 @@ use native.Mathlib.Omega.{arith}
 use lib.IntN.{ℤ, pos, negsuc, _+ℤ_}
 use lib.ListN.{length, drop, List·getD-append}
 use lib.Ieee.{Float, nan}
-use Rattle.shapes.proofs.ListLaws.{tabulated-cong}
-use Rattle.shapes.proofs.TurnLaws.{turns-cong}
 use Rattle.shapes.specs.Numbers.{plusZero, one, entry}
 use Rattle.imageview.specs.Image.{Image}
 use Rattle.imageview.specs.Patch.{supportsPatch}
@@ -16,6 +14,8 @@ use Rattle.fit_operator.specs.Basis.{samples}
 use Rattle.fit_operator.specs.Call as Operator
 use Rattle.fit_operator.specs.declared.Operator.{Operator}
 use Rattle.fit_operator.specs.declared.Operator.the-variants as Answer
+use Rattle.shapes.proofs.ListLaws.{tabulated-cong}
+use Rattle.shapes.proofs.TurnLaws.{turns-cong}
 use Rattle.fit_operator.proofs.CallLaws.{built-length, refused-bad}
 use Rattle.saddle_fit.specs.declared.SaddlePointConfig.{SaddlePointConfig}
 use Rattle.saddle_fit.specs.declared.PatchSaddle.{PatchSaddle}
@@ -25,7 +25,10 @@ use Rattle.saddle_fit.specs.declared.Solved.{Solved}
 use Rattle.saddle_fit.specs.declared.Solved.the-variants.{Refused, Saddle}
 use Rattle.saddle_point.specs.declared.Estimate.{Estimate}
 use Rattle.saddle_point.specs.declared.Refined.{Refined}
-use Rattle.saddle_point.specs.declared.Refined.the-variants.{Accepted, Rejected, IllConditioned, BadRadius}
+use Rattle.saddle_point.specs.declared.Refined.the-variants.{Accepted, Unmoved}
+use Rattle.saddle_point.specs.declared.Refined.the-variants as Refined
+use Rattle.saddle_point.specs.declared.Why.the-variants.{Rejected, IllConditioned}
+use Rattle.refusals.specs.declared.Refusal.the-variants.{BadRadius}
 use Rattle.saddle_fit.specs.Numbers.{_⊕_, _⊖_, _⊗_, half}
 use Rattle.saddle_fit.specs.Fit.{sampleOf, coefficient, coefficients, Fit, noFit, fitted, fitWithin, fitAt}
 use Rattle.saddle_fit.specs.Solve.{solve}
@@ -33,65 +36,49 @@ use Rattle.saddle_fit.specs.Between.{Place, placeOf, Fits, lacking, four, fits4
 use Rattle.saddle_fit.specs.Sensitivity.{Sloped, noSlope, sloped, along, both, slopeAt}
 use Rattle.saddle_fit.specs.Run.{Task, nearSeed, settled, norm2, Stand, Tried, passed, taken, judged, weighed, candidate, Search, orElse, searchFrom, Finish, atStart, atStand, picked, laterMove, stepsFrom, runOf}
 use Rattle.fit_cache.specs.Tries.{taskAt}
-use Rattle.saddle_point.specs.Admission.{fittedWith, freshFit}
-use Rattle.saddle_point.specs.Refine.{single, closed, closedAt, finished, fromSaddle, fromFit}
+use Rattle.saddle_point.specs.Refine.{single, closed, closedAt, finished, fromSaddle, refineWith, withOperator}
 
-below : (n k i : ℕ) → k < n → i < 5 → 5 * k + i < 5 * n
-below n k i h l = omega arith
+-- ---- two images and two operators that give the same fit entry every pixel
+abbrev pub SameFits : Image → Image → List Float → List Float → ℕ → Type 0
+SameFits p q a b radius = (z w : ℤ) → fitAt p a radius z w ≡ fitAt q b radius z w
 
-module _ (img : Image) (a b : List Float) (radius : ℕ) (same : (k : ℕ) → k < 5 * samples radius → entry a k ≡ entry b k) where
-  coefficient-same : (x y i : ℕ) → i < 5 → coefficient img a radius x y i ≡ coefficient img b radius x y i
-  unfolding coefficient
-  coefficient-same x y i l =
-      turns-cong (samples radius)
-      (λ k s. s ⊕ entry a (5 * k + i) ⊗ (sampleOf img radius x y k ⊖ sampleOf img radius x y (samples radius / 2)))
-      (λ k s. s ⊕ entry b (5 * k + i) ⊗ (sampleOf img radius x y k ⊖ sampleOf img radius x y (samples radius / 2)))
-      plusZero
-      (λ k h s. ap (λ (c : Float). s ⊕ c ⊗ (sampleOf img radius x y k ⊖ sampleOf img radius x y (samples radius / 2))) (same (5 * k + i) (below (samples radius) k i h l)))
+module _ (p q : Image) (a b : List Float) (radius : ℕ) (same : SameFits p q a b radius) where
+  abbrev fa : ℤ → ℤ → Fit
+  fa = fitAt p a radius
 
-  pub coefficients-same : (x y : ℕ) → coefficients img a radius x y ≡ coefficients img b radius x y
-  unfolding coefficients
-  coefficients-same x y = tabulated-cong 5 (coefficient img a radius x y) (coefficient img b radius x y) (coefficient-same x y)
+  abbrev fb : ℤ → ℤ → Fit
+  fb = fitAt q b radius
 
-  within-same : (z w : ℤ) → fitWithin img a radius z w ≡ fitWithin img b radius z w
-  within-same (pos x) (pos y) = ap fitted (coefficients-same x y)
-  within-same (pos x) (negsuc y) = refl
-  within-same (negsuc x) w = refl
-
-  fit-same : (z w : ℤ) → fitAt img a radius z w ≡ fitAt img b radius z w
-  unfolding fitAt
-  fit-same z w = ap (λ (f : Fit). cond (supportsPatch img radius z w) f noFit) (within-same z w)
-
-  corners-same : (z w : ℤ) → cornersAt img a radius z w ≡ cornersAt img b radius z w
+  corners-same : (z w : ℤ) → cornersAt p a radius z w ≡ cornersAt q b radius z w
   unfolding cornersAt
   corners-same z w =
-      ap (λ (f : Fit). fits4 f (fitAt img a radius (z +ℤ pos 1) w) (fitAt img a radius z (w +ℤ pos 1)) (fitAt img a radius (z +ℤ pos 1) (w +ℤ pos 1))) (fit-same z w)
-      ∙ ap (λ (f : Fit). fits4 (fitAt img b radius z w) f (fitAt img a radius z (w +ℤ pos 1)) (fitAt img a radius (z +ℤ pos 1) (w +ℤ pos 1))) (fit-same (z +ℤ pos 1) w)
-      ∙ ap (λ (f : Fit). fits4 (fitAt img b radius z w) (fitAt img b radius (z +ℤ pos 1) w) f (fitAt img a radius (z +ℤ pos 1) (w +ℤ pos 1))) (fit-same z (w +ℤ pos 1))
-      ∙ ap (λ (f : Fit). fits4 (fitAt img b radius z w) (fitAt img b radius (z +ℤ pos 1) w) (fitAt img b radius z (w +ℤ pos 1)) f) (fit-same (z +ℤ pos 1) (w +ℤ pos 1))
+      ap (λ (f : Fit). fits4 f (fa (z +ℤ pos 1) w) (fa z (w +ℤ pos 1)) (fa (z +ℤ pos 1) (w +ℤ pos 1))) (same z w)
+      ∙ ap (λ (f : Fit). fits4 (fb z w) f (fa z (w +ℤ pos 1)) (fa (z +ℤ pos 1) (w +ℤ pos 1))) (same (z +ℤ pos 1) w)
+      ∙ ap (λ (f : Fit). fits4 (fb z w) (fb (z +ℤ pos 1) w) f (fa (z +ℤ pos 1) (w +ℤ pos 1))) (same z (w +ℤ pos 1))
+      ∙ ap (λ (f : Fit). fits4 (fb z w) (fb (z +ℤ pos 1) w) (fb z (w +ℤ pos 1)) f) (same (z +ℤ pos 1) (w +ℤ pos 1))
 
-  slope-same : (z w : ℤ) → slopeAt img a radius z w ≡ slopeAt img b radius z w
+  slope-same : (z w : ℤ) → slopeAt p a radius z w ≡ slopeAt q b radius z w
   unfolding slopeAt
   slope-same z w =
-      ap (λ (f : Fit). both (along f (fitAt img a radius (z +ℤ pos 1) w) (fitAt img a radius (z +ℤ negsuc 0) w)) (along f (fitAt img a radius z (w +ℤ pos 1)) (fitAt img a radius z (w +ℤ negsuc 0)))) (fit-same z w)
-      ∙ ap (λ (f : Fit). both (along (fitAt img b radius z w) f (fitAt img a radius (z +ℤ negsuc 0) w)) (along (fitAt img b radius z w) (fitAt img a radius z (w +ℤ pos 1)) (fitAt img a radius z (w +ℤ negsuc 0)))) (fit-same (z +ℤ pos 1) w)
-      ∙ ap (λ (f : Fit). both (along (fitAt img b radius z w) (fitAt img b radius (z +ℤ pos 1) w) f) (along (fitAt img b radius z w) (fitAt img a radius z (w +ℤ pos 1)) (fitAt img a radius z (w +ℤ negsuc 0)))) (fit-same (z +ℤ negsuc 0) w)
-      ∙ ap (λ (f : Fit). both (along (fitAt img b radius z w) (fitAt img b radius (z +ℤ pos 1) w) (fitAt img b radius (z +ℤ negsuc 0) w)) (along (fitAt img b radius z w) f (fitAt img a radius z (w +ℤ negsuc 0)))) (fit-same z (w +ℤ pos 1))
-      ∙ ap (λ (f : Fit). both (along (fitAt img b radius z w) (fitAt img b radius (z +ℤ pos 1) w) (fitAt img b radius (z +ℤ negsuc 0) w)) (along (fitAt img b radius z w) (fitAt img b radius z (w +ℤ pos 1)) f)) (fit-same z (w +ℤ negsuc 0))
+      ap (λ (f : Fit). both (along f (fa (z +ℤ pos 1) w) (fa (z +ℤ negsuc 0) w)) (along f (fa z (w +ℤ pos 1)) (fa z (w +ℤ negsuc 0)))) (same z w)
+      ∙ ap (λ (f : Fit). both (along (fb z w) f (fa (z +ℤ negsuc 0) w)) (along (fb z w) (fa z (w +ℤ pos 1)) (fa z (w +ℤ negsuc 0)))) (same (z +ℤ pos 1) w)
+      ∙ ap (λ (f : Fit). both (along (fb z w) (fb (z +ℤ pos 1) w) f) (along (fb z w) (fa z (w +ℤ pos 1)) (fa z (w +ℤ negsuc 0)))) (same (z +ℤ negsuc 0) w)
+      ∙ ap (λ (f : Fit). both (along (fb z w) (fb (z +ℤ pos 1) w) (fb (z +ℤ negsuc 0) w)) (along (fb z w) f (fa z (w +ℤ negsuc 0)))) (same z (w +ℤ pos 1))
+      ∙ ap (λ (f : Fit). both (along (fb z w) (fb (z +ℤ pos 1) w) (fb (z +ℤ negsuc 0) w)) (along (fb z w) (fb z (w +ℤ pos 1)) f)) (same z (w +ℤ negsuc 0))
 
 picked-same : (r : Tried) (g h : Stand → Finish) (e : Finish) → ((s : Stand) → g s ≡ h s) → picked r g e ≡ picked r h e
 picked-same passed g h e q = refl
 picked-same (taken s) g h e q = q s
 
-module _ (img : Image) (a b : List Float) (cfg : SaddlePointConfig) (cx cy : ℤ) (x y : Float) (same : (k : ℕ) → k < 5 * samples (cfg .radius) → entry a k ≡ entry b k) where
-  abbrev taskWith : List Float → Task
-  taskWith c = record { img = img; columns = c; cfg = cfg; centreX = cx; centreY = cy; seedX = x; seedY = y }
+module _ (p q : Image) (a b : List Float) (cfg : SaddlePointConfig) (cx cy : ℤ) (x y : Float) (same : SameFits p q a b (cfg .radius)) where
+  abbrev taskWith : Image → List Float → Task
+  taskWith img c = record { img = img; columns = c; cfg = cfg; centreX = cx; centreY = cy; seedX = x; seedY = y }
 
   abbrev ta : Task
-  ta = taskWith a
+  ta = taskWith p a
 
   abbrev tb : Task
-  tb = taskWith b
+  tb = taskWith q b
 
   judged-same : (f : PatchSaddle) (ox oy : Float) (w : Place) (v : Fits) → weighed ta f ox oy w v ≡ weighed tb f ox oy w v
   unfolding nearSeed
@@ -106,9 +93,9 @@ module _ (img : Image) (a b : List Float) (cfg : SaddlePointConfig) (cx cy : ℤ
   unfolding candidate
   candidate-same f ox oy =
       ap (λ (v : Fits). weighed ta f ox oy (placeOf cx cy ox oy) v)
-      (corners-same img a b (cfg .radius) same (placeOf cx cy ox oy .baseX) (placeOf cx cy ox oy .baseY))
+      (corners-same p q a b (cfg .radius) same (placeOf cx cy ox oy .baseX) (placeOf cx cy ox oy .baseY))
       ∙ judged-same f ox oy (placeOf cx cy ox oy)
-      (cornersAt img b (cfg .radius) (placeOf cx cy ox oy .baseX) (placeOf cx cy ox oy .baseY))
+      (cornersAt q b (cfg .radius) (placeOf cx cy ox oy .baseX) (placeOf cx cy ox oy .baseY))
 
   search-same : (left : ℕ) (f : PatchSaddle) (ox oy : Float) (m : Move) (scale : Float) → searchFrom left ta f ox oy m scale ≡ searchFrom left tb f ox oy m scale
   unfolding searchFrom
@@ -140,20 +127,43 @@ module _ (img : Image) (a b : List Float) (cfg : SaddlePointConfig) (cx cy : ℤ
 
   finished-same : (overlap : List Float) (wanted : Bool) (f : PatchSaddle) (e : Finish) → finished ta overlap wanted f e ≡ finished tb overlap wanted f e
   finished-same overlap wanted f (atStart n) =
-      ap (λ (s : Sloped). cond (settled f) (closedAt ta overlap wanted (placeOf cx cy plusZero plusZero) f n s) (single ta f n)) (slope-same img a b (cfg .radius) same cx cy)
-      ∙ ap (λ (e : Estimate). cond (settled f) e (single ta f n)) (closed-same overlap wanted (placeOf cx cy plusZero plusZero) f n (slopeAt img b (cfg .radius) cx cy))
+      ap (λ (s : Sloped). cond (settled f) (closedAt ta overlap wanted (placeOf cx cy plusZero plusZero) f n s) (single ta f n)) (slope-same p q a b (cfg .radius) same cx cy)
+      ∙ ap (λ (e : Estimate). cond (settled f) e (single ta f n)) (closed-same overlap wanted (placeOf cx cy plusZero plusZero) f n (slopeAt q b (cfg .radius) cx cy))
   finished-same overlap wanted f (atStand s n) = refl
 
-  saddle-same : (overlap : List Float) (wanted : Bool) (s : Solved) → fromSaddle ta overlap wanted s ≡ fromSaddle tb overlap wanted s
+  pub saddle-same : (overlap : List Float) (wanted : Bool) (s : Solved) → fromSaddle ta overlap wanted s ≡ fromSaddle tb overlap wanted s
   unfolding nearSeed
   saddle-same overlap wanted (Refused d) = refl
   saddle-same overlap wanted (Saddle f) =
-      ap (λ (e : Estimate). cond (nearSeed ta (f .ux) (f .uy)) (Accepted e) (Rejected (f .«det_h»)))
+      ap (λ (e : Estimate). cond (nearSeed ta (f .ux) (f .uy)) (Accepted e) (Unmoved Rejected (f .«det_h»)))
       (ap (λ (e : Finish). finished ta overlap wanted f e) (run-same f) ∙ finished-same overlap wanted f (runOf tb f))
 
-  pub from-same : (overlap : List Float) (wanted : Bool) (f : Fit) → fromFit ta overlap wanted f ≡ fromFit tb overlap wanted f
-  from-same overlap wanted noFit = refl
-  from-same overlap wanted (fitted l) = saddle-same overlap wanted (solve cfg l)
+-- ---- a fit reads the first columns of an operator and no more
+below : (n k i : ℕ) → k < n → i < 5 → 5 * k + i < 5 * n
+below n k i h l = omega arith
+
+module _ (img : Image) (a b : List Float) (radius : ℕ) (same : (k : ℕ) → k < 5 * samples radius → entry a k ≡ entry b k) where
+  coefficient-same : (x y i : ℕ) → i < 5 → coefficient img a radius x y i ≡ coefficient img b radius x y i
+  unfolding coefficient
+  coefficient-same x y i l =
+      turns-cong (samples radius)
+      (λ k s. s ⊕ entry a (5 * k + i) ⊗ (sampleOf img radius x y k ⊖ sampleOf img radius x y (samples radius / 2)))
+      (λ k s. s ⊕ entry b (5 * k + i) ⊗ (sampleOf img radius x y k ⊖ sampleOf img radius x y (samples radius / 2)))
+      plusZero
+      (λ k h s. ap (λ (c : Float). s ⊕ c ⊗ (sampleOf img radius x y k ⊖ sampleOf img radius x y (samples radius / 2))) (same (5 * k + i) (below (samples radius) k i h l)))
+
+  coefficients-same : (x y : ℕ) → coefficients img a radius x y ≡ coefficients img b radius x y
+  unfolding coefficients
+  coefficients-same x y = tabulated-cong 5 (coefficient img a radius x y) (coefficient img b radius x y) (coefficient-same x y)
+
+  within-same : (z w : ℤ) → fitWithin img a radius z w ≡ fitWithin img b radius z w
+  within-same (pos x) (pos y) = ap fitted (coefficients-same x y)
+  within-same (pos x) (negsuc y) = refl
+  within-same (negsuc x) w = refl
+
+  fit-same : SameFits img img a b radius
+  unfolding fitAt
+  fit-same z w = ap (λ (f : Fit). cond (supportsPatch img radius z w) f noFit) (within-same z w)
 
 -- ---- an operator as it stands in the front of longer arrays
 abbrev isBuilt : Operator → Type 0
@@ -175,35 +185,36 @@ module _ (img : Image) (cfg : SaddlePointConfig) (seed : Seed) (wanted : Bool) w
   agree : (c rest : List Float) (n : ℕ) → length c ≡ n → (k : ℕ) → k < n → entry (c ++ rest) k ≡ entry c k
   agree c rest n e k h = List·getD-append c rest nan k (subst (λ (m : ℕ). k < m) (sym e) h)
 
-  front : (c rest overlap : List Float) → length c ≡ 5 * samples (cfg .radius) → fittedWith img cfg seed wanted (c ++ rest) overlap ≡ fittedWith img cfg seed wanted c overlap
+  front : (c rest overlap : List Float) → length c ≡ 5 * samples (cfg .radius) → refineWith img cfg seed wanted (c ++ rest) overlap ≡ refineWith img cfg seed wanted c overlap
   front c rest overlap e =
-      ap (λ (l : List Float). fromFit (taskAt img (c ++ rest) cfg seed) overlap wanted (fitted l)) (coefficients-same img (c ++ rest) c (cfg .radius) (agree c rest (5 * samples (cfg .radius)) e) (seed .«centre_x») (seed .«centre_y»))
-      ∙ from-same img (c ++ rest) c cfg (pos (seed .«centre_x»)) (pos (seed .«centre_y»)) (seed .x) (seed .y) (agree c rest (5 * samples (cfg .radius)) e) overlap wanted (fitted (coefficients img c (cfg .radius) (seed .«centre_x») (seed .«centre_y»)))
+      let same = agree c rest (5 * samples (cfg .radius)) e in
+      ap (λ (l : List Float). fromSaddle (taskAt img (c ++ rest) cfg seed) overlap wanted (solve cfg l)) (coefficients-same img (c ++ rest) c (cfg .radius) same (seed .«centre_x») (seed .«centre_y»))
+      ∙ saddle-same img img (c ++ rest) c cfg (pos (seed .«centre_x»)) (pos (seed .«centre_y»)) (seed .x) (seed .y) (fit-same img (c ++ rest) c (cfg .radius) same) overlap wanted (solve cfg (coefficients img c (cfg .radius) (seed .«centre_x») (seed .«centre_y»)))
 
-  by-way : (old overlap columns' overlap' : List Float) (w : Operator.Way) → ((c o : List Float) → w ≡ Operator.built c o → length c ≡ 5 * samples (cfg .radius)) → ((r : Operator) → w ≡ Operator.refused r → r ≡ Answer.BadRadius) → Operator.answerOf w ≡ Answer.Built → columns' ≡ Operator.columnsAfter (cfg .radius) old w → overlap' ≡ Operator.overlapAfter overlap w → fittedWith img cfg seed wanted columns' overlap' ≡ freshFit img cfg seed wanted w
+  by-way : (old overlap columns' overlap' : List Float) (w : Operator.Way) → ((c o : List Float) → w ≡ Operator.built c o → length c ≡ 5 * samples (cfg .radius)) → ((r : Operator) → w ≡ Operator.refused r → r ≡ Answer.BadRadius) → Operator.answerOf w ≡ Answer.Built → columns' ≡ Operator.columnsAfter (cfg .radius) old w → overlap' ≡ Operator.overlapAfter overlap w → refineWith img cfg seed wanted columns' overlap' ≡ withOperator img cfg seed wanted w
   by-way old overlap columns' overlap' (Operator.refused r) l g b p q = absurd (subst isBuilt (g r refl) (subst isBuilt (sym b) tt))
   by-way old overlap columns' overlap' Operator.none l g b p q = absurd (subst isBuilt (sym b) tt)
   by-way old overlap columns' overlap' (Operator.built c o) l g b p q =
-      ap (λ (v : List Float). fittedWith img cfg seed wanted v overlap') p
-      ∙ ap (λ (v : List Float). fittedWith img cfg seed wanted (c ++ drop (5 * samples (cfg .radius)) old) v) q
+      ap (λ (v : List Float). refineWith img cfg seed wanted v overlap') p
+      ∙ ap (λ (v : List Float). refineWith img cfg seed wanted (c ++ drop (5 * samples (cfg .radius)) old) v) q
       ∙ front c (drop (5 * samples (cfg .radius)) old) o (l c o refl)
 
-  pub fresh-built : (old overlap columns' overlap' : List Float) (r : Operator) → Operator.Done (cfg .radius) old overlap r columns' overlap' → r ≡ Answer.Built → fittedWith img cfg seed wanted columns' overlap' ≡ freshFit img cfg seed wanted (Operator.wayOf (cfg .radius))
+  pub fresh-built : (old overlap columns' overlap' : List Float) (r : Operator) → Operator.Done (cfg .radius) old overlap r columns' overlap' → r ≡ Answer.Built → refineWith img cfg seed wanted columns' overlap' ≡ withOperator img cfg seed wanted (Operator.wayOf (cfg .radius))
   fresh-built old overlap columns' overlap' r d e =
       by-way old overlap columns' overlap' (Operator.wayOf (cfg .radius)) (built-length (cfg .radius)) (refused-bad (cfg .radius)) (sym (d .answers) ∙ e) (d .leaves-columns) (d .leaves-overlap)
 
-  singular-way : (w : Operator.Way) → ((r : Operator) → w ≡ Operator.refused r → r ≡ Answer.BadRadius) → Operator.answerOf w ≡ Answer.Singular → IllConditioned plusZero ≡ freshFit img cfg seed wanted w
+  singular-way : (w : Operator.Way) → ((r : Operator) → w ≡ Operator.refused r → r ≡ Answer.BadRadius) → Operator.answerOf w ≡ Answer.Singular → Unmoved IllConditioned plusZero ≡ withOperator img cfg seed wanted w
   singular-way (Operator.refused r) g e = absurd (subst isSingular (g r refl) (subst isSingular (sym e) tt))
   singular-way Operator.none g e = refl
   singular-way (Operator.built c o) g e = absurd (subst isSingular (sym e) tt)
 
-  pub fresh-singular : (old overlap columns' overlap' : List Float) (r : Operator) → Operator.Done (cfg .radius) old overlap r columns' overlap' → r ≡ Answer.Singular → IllConditioned plusZero ≡ freshFit img cfg seed wanted (Operator.wayOf (cfg .radius))
+  pub fresh-singular : (old overlap columns' overlap' : List Float) (r : Operator) → Operator.Done (cfg .radius) old overlap r columns' overlap' → r ≡ Answer.Singular → Unmoved IllConditioned plusZero ≡ withOperator img cfg seed wanted (Operator.wayOf (cfg .radius))
   fresh-singular old overlap columns' overlap' r d e = singular-way (Operator.wayOf (cfg .radius)) (refused-bad (cfg .radius)) (sym (d .answers) ∙ e)
 
-  bad-way : (w : Operator.Way) → Operator.answerOf w ≡ Answer.BadRadius → BadRadius ≡ freshFit img cfg seed wanted w
+  bad-way : (w : Operator.Way) → Operator.answerOf w ≡ Answer.BadRadius → Refined.Refused BadRadius ≡ withOperator img cfg seed wanted w
   bad-way (Operator.refused r) e = refl
   bad-way Operator.none e = absurd (subst isBad (sym e) tt)
   bad-way (Operator.built c o) e = absurd (subst isBad (sym e) tt)
 
-  pub fresh-bad : (old overlap columns' overlap' : List Float) (r : Operator) → Operator.Done (cfg .radius) old overlap r columns' overlap' → r ≡ Answer.BadRadius → BadRadius ≡ freshFit img cfg seed wanted (Operator.wayOf (cfg .radius))
+  pub fresh-bad : (old overlap columns' overlap' : List Float) (r : Operator) → Operator.Done (cfg .radius) old overlap r columns' overlap' → r ≡ Answer.BadRadius → Refined.Refused BadRadius ≡ withOperator img cfg seed wanted (Operator.wayOf (cfg .radius))
   fresh-bad old overlap columns' overlap' r d e = bad-way (Operator.wayOf (cfg .radius)) (sym (d .answers) ∙ e)

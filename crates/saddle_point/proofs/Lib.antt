@@ -6,3 +6,4 @@ pub mod ColumnLaws
 pub mod SpotLaws
 pub mod LentLaws
 pub mod Theorems
+pub mod PixelsAlone

@@ -18,7 +18,6 @@ use Rattle.saddle_fit.specs.declared.Solved.the-variants.{Refused, Saddle}
 use Rattle.saddle_fit.specs.declared.Covariance.{Covariance}
 use Rattle.saddle_fit.specs.declared.Covariance.the-variants.{Unknown}
 use Rattle.saddle_fit.specs.Numbers.{_⊕_}
-use Rattle.saddle_fit.specs.Fit.{fitted}
 use Rattle.saddle_fit.specs.Solve.{solve}
 use Rattle.saddle_fit.specs.Between.{Place, placeOf}
 use Rattle.saddle_fit.specs.Sensitivity.{regular, Sloped, noSlope, sloped, slopeAt, slopeWithin, saddleJacobian, sensitivity}
@@ -28,17 +27,17 @@ use Rattle.fit_cache.specs.Tries.{taskAt}
 use Rattle.saddle_point.specs.declared.Ended.{Ended}
 use Rattle.saddle_point.specs.declared.Estimate.{Estimate}
 use Rattle.saddle_point.specs.declared.Refined.{Refined}
-use Rattle.saddle_point.specs.declared.Refined.the-variants.{Accepted, Rejected, IllConditioned}
+use Rattle.saddle_point.specs.declared.Refined.the-variants.{Accepted, Unmoved}
+use Rattle.saddle_point.specs.declared.Why.the-variants.{IllConditioned}
 use Rattle.saddle_point.specs.declared.Admitted.{Admitted}
 use Rattle.saddle_point.specs.declared.Admitted.the-variants as Admitted
 use Rattle.saddle_point.specs.declared.Spot.{Spot}
 use Rattle.saddle_point.specs.declared.Spot.the-variants.{At, Nowhere}
-use Rattle.saddle_point.specs.Refine.{single, estimate, closed, closedAt, finished, fromSaddle, fromFit, refineWith, lentWith, refineLent}
+use Rattle.saddle_point.specs.Refine.{single, estimate, closed, closedAt, finished, admitOf, answered, fromSaddle, refineWith, lentWith, refineLent}
 use Rattle.saddle_point.specs.Ending.{Ends}
-use Rattle.saddle_point.specs.Admission.{admitOf, fittedWith}
 use Rattle.saddle_point.specs.Spot.{spotAt, spotOf, Comes, Lands}
 use Rattle.saddle_point.proofs.StepLaws.{no, yes}
-use Rattle.saddle_point.proofs.EntryLaws.{good-answer, other-answer, answered, seed-refused, seed-accepted, seed-rejected}
+use Rattle.saddle_point.proofs.EntryLaws.{lent-answer, seed-refused, seed-accepted, seed-rejected}
 
 by-regular : (b : Bool) (t : Task) (ox oy : Float) (f : PatchSaddle) (n : ℕ) (v : Covariance) → spotAt (cond b (estimate t ox oy f true n v) (estimate t ox oy f false n Unknown)) ≡ spotAt (estimate t ox oy f false n Unknown)
 by-regular true t ox oy f n v = refl
@@ -97,7 +96,7 @@ module _ (img : Image) (columns : List Float) (cfg : SaddlePointConfig) (seed : 
   near f = nearAlong cfg (pos (seed .«centre_x»)) (f .ux) (seed .x) && nearAlong cfg (pos (seed .«centre_y»)) (f .uy) (seed .y)
 
   abbrev answer : List Float → Bool → Refined
-  answer overlap wanted = fromFit (taskAt img columns cfg seed) overlap wanted (fitted coef)
+  answer overlap wanted = fromSaddle (taskAt img columns cfg seed) overlap wanted (solve cfg coef)
 
   pub lands-refused : (d : Float) → s ≡ Refused d → Lands answer Nowhere
   lands-refused d e = record { is = λ overlap wanted. ap spotOf (seed-refused img columns overlap cfg seed wanted here coef s fit solved d e) }
@@ -111,24 +110,22 @@ module _ (img : Image) (columns : List Float) (cfg : SaddlePointConfig) (seed : 
 -- ---- at radius 0, and at another
 module _ (img : Image) (columns : List Float) (cfg : SaddlePointConfig) (seed : Seed) where
   abbrev lent : List Float → Bool → Refined
-  lent overlap wanted = lentWith cfg (fittedWith img cfg seed wanted columns overlap)
+  lent overlap wanted = lentWith cfg (refineWith img cfg seed wanted columns overlap)
 
   pub lands-none : cfg .radius ≡ 0 → Lands lent Nowhere
-  lands-none h = record { is = λ overlap wanted. sym (ap spotOf (yes (eqb (cfg .radius) 0) (IllConditioned plusZero) (fittedWith img cfg seed wanted columns overlap) (eq-eqb (cfg .radius) 0 h))) }
+  lands-none h = record { is = λ overlap wanted. sym (ap spotOf (yes (eqb (cfg .radius) 0) (Unmoved IllConditioned plusZero) (refineWith img cfg seed wanted columns overlap) (eq-eqb (cfg .radius) 0 h))) }
 
-  pub lands-lent : (cfg .radius ≡ 0 → ⊥) → (r : Spot) → Lands (λ overlap wanted. fittedWith img cfg seed wanted columns overlap) r → Lands lent r
-  lands-lent h r l = record { is = λ overlap wanted. l .is overlap wanted ∙ sym (ap spotOf (no (eqb (cfg .radius) 0) (IllConditioned plusZero) (fittedWith img cfg seed wanted columns overlap) (ne-eqb (cfg .radius) 0 h))) }
+  pub lands-lent : (cfg .radius ≡ 0 → ⊥) → (r : Spot) → Lands (λ overlap wanted. refineWith img cfg seed wanted columns overlap) r → Lands lent r
+  lands-lent h r l = record { is = λ overlap wanted. l .is overlap wanted ∙ sym (ap spotOf (no (eqb (cfg .radius) 0) (Unmoved IllConditioned plusZero) (refineWith img cfg seed wanted columns overlap) (ne-eqb (cfg .radius) 0 h))) }
 
 -- ---- the tests
 module _ (img : Image) (columns : List Float) (cfg : SaddlePointConfig) (x y : Float) where
   abbrev whole : List Float → Bool → Refined
   whole overlap wanted = refineLent img cfg x y wanted columns overlap
 
-  pub lands-good : (seed : Seed) → admitOf img cfg x y ≡ Admitted.Good seed → (r : Spot) → Lands (λ overlap wanted. lentWith cfg (fittedWith img cfg seed wanted columns overlap)) r → Lands whole r
-  lands-good seed h r l = record { is = λ overlap wanted. l .is overlap wanted ∙ ap spotOf (good-answer img cfg x y seed h wanted columns overlap) }
+  pub lands-good : (seed : Seed) → admitOf img cfg x y ≡ Admitted.Good seed → (r : Spot) → Lands (λ overlap wanted. lentWith cfg (refineWith img cfg seed wanted columns overlap)) r → Lands whole r
+  lands-good seed h r l = record { is = λ overlap wanted. l .is overlap wanted ∙ ap spotOf (lent-answer img cfg x y wanted columns overlap (Admitted.Good seed) h) }
 
-  abbrev nowhere : Admitted → Type 0
-  nowhere d = (a : Refined) → Nowhere ≡ spotOf (answered d a)
-
-  pub lands-other : (d : Admitted) → admitOf img cfg x y ≡ d → nowhere d → Lands whole Nowhere
-  lands-other d h n = record { is = λ overlap wanted. n (lentWith cfg (refineWith img cfg x y wanted columns overlap)) ∙ ap spotOf (other-answer img cfg x y wanted columns overlap d h) }
+  -- a seed that is answered at once goes nowhere
+  pub lands-other : (d : Admitted) → admitOf img cfg x y ≡ d → ((go : Seed → Refined) → Nowhere ≡ spotOf (answered d go)) → Lands whole Nowhere
+  lands-other d h n = record { is = λ overlap wanted. n (λ seed. lentWith cfg (refineWith img cfg seed wanted columns overlap)) ∙ ap spotOf (lent-answer img cfg x y wanted columns overlap d h) }

@@ -20,7 +20,7 @@ use Rattle.saddle_point.specs.declared.Ended.{Ended}
 use Rattle.fit_cache.specs.declared.Candidate.{Candidate}
 use Rattle.fit_cache.specs.declared.Window.{Window}
 use Rattle.fit_cache.specs.declared.IntegerFits.{IntegerFits}
-use Rattle.fit_cache.specs.Cache.{Sized, Kept, Fresh}
+use Rattle.fit_cache.specs.Cache.{Shaped, Kept, Fresh}
 use Rattle.fit_cache.specs.Tries.{Tries}
 use Rattle.saddle_point.specs.Ending.{onward, from, Going, Ends}
 
@@ -198,7 +198,7 @@ module _ (t : Task) (first : PatchSaddle) where
               ∙ ap (λ (v : Float). newtonStep (sensitivity (saddleJacobian (c .fit)) (slopeWithin (c .fits .corners) (stand .place .tx) v)) (c .fit)) window-ty
 
 -- a cache of none
-pub none-kept : (fits : IntegerFits) → Sized fits → fits .len ≡ 0 → fits .«base_x» ≡ 8192 → Fresh fits
+pub none-kept : (fits : IntegerFits) → Shaped fits → fits .len ≡ 0 → fits .«base_x» ≡ 8192 → Fresh fits
 none-kept fits s e b =
     record {
       kept = λ img columns radius. record {

@@ -19,7 +19,7 @@ use Rattle.saddle_fit.specs.declared.Solved.the-variants.{Refused, Saddle}
 use Rattle.saddle_fit.specs.declared.Covariance.{Covariance}
 use Rattle.saddle_fit.specs.declared.Covariance.the-variants.{Unknown}
 use Rattle.saddle_fit.specs.Numbers.{_⊕_, _⊗_, half}
-use Rattle.saddle_fit.specs.Fit.{Fit, noFit, fitted, fitAt}
+use Rattle.saddle_fit.specs.Fit.{coefficients}
 use Rattle.saddle_fit.specs.Solve.{solve, scoreOf, goodLimit}
 use Rattle.saddle_fit.specs.Between.{Place, placeOf, Fits, lacking, four, cornersAt, blend}
 use Rattle.saddle_fit.specs.Covariance.{covarianceOf}
@@ -28,8 +28,13 @@ use Rattle.saddle_fit.specs.Run.{Task, nearSeed, settled, norm2, Stand, Tried, 
 use Rattle.saddle_fit.proofs.SolveLaws.{score-above-zero}
 use Rattle.saddle_point.specs.declared.Estimate.{Estimate}
 use Rattle.saddle_point.specs.declared.Refined.{Refined}
-use Rattle.saddle_point.specs.declared.Refined.the-variants.{Accepted, Rejected, OutOfBounds, IllConditioned, BadImage, BadRadius, BadLimit}
-use Rattle.saddle_point.specs.Refine.{single, estimate, closed, closedAt, finished, fromSaddle, fromFit, centreOf, taskOf, refineWith, goodLimits, withOperator, tested, refineOf}
+use Rattle.saddle_point.specs.declared.Refined.the-variants.{Accepted, Unmoved}
+use Rattle.saddle_point.specs.declared.Refined.the-variants as Refined
+use Rattle.saddle_point.specs.declared.Why.the-variants.{Rejected}
+use Rattle.fit_cache.specs.declared.Seed.{Seed}
+use Rattle.fit_cache.specs.Tries.{taskAt}
+use Rattle.saddle_point.specs.Refine.{single, estimate, closed, closedAt, finished, fromSaddle, centreOf, seedOf, answered, goodLimits, withOperator, refineOf}
+use Rattle.saddle_point.proofs.EntryLaws.{chosen}
 
 -- a saddle of some fit
 pub record Solves (cfg : SaddlePointConfig) (f : PatchSaddle) : Type 0 where
@@ -46,9 +51,9 @@ OfTried t passed = Unit
 OfTried t (taken s) = Boxed t s
 
 -- how a run ends: at a stand in the box, after at most so many tries
-abbrev pub Within : Task → ℕ → Finish → Type 0
-Within t most (atStart n) = n ≤ most
-Within t most (atStand s n) = Boxed t s × (n ≤ most)
+abbrev pub EndsBoxed : Task → ℕ → Finish → Type 0
+EndsBoxed t most (atStart n) = n ≤ most
+EndsBoxed t most (atStand s n) = Boxed t s × (n ≤ most)
 
 module _ (t : Task) where
   -- ---- one candidate
@@ -91,11 +96,11 @@ module _ (t : Task) where
   search-few (suc left) f ox oy m scale = else-few left (candidate t f (ox ⊕ scale ⊗ m .x) (oy ⊕ scale ⊗ m .y)) (searchFrom left t f ox oy m (scale ⊗ half)) (search-few left f ox oy m (scale ⊗ half))
 
   -- ---- the steps
-  picked-within : (most : ℕ) (o : Tried) (go : Stand → Finish) (stay : Finish) → OfTried t o → ((s : Stand) → Boxed t s → Within t most (go s)) → Within t most stay → Within t most (picked o go stay)
+  picked-within : (most : ℕ) (o : Tried) (go : Stand → Finish) (stay : Finish) → OfTried t o → ((s : Stand) → Boxed t s → EndsBoxed t most (go s)) → EndsBoxed t most stay → EndsBoxed t most (picked o go stay)
   picked-within most passed go stay p q r = r
   picked-within most (taken s) go stay p q r = q s p
 
-  either : (most : ℕ) (b : Bool) (e f : Finish) → Within t most e → Within t most f → Within t most (cond b e f)
+  either : (most : ℕ) (b : Bool) (e f : Finish) → EndsBoxed t most e → EndsBoxed t most f → EndsBoxed t most (cond b e f)
   either most true e f p q = p
   either most false e f p q = q
 
@@ -105,7 +110,7 @@ module _ (t : Task) where
   here : (n left most : ℕ) → n + 4 * left ≤ most → n ≤ most
   here n left most h = omega arith
 
-  steps-within : (most left : ℕ) (s : Stand) (n : ℕ) → Boxed t s → n + 4 * left ≤ most → Within t most (stepsFrom left t s n)
+  steps-within : (most left : ℕ) (s : Stand) (n : ℕ) → Boxed t s → n + 4 * left ≤ most → EndsBoxed t most (stepsFrom left t s n)
   unfolding stepsFrom
   steps-within most zero s n b h = (b, here n zero most h)
   steps-within most (suc left) s n b h =
@@ -115,7 +120,7 @@ module _ (t : Task) where
       (b, here n (suc left) most h)
       (picked-within most (r .outcome) (λ s'. stepsFrom left t s' (n + r .count)) (atStand s (n + r .count)) (search-boxed 4 (s .fit) (s .ox) (s .oy) (laterMove s) one) (λ s' b'. steps-within most left s' (n + r .count) b' k) (b, here (n + r .count) left most k))
 
-  pub run-within : (f : PatchSaddle) → Within t 64 (runOf t f)
+  pub run-within : (f : PatchSaddle) → EndsBoxed t 64 (runOf t f)
   unfolding runOf
   run-within f =
       let m : Move = record { x = f .ux; y = f .uy } in
@@ -138,12 +143,8 @@ pub record Sound (e : Estimate) : Type 0 where
 
 abbrev Answers : Refined → Type 0
 Answers (Accepted e) = Sound e
-Answers (Rejected d) = Unit
-Answers OutOfBounds = Unit
-Answers (IllConditioned d) = Unit
-Answers BadImage = Unit
-Answers BadRadius = Unit
-Answers BadLimit = Unit
+Answers (Unmoved why score) = Unit
+Answers (Refined.Refused r) = Unit
 
 module _ (t : Task) (overlap : List Float) (wanted : Bool) (good : goodLimit (t .cfg .«det_margin») ≡ true) where
   scored : (f : PatchSaddle) → Solves (t .cfg) f → lt plusZero (scoreOf f) ≡ true
@@ -163,7 +164,7 @@ module _ (t : Task) (overlap : List Float) (wanted : Bool) (good : goodLimit (t 
   centre-sound w f n noSlope p h = record { score = scored f p; tries = h }
   centre-sound w f n (sloped s) p h = closed-sound plusZero plusZero w f n s p h
 
-  finished-sound : (f : PatchSaddle) (e : Finish) → Solves (t .cfg) f → Within t 64 e → Sound (finished t overlap wanted f e)
+  finished-sound : (f : PatchSaddle) (e : Finish) → Solves (t .cfg) f → EndsBoxed t 64 e → Sound (finished t overlap wanted f e)
   finished-sound f (atStart n) p h =
       let l = slopeAt (t .img) (t .columns) (t .cfg .radius) (t .centreX) (t .centreY) in
       let w = placeOf (t .centreX) (t .centreY) plusZero plusZero in
@@ -172,7 +173,7 @@ module _ (t : Task) (overlap : List Float) (wanted : Bool) (good : goodLimit (t 
       pick (settled (s .fit)) (closed t overlap wanted (s .ox) (s .oy) (s .place) (s .fit) n (slopeWithin (s .corners) (s .place .tx) (s .place .ty))) (single t f n)
       (closed-sound (s .ox) (s .oy) (s .place) (s .fit) n (slopeWithin (s .corners) (s .place .tx) (s .place .ty)) (h .0 .solves) (h .1)) (record { score = scored f p; tries = h .1 })
 
-  by-box : (b : Bool) (e : Estimate) (d : Float) → Sound e → Answers (cond b (Accepted e) (Rejected d))
+  by-box : (b : Bool) (e : Estimate) (d : Float) → Sound e → Answers (cond b (Accepted e) (Unmoved Rejected d))
   by-box true e d p = p
   by-box false e d p = tt
 
@@ -180,30 +181,27 @@ module _ (t : Task) (overlap : List Float) (wanted : Bool) (good : goodLimit (t 
   saddle-sound (Refused d) l e = tt
   saddle-sound (Saddle f) l e = by-box (nearSeed t (f .ux) (f .uy)) (finished t overlap wanted f (runOf t f)) (f .«det_h») (finished-sound f (runOf t f) (record { fit = l; is = e }) (run-within t f))
 
-  fit-sound : (f : Fit) → Answers (fromFit t overlap wanted f)
-  fit-sound noFit = tt
-  fit-sound (fitted l) = saddle-sound (solve (t .cfg) l) l refl
-
 -- ---- with the tests before it
 module _ (img : Image) (cfg : SaddlePointConfig) (x y : Float) (wanted : Bool) where
-  by-way : (w : Operator.Way) → goodLimit (cfg .«det_margin») ≡ true → Answers (withOperator img cfg x y wanted w)
-  unfolding refineWith
-  by-way (Operator.refused r) g = tt
-  by-way Operator.none g = tt
-  by-way (Operator.built columns overlap) g = fit-sound (taskOf img columns cfg x y) overlap wanted g (fitAt img columns (cfg .radius) (centreOf x) (centreOf y))
+  by-way : (seed : Seed) (w : Operator.Way) → goodLimit (cfg .«det_margin») ≡ true → Answers (withOperator img cfg seed wanted w)
+  by-way seed (Operator.refused r) g = tt
+  by-way seed Operator.none g = tt
+  by-way seed (Operator.built columns overlap) g =
+      let l = coefficients img columns (cfg .radius) (seed .«centre_x») (seed .«centre_y») in
+      saddle-sound (taskAt img columns cfg seed) overlap wanted g (solve cfg l) l refl
 
-  by-bools : (i r l p : Bool) (a : Refined) → (l ≡ true → Answers a) → Answers (cond (not i) BadImage (cond (not r) BadRadius (cond (not l) BadLimit (cond (not p) OutOfBounds a))))
-  by-bools false r l p a h = tt
-  by-bools true false l p a h = tt
-  by-bools true true false p a h = tt
-  by-bools true true true false a h = tt
-  by-bools true true true true a h = h refl
+  by-bools : (i r l p : Bool) (seed : Seed) (go : Seed → Refined) → (l ≡ true → Answers (go seed)) → Answers (answered (chosen i r l p seed) go)
+  by-bools false r l p seed go h = tt
+  by-bools true false l p seed go h = tt
+  by-bools true true false p seed go h = tt
+  by-bools true true true false seed go h = tt
+  by-bools true true true true seed go h = h refl
 
   sound : Answers (refineOf img cfg x y wanted)
   unfolding refineOf
   sound =
-      by-bools (isImage img) (leb (cfg .radius) 7) (goodLimits cfg) (supportsPatch img (cfg .radius) (centreOf x) (centreOf y)) (withOperator img cfg x y wanted (Operator.wayOf (cfg .radius)))
-      (λ g. by-way (Operator.wayOf (cfg .radius)) (and-eq-true-iff (goodLimit (cfg .«det_margin»)) (goodLimit (cfg .«max_offset»)) .0 (and-eq-true-iff (goodLimit (cfg .«det_margin») && goodLimit (cfg .«max_offset»)) (goodLimit (cfg .«min_abs_det»)) .0 g .0) .0))
+      by-bools (isImage img) (leb (cfg .radius) 7) (goodLimits cfg) (supportsPatch img (cfg .radius) (centreOf x) (centreOf y)) (seedOf x y) (λ seed. withOperator img cfg seed wanted (Operator.wayOf (cfg .radius)))
+      (λ g. by-way (seedOf x y) (Operator.wayOf (cfg .radius)) (and-eq-true-iff (goodLimit (cfg .«det_margin»)) (goodLimit (cfg .«max_offset»)) .0 (and-eq-true-iff (goodLimit (cfg .«det_margin») && goodLimit (cfg .«max_offset»)) (goodLimit (cfg .«min_abs_det»)) .0 g .0) .0))
 
   -- every accepted score is above zero, and the tries are at most 64
   pub accepted-sound : (e : Estimate) → refineOf img cfg x y wanted ≡ Accepted e → Sound e

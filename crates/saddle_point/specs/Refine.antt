@@ -1,22 +1,23 @@
--- The refiner's call for one seed: document 01's tests in their order, what each case answers, and the number and values of each case.
+-- The refiner's call for one seed: how a run ends, the tests of a seed in their order, what each case answers, and the number and values of each case.
 use mathlib.Core.Path.{_≡_}
 use mathlib.Core.Bool.{Bool, true, false, _&&_, _||_, not, cond}
 use mathlib.Core.List.{List}
 use Prim.Native.Nat.{ℕ, _≤_}
 use lib.Dec.{leb, eqb}
-use lib.IntN.{ℤ}
+use lib.IntN.{ℤ, natAbs}
 use lib.Ieee.{Float, binary32, ofInt, toSigned, neg, lt, eq}
 use lib.Ieee.Scale.{finite}
+use Rattle.shapes.specs.Numbers.{plusZero}
 use Rattle.floats.specs.Whole.{roundAway}
 use Rattle.floats.specs.Root.{sqrt}
-use Rattle.shapes.specs.Numbers.{plusZero}
 use Rattle.imageview.specs.Image.{Image, isImage}
 use Rattle.imageview.specs.Patch.{supportsPatch}
 use Rattle.fit_operator.specs.Call as Operator
 use Rattle.saddle_fit.specs.declared.SaddlePointConfig.{SaddlePointConfig}
 use Rattle.saddle_fit.specs.declared.PatchSaddle.{PatchSaddle}
 use Rattle.saddle_fit.specs.declared.Solved.{Solved}
-use Rattle.saddle_fit.specs.declared.Solved.the-variants.{Refused, Saddle}
+use Rattle.saddle_fit.specs.declared.Solved.the-variants as Solved
+use Rattle.saddle_fit.specs.declared.Solved.the-variants.{Saddle}
 use Rattle.saddle_fit.specs.declared.Slope.{Slope}
 use Rattle.saddle_fit.specs.declared.Jacobian.{Jacobian}
 use Rattle.saddle_fit.specs.declared.Matrix.{Matrix}
@@ -24,9 +25,17 @@ use Rattle.saddle_point.specs.declared.Estimate.{Estimate}
 use Rattle.saddle_fit.specs.declared.Covariance.{Covariance}
 use Rattle.saddle_fit.specs.declared.Covariance.the-variants.{Unknown}
 use Rattle.saddle_point.specs.declared.Refined.{Refined}
-use Rattle.saddle_point.specs.declared.Refined.the-variants.{Accepted, Rejected, OutOfBounds, IllConditioned, BadImage, BadRadius, BadLimit}
+use Rattle.saddle_point.specs.declared.Refined.the-variants.{Accepted, Unmoved, Refused}
+use Rattle.saddle_point.specs.declared.Why.{Why}
+use Rattle.saddle_point.specs.declared.Why.the-variants.{Rejected, OutOfBounds, IllConditioned}
+use Rattle.saddle_point.specs.declared.Admitted.{Admitted}
+use Rattle.saddle_point.specs.declared.Admitted.the-variants as Admitted
+use Rattle.refusals.specs.declared.Refusal.the-variants.{BadImage, BadRadius, BadLimit}
+use Rattle.refusals.specs.Numbers as Refusals
+use Rattle.fit_cache.specs.declared.Seed.{Seed}
+use Rattle.fit_cache.specs.Tries.{taskAt}
 use Rattle.saddle_fit.specs.Numbers.{_⊕_}
-use Rattle.saddle_fit.specs.Fit.{Fit, noFit, fitted, fitAt}
+use Rattle.saddle_fit.specs.Fit.{coefficients}
 use Rattle.saddle_fit.specs.Solve.{solve, scoreOf, goodLimit}
 use Rattle.saddle_fit.specs.Between.{Place, placeOf}
 use Rattle.saddle_fit.specs.Sensitivity.{regular, Sloped, noSlope, sloped, slopeWithin, slopeAt, saddleJacobian, sensitivity, matrixDet}
@@ -61,67 +70,70 @@ finished t overlap wanted first (atStart n) =
 finished t overlap wanted first (atStand s n) =
     cond (settled (s .fit)) (closed t overlap wanted (s .ox) (s .oy) (s .place) (s .fit) n (slopeWithin (s .corners) (s .place .tx) (s .place .ty))) (single t first n)
 
--- ---- with an operator
-abbrev pub fromSaddle : Task → List Float → Bool → Solved → Refined
-fromSaddle t overlap wanted (Refused det) = IllConditioned det
-fromSaddle t overlap wanted (Saddle f) = cond (nearSeed t (f .ux) (f .uy)) (Accepted (finished t overlap wanted f (runOf t f))) (Rejected (f .«det_h»))
-
-abbrev pub fromFit : Task → List Float → Bool → Fit → Refined
-fromFit t overlap wanted noFit = OutOfBounds
-fromFit t overlap wanted (fitted l) = fromSaddle t overlap wanted (solve (t .cfg) l)
-
+-- ---- the tests of a seed
 -- the seed rounded half away from zero and converted as Rust does
 abbrev pub centreOf : Float → ℤ
 centreOf v = toSigned 31 (roundAway binary32 v)
 
-abbrev pub taskOf : Image → List Float → SaddlePointConfig → Float → Float → Task
-taskOf img columns cfg x y = record { img = img; columns = columns; cfg = cfg; centreX = centreOf x; centreY = centreOf y; seedX = x; seedY = y }
+-- the seed with the pixel that it rounds to; where its patch lies in the image, no coordinate of that is below zero
+abbrev pub seedOf : Float → Float → Seed
+seedOf x y = record { x = x; y = y; «centre_x» = natAbs (centreOf x); «centre_y» = natAbs (centreOf y) }
 
--- a seed whose patch lies in the image, for whatever operator is lent
-unfoldable pub refineWith : Image → SaddlePointConfig → Float → Float → Bool → List Float → List Float → Refined
-refineWith img cfg x y wanted columns overlap =
-    let t = taskOf img columns cfg x y in
-    fromFit t overlap wanted (fitAt img columns (cfg .radius) (t .centreX) (t .centreY))
-
--- ---- the tests before it
 abbrev pub goodLimits : SaddlePointConfig → Bool
 goodLimits cfg = goodLimit (cfg .«det_margin») && goodLimit (cfg .«max_offset») && goodLimit (cfg .«min_abs_det»)
 
-abbrev pub withOperator : Image → SaddlePointConfig → Float → Float → Bool → Operator.Way → Refined
-withOperator img cfg x y wanted (Operator.refused r) = BadRadius
-withOperator img cfg x y wanted Operator.none = IllConditioned plusZero
-withOperator img cfg x y wanted (Operator.built columns overlap) = refineWith img cfg x y wanted columns overlap
+-- in their order
+abbrev pub admitOf : Image → SaddlePointConfig → Float → Float → Admitted
+admitOf img cfg x y =
+    cond (not (isImage img)) (Admitted.Refused BadImage)
+    (cond (not (leb (cfg .radius) 7)) (Admitted.Refused BadRadius)
+    (cond (not (goodLimits cfg)) (Admitted.Refused BadLimit)
+    (cond (not (supportsPatch img (cfg .radius) (centreOf x) (centreOf y))) (Admitted.Unmoved OutOfBounds)
+    (Admitted.Good (seedOf x y)))))
 
-abbrev pub tested : Image → SaddlePointConfig → Float → Float → Refined → Refined
-tested img cfg x y answer =
-    cond (not (isImage img)) BadImage
-    (cond (not (leb (cfg .radius) 7)) BadRadius
-    (cond (not (goodLimits cfg)) BadLimit
-    (cond (not (supportsPatch img (cfg .radius) (centreOf x) (centreOf y))) OutOfBounds
-    answer)))
+-- a seed that passed them goes on; any other is answered at once, with the score 0.0
+abbrev pub answered : Admitted → (Seed → Refined) → Refined
+answered (Admitted.Good seed) go = go seed
+answered (Admitted.Unmoved why) go = Unmoved why plusZero
+answered (Admitted.Refused r) go = Refused r
+
+-- ---- the first fit decides
+abbrev pub fromSaddle : Task → List Float → Bool → Solved → Refined
+fromSaddle t overlap wanted (Solved.Refused det) = Unmoved IllConditioned det
+fromSaddle t overlap wanted (Saddle f) = cond (nearSeed t (f .ux) (f .uy)) (Accepted (finished t overlap wanted f (runOf t f))) (Unmoved Rejected (f .«det_h»))
+
+-- a seed that passed its tests, with an operator
+abbrev pub refineWith : Image → SaddlePointConfig → Seed → Bool → List Float → List Float → Refined
+refineWith img cfg seed wanted columns overlap =
+    fromSaddle (taskAt img columns cfg seed) overlap wanted (solve cfg (coefficients img columns (cfg .radius) (seed .«centre_x») (seed .«centre_y»)))
+
+-- with the operator that is built for it
+abbrev pub withOperator : Image → SaddlePointConfig → Seed → Bool → Operator.Way → Refined
+withOperator img cfg seed wanted (Operator.refused r) = Refused BadRadius
+withOperator img cfg seed wanted Operator.none = Unmoved IllConditioned plusZero
+withOperator img cfg seed wanted (Operator.built columns overlap) = refineWith img cfg seed wanted columns overlap
 
 -- at radius 0 there is no operator, whatever is lent
 abbrev pub lentWith : SaddlePointConfig → Refined → Refined
-lentWith cfg answer = cond (eqb (cfg .radius) 0) (IllConditioned plusZero) answer
+lentWith cfg answer = cond (eqb (cfg .radius) 0) (Unmoved IllConditioned plusZero) answer
 
--- for whatever operator is lent
+-- ---- the two calls: for whatever operator is lent, and with its own
 unfoldable pub refineLent : Image → SaddlePointConfig → Float → Float → Bool → List Float → List Float → Refined
-unfolding refineWith
-refineLent img cfg x y wanted columns overlap = tested img cfg x y (lentWith cfg (refineWith img cfg x y wanted columns overlap))
+refineLent img cfg x y wanted columns overlap = answered (admitOf img cfg x y) (λ seed. lentWith cfg (refineWith img cfg seed wanted columns overlap))
 
 unfoldable pub refineOf : Image → SaddlePointConfig → Float → Float → Bool → Refined
-unfolding refineWith
-refineOf img cfg x y wanted = tested img cfg x y (withOperator img cfg x y wanted (Operator.wayOf (cfg .radius)))
+refineOf img cfg x y wanted = answered (admitOf img cfg x y) (λ seed. withOperator img cfg seed wanted (Operator.wayOf (cfg .radius)))
 
--- ---- document 01's number, place and score of each case; a refusal from 10 up has nothing else
+-- ---- the number, place and score of each case; a refusal from 10 up has nothing else
+abbrev pub whyNumber : Why → ℕ
+whyNumber Rejected = 1
+whyNumber OutOfBounds = 2
+whyNumber IllConditioned = 3
+
 abbrev pub numberOf : Refined → ℕ
 numberOf (Accepted e) = 0
-numberOf (Rejected det) = 1
-numberOf OutOfBounds = 2
-numberOf (IllConditioned det) = 3
-numberOf BadImage = 10
-numberOf BadRadius = 11
-numberOf BadLimit = 12
+numberOf (Unmoved why score) = whyNumber why
+numberOf (Refused r) = Refusals.numberOf r
 
 pub data Values : Type 0 where
   nothing : Values
@@ -129,9 +141,5 @@ pub data Values : Type 0 where
 
 abbrev pub valuesOf : Float → Float → Refined → Values
 valuesOf x y (Accepted e) = values (e .x) (e .y) (e .score)
-valuesOf x y (Rejected det) = values x y det
-valuesOf x y OutOfBounds = values x y plusZero
-valuesOf x y (IllConditioned det) = values x y det
-valuesOf x y BadImage = nothing
-valuesOf x y BadRadius = nothing
-valuesOf x y BadLimit = nothing
+valuesOf x y (Unmoved why score) = values x y score
+valuesOf x y (Refused r) = nothing

@@ -8,23 +8,19 @@ use Rattle.saddle_fit.specs.declared.SaddlePointConfig.{SaddlePointConfig}
 use Rattle.saddle_fit.specs.declared.PatchSaddle.{PatchSaddle}
 use Rattle.saddle_fit.specs.Run.{Task, runOf}
 use Rattle.saddle_point.specs.declared.Refined.{Refined}
-use Rattle.saddle_point.specs.declared.Refined.the-variants.{Accepted, Rejected, OutOfBounds, IllConditioned, BadImage, BadRadius, BadLimit}
+use Rattle.saddle_point.specs.declared.Refined.the-variants.{Accepted, Unmoved, Refused}
 use Rattle.saddle_point.specs.declared.Estimate.{Estimate}
 use Rattle.saddle_point.specs.declared.Spot.{Spot}
 use Rattle.saddle_point.specs.declared.Spot.the-variants.{At, Nowhere}
-use Rattle.saddle_point.specs.Refine.{finished, refineLent}
+use Rattle.saddle_point.specs.Refine.{finished}
 
 abbrev pub spotAt : Estimate → Spot
 spotAt e = At (e .x) (e .y)
 
 abbrev pub spotOf : Refined → Spot
 spotOf (Accepted e) = spotAt e
-spotOf (Rejected det) = Nowhere
-spotOf OutOfBounds = Nowhere
-spotOf (IllConditioned det) = Nowhere
-spotOf BadImage = Nowhere
-spotOf BadRadius = Nowhere
-spotOf BadLimit = Nowhere
+spotOf (Unmoved why score) = Nowhere
+spotOf (Refused r) = Nowhere
 
 -- the spot of a run's end, whatever the overlaps and whether the covariance is wanted
 pub record Comes (t : Task) (first : PatchSaddle) (r : Spot) : Type 0 where

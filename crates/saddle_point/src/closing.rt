@@ -1,9 +1,11 @@
 // The end of a run: the estimate, whether it converged, and its covariance where that is wanted.
+use super::Ended;
 use super::Estimate;
 use super::Sloping;
 use crate::steps;
 use fit_cache::Seed;
 use fit_cache::fits;
+use imageview::Sizes;
 use saddle_fit::Covariance;
 use saddle_fit::PatchSaddle;
 use saddle_fit::SaddlePointConfig;
@@ -23,7 +25,7 @@ ghost use Rattle.saddle_fit.specs.Run.{runOf};
 ghost use Rattle.saddle_fit.specs.Run as Run;
 ghost use Rattle.saddle_point.specs.Refine.{single, finished};
 ghost use Rattle.saddle_point.specs.Refine as Refine;
-ghost use Rattle.fit_cache.specs.Adding.{Sound, Within};
+ghost use Rattle.fit_cache.specs.Adding.{Sound, PatchWithin};
 ghost use Rattle.fit_cache.specs.Tries.{taskAt};
 ghost use Rattle.saddle_point.specs.Ending.{centred, Closes, GoesX, GoesY};
 
@@ -95,26 +97,25 @@ fn closed(
 // The slope along x at a pixel, from the next fit, or from the one before where the next leaves the image.
 fn along_x(
     img: &[u8],
-    width: usize,
-    height: usize,
+    sizes: Sizes,
     x: usize,
     y: usize,
     radius: usize,
     columns: &[f32; 1125],
     here: [f32; 5],
 ) -> Sloping
-    requires { ⌜ Within (imageOf (now img) width height) radius x y ⌝ ∗ ⌜ here ≡ coefficients (imageOf (now img) width height) (now columns) radius x y ⌝ }
-    ensures { λ r. ⌜ GoesX (imageOf (now (img .entry)) width height) (now (columns .entry)) radius x y r ⌝ }
+    requires { ⌜ PatchWithin (imageOf (now img) sizes) radius x y ⌝ ∗ ⌜ here ≡ coefficients (imageOf (now img) sizes) (now columns) radius x y ⌝ }
+    ensures { λ r. ⌜ GoesX (imageOf (now (img .entry)) sizes) (now (columns .entry)) radius x y r ⌝ }
 {
-    if x + 1 + radius < width {
-        let next = fits::fit_patch(img, width, height, x + 1, y, radius, columns);
+    if x + 1 + radius < sizes.width {
+        let next = fits::fit_patch(img, sizes, x + 1, y, radius, columns);
         return Sloping {
             found: true,
             coefs: sensitivity::difference(next, here),
         };
     }
     if radius < x {
-        let before = fits::fit_patch(img, width, height, x - 1, y, radius, columns);
+        let before = fits::fit_patch(img, sizes, x - 1, y, radius, columns);
         return Sloping {
             found: true,
             coefs: sensitivity::difference(here, before),
@@ -128,26 +129,25 @@ fn along_x(
 
 fn along_y(
     img: &[u8],
-    width: usize,
-    height: usize,
+    sizes: Sizes,
     x: usize,
     y: usize,
     radius: usize,
     columns: &[f32; 1125],
     here: [f32; 5],
 ) -> Sloping
-    requires { ⌜ Within (imageOf (now img) width height) radius x y ⌝ ∗ ⌜ here ≡ coefficients (imageOf (now img) width height) (now columns) radius x y ⌝ }
-    ensures { λ r. ⌜ GoesY (imageOf (now (img .entry)) width height) (now (columns .entry)) radius x y r ⌝ }
+    requires { ⌜ PatchWithin (imageOf (now img) sizes) radius x y ⌝ ∗ ⌜ here ≡ coefficients (imageOf (now img) sizes) (now columns) radius x y ⌝ }
+    ensures { λ r. ⌜ GoesY (imageOf (now (img .entry)) sizes) (now (columns .entry)) radius x y r ⌝ }
 {
-    if y + 1 + radius < height {
-        let next = fits::fit_patch(img, width, height, x, y + 1, radius, columns);
+    if y + 1 + radius < sizes.height {
+        let next = fits::fit_patch(img, sizes, x, y + 1, radius, columns);
         return Sloping {
             found: true,
             coefs: sensitivity::difference(next, here),
         };
     }
     if radius < y {
-        let before = fits::fit_patch(img, width, height, x, y - 1, radius, columns);
+        let before = fits::fit_patch(img, sizes, x, y - 1, radius, columns);
         return Sloping {
             found: true,
             coefs: sensitivity::difference(here, before),
@@ -162,8 +162,7 @@ fn along_y(
 // Where the first fit is settled: the slope is that of the centre pixel.
 fn at_centre(
     img: &[u8],
-    width: usize,
-    height: usize,
+    sizes: Sizes,
     columns: &[f32; 1125],
     overlap: &[f32; 225],
     cfg: SaddlePointConfig,
@@ -172,14 +171,14 @@ fn at_centre(
     first: PatchSaddle,
     wanted: bool,
 ) -> Estimate
-    requires { ⌜ Within (imageOf (now img) width height) (cfg .radius) (seed .«centre_x») (seed .«centre_y») ⌝ ∗ ⌜ here ≡ coefficients (imageOf (now img) width height) (now columns) (cfg .radius) (seed .«centre_x») (seed .«centre_y») ⌝ ∗ ⌜ Run.settled first ≡ true ⌝ }
-    ensures { λ r. ⌜ r ≡ finished (taskAt (imageOf (now (img .entry)) width height) (now (columns .entry)) cfg seed) (now (overlap .entry)) wanted first (runOf (taskAt (imageOf (now (img .entry)) width height) (now (columns .entry)) cfg seed) first) ⌝ }
+    requires { ⌜ PatchWithin (imageOf (now img) sizes) (cfg .radius) (seed .«centre_x») (seed .«centre_y») ⌝ ∗ ⌜ here ≡ coefficients (imageOf (now img) sizes) (now columns) (cfg .radius) (seed .«centre_x») (seed .«centre_y») ⌝ ∗ ⌜ Run.settled first ≡ true ⌝ }
+    ensures { λ r. ⌜ r ≡ finished (taskAt (imageOf (now (img .entry)) sizes) (now (columns .entry)) cfg seed) (now (overlap .entry)) wanted first (runOf (taskAt (imageOf (now (img .entry)) sizes) (now (columns .entry)) cfg seed) first) ⌝ }
 {
     let radius = cfg.radius;
     let cx = seed.centre_x;
     let cy = seed.centre_y;
-    let ax = along_x(img, width, height, cx, cy, radius, columns, here);
-    let ay = along_y(img, width, height, cx, cy, radius, columns, here);
+    let ax = along_x(img, sizes, cx, cy, radius, columns, here);
+    let ay = along_y(img, sizes, cx, cy, radius, columns, here);
     if ax.found {
         if ay.found {
             let x = ax.coefs;
@@ -192,11 +191,32 @@ fn at_centre(
     estimate_at(seed, 0.0, 0.0, first, false, 0, Covariance::Unknown)
 }
 
+// Where the steps settled: the slope is that of the window between pixels.
+fn at_window(seed: Seed, overlap: &[f32; 225], wanted: bool, e: Ended) -> Estimate
+    requires { ⌜ (seed .«centre_x» < 4096) × (seed .«centre_y» < 4096) ⌝ }
+    ensures { λ r. ⌜ Closes (centred seed) (now (overlap .entry)) wanted (e .ox) (e .oy) (e .tx) (e .ty) (e .fit) (e .tries) (Sensitivity.slopeWithin (e .corners) (e .tx) (e .ty)) r ⌝ }
+{
+    let corners = e.corners;
+    let fit = e.fit;
+    let slope = between::slope_within(corners, e.tx, e.ty);
+    closed(
+        seed,
+        overlap,
+        wanted,
+        e.ox,
+        e.oy,
+        e.tx,
+        e.ty,
+        fit,
+        e.tries,
+        slope,
+    )
+}
+
 // From the first fit, whose saddle is `first`.
 pub fn estimate(
     img: &[u8],
-    width: usize,
-    height: usize,
+    sizes: Sizes,
     columns: &[f32; 1125],
     overlap: &[f32; 225],
     cfg: SaddlePointConfig,
@@ -205,40 +225,15 @@ pub fn estimate(
     first: PatchSaddle,
     wanted: bool,
 ) -> Estimate
-    requires { ⌜ Within (imageOf (now img) width height) (cfg .radius) (seed .«centre_x») (seed .«centre_y») ⌝ ∗ ⌜ here ≡ coefficients (imageOf (now img) width height) (now columns) (cfg .radius) (seed .«centre_x») (seed .«centre_y») ⌝ }
-    ensures { λ r. ⌜ r ≡ finished (taskAt (imageOf (now (img .entry)) width height) (now (columns .entry)) cfg seed) (now (overlap .entry)) wanted first (runOf (taskAt (imageOf (now (img .entry)) width height) (now (columns .entry)) cfg seed) first) ⌝ }
+    requires { ⌜ PatchWithin (imageOf (now img) sizes) (cfg .radius) (seed .«centre_x») (seed .«centre_y») ⌝ ∗ ⌜ here ≡ coefficients (imageOf (now img) sizes) (now columns) (cfg .radius) (seed .«centre_x») (seed .«centre_y») ⌝ }
+    ensures { λ r. ⌜ r ≡ finished (taskAt (imageOf (now (img .entry)) sizes) (now (columns .entry)) cfg seed) (now (overlap .entry)) wanted first (runOf (taskAt (imageOf (now (img .entry)) sizes) (now (columns .entry)) cfg seed) first) ⌝ }
 {
     if solve::settled(first) {
-        return at_centre(
-            img,
-            width,
-            height,
-            columns,
-            overlap,
-            cfg,
-            seed,
-            here,
-            first,
-            wanted,
-        );
+        return at_centre(img, sizes, columns, overlap, cfg, seed, here, first, wanted);
     }
-    let e = steps::run(img, width, height, columns, cfg, seed, first);
+    let e = steps::run(img, sizes, columns, cfg, seed, first);
     if e.settled {
-        let corners = e.corners;
-        let fit = e.fit;
-        let slope = between::slope_within(corners, e.tx, e.ty);
-        return closed(
-            seed,
-            overlap,
-            wanted,
-            e.ox,
-            e.oy,
-            e.tx,
-            e.ty,
-            fit,
-            e.tries,
-            slope,
-        );
+        return at_window(seed, overlap, wanted, e);
     }
     single_at(seed, first, e.tries)
 }

@@ -1,29 +1,29 @@
 // One seed: document 01's tests in their order, the first fit, and what follows from it.
 use super::Admitted;
 use super::Refined;
+use super::Why;
 use crate::closing;
 use fit_cache::Seed;
 use fit_cache::fits;
 use fit_cache::tries;
 use fit_operator::Operator;
+use imageview::Sizes;
+use refusals::Refusal;
 use saddle_fit::SaddlePointConfig;
 use saddle_fit::Solved;
 use saddle_fit::solve;
 ghost use mathlib.Core.Path.{_≡_};
 ghost use Rattle.imageview.specs.Image.{imageOf};
-ghost use Rattle.saddle_fit.specs.Fit.{fitted, coefficients};
 ghost use Rattle.saddle_fit.specs.Solve.{goodLimit};
-ghost use Rattle.saddle_point.specs.Refine.{goodLimits, fromFit, lentWith, refineLent, refineOf};
-ghost use Rattle.fit_cache.specs.Adding.{Within};
+ghost use Rattle.saddle_point.specs.Refine.{goodLimits, whyNumber, admitOf, refineWith, withOperator, lentWith, refineLent, refineOf};
+ghost use Rattle.fit_cache.specs.Adding.{PatchWithin};
 ghost use Rattle.fit_cache.specs.Tries.{taskAt};
-ghost use Rattle.saddle_point.specs.Admission.{admitOf, fittedWith, freshFit};
 ghost use Rattle.fit_operator.specs.Call.{wayOf};
 
 // The refiner of one seed with an operator that is lent.
 pub fn refine_with(
     img: &[u8],
-    width: usize,
-    height: usize,
+    sizes: Sizes,
     cfg: SaddlePointConfig,
     x: f32,
     y: f32,
@@ -31,68 +31,64 @@ pub fn refine_with(
     columns: &[f32; 1125],
     overlap: &[f32; 225],
 ) -> Refined
-    ensures { λ r. ⌜ r ≡ refineLent (imageOf (now (img .entry)) width height) cfg x y wanted (now (columns .entry)) (now (overlap .entry)) ⌝ }
+    ensures { λ r. ⌜ r ≡ refineLent (imageOf (now (img .entry)) sizes) cfg x y wanted (now (columns .entry)) (now (overlap .entry)) ⌝ }
 {
-    let admitted = admit(img, width, height, cfg, x, y);
+    let admitted = admit(img, sizes, cfg, x, y);
     match admitted {
-        Admitted::Good(seed) => refine_lent(
-            img,
-            width,
-            height,
-            cfg,
-            seed,
-            wanted,
-            columns,
-            overlap,
-        ),
-        Admitted::NoImage => Refined::BadImage,
-        Admitted::NoRadius => Refined::BadRadius,
-        Admitted::NoLimit => Refined::BadLimit,
-        Admitted::NoPatch => Refined::OutOfBounds,
+        Admitted::Good(seed) => refine_lent(img, sizes, cfg, seed, wanted, columns, overlap),
+        Admitted::Unmoved(why) => Refined::Unmoved(why, 0.0),
+        Admitted::Refused(refusal) => Refined::Refused(refusal),
     }
 }
 
 // The refiner of one seed; it builds its own operator, after the tests.
 pub fn refine(
     img: &[u8],
-    width: usize,
-    height: usize,
+    sizes: Sizes,
     cfg: SaddlePointConfig,
     x: f32,
     y: f32,
     wanted: bool,
 ) -> Refined
-    ensures { λ r. ⌜ r ≡ refineOf (imageOf (now (img .entry)) width height) cfg x y wanted ⌝ }
+    ensures { λ r. ⌜ r ≡ refineOf (imageOf (now (img .entry)) sizes) cfg x y wanted ⌝ }
 {
-    let admitted = admit(img, width, height, cfg, x, y);
+    let admitted = admit(img, sizes, cfg, x, y);
     match admitted {
-        Admitted::Good(seed) => refine_fresh(img, width, height, cfg, seed, wanted),
-        Admitted::NoImage => Refined::BadImage,
-        Admitted::NoRadius => Refined::BadRadius,
-        Admitted::NoLimit => Refined::BadLimit,
-        Admitted::NoPatch => Refined::OutOfBounds,
+        Admitted::Good(seed) => refine_fresh(img, sizes, cfg, seed, wanted),
+        Admitted::Unmoved(why) => Refined::Unmoved(why, 0.0),
+        Admitted::Refused(refusal) => Refined::Refused(refusal),
     }
 }
 
 // A seed that passed the tests, with the operator of the settings' radius; at radius 0 there is none.
 fn refine_fresh(
     img: &[u8],
-    width: usize,
-    height: usize,
+    sizes: Sizes,
     cfg: SaddlePointConfig,
     seed: Seed,
     wanted: bool,
 ) -> Refined
-    requires { ⌜ Within (imageOf (now img) width height) (cfg .radius) (seed .«centre_x») (seed .«centre_y») ⌝ }
-    ensures { λ r. ⌜ r ≡ freshFit (imageOf (now (img .entry)) width height) cfg seed wanted (wayOf (cfg .radius)) ⌝ }
+    requires { ⌜ PatchWithin (imageOf (now img) sizes) (cfg .radius) (seed .«centre_x») (seed .«centre_y») ⌝ }
+    ensures { λ r. ⌜ r ≡ withOperator (imageOf (now (img .entry)) sizes) cfg seed wanted (wayOf (cfg .radius)) ⌝ }
 {
     let mut columns = [0.0f32; 1125];
     let mut overlap = [0.0f32; 225];
     let operator = fit_operator::fit_operator(cfg.radius, &mut columns, &mut overlap);
     match operator {
-        Operator::Built => refine_seed(img, width, height, cfg, seed, wanted, &columns, &overlap),
-        Operator::Singular => Refined::IllConditioned(0.0),
-        Operator::BadRadius => Refined::BadRadius,
+        Operator::Built => refine_seed(img, sizes, cfg, seed, wanted, &columns, &overlap),
+        Operator::Singular => Refined::Unmoved(Why::IllConditioned, 0.0),
+        Operator::BadRadius => Refined::Refused(Refusal::BadRadius),
+    }
+}
+
+// The number of a reason.
+pub fn why_number(why: Why) -> u32
+    ensures { λ r. ⌜ r ≡ whyNumber why ⌝ }
+{
+    match why {
+        Why::Rejected => 1,
+        Why::OutOfBounds => 2,
+        Why::IllConditioned => 3,
     }
 }
 
@@ -123,85 +119,75 @@ pub fn good_limits(cfg: SaddlePointConfig) -> bool
 }
 
 // The tests before the first fit.
-pub fn admit(
-    img: &[u8],
-    width: usize,
-    height: usize,
-    cfg: SaddlePointConfig,
-    x: f32,
-    y: f32,
-) -> Admitted
-    ensures { λ r. ⌜ r ≡ admitOf (imageOf (now (img .entry)) width height) cfg x y ⌝ }
+pub fn admit(img: &[u8], sizes: Sizes, cfg: SaddlePointConfig, x: f32, y: f32) -> Admitted
+    ensures { λ r. ⌜ r ≡ admitOf (imageOf (now (img .entry)) sizes) cfg x y ⌝ }
 {
-    if imageview::is_image(img, width, height) {
-        if 7 < cfg.radius {
-            return Admitted::NoRadius;
-        }
-        if good_limits(cfg) {
-            let cx = floats::f32_to_i32(floats::round_f32(x));
-            let cy = floats::f32_to_i32(floats::round_f32(y));
-            if imageview::supports_patch(width, height, cx, cy, cfg.radius) {
-                return Admitted::Good(Seed {
-                    x,
-                    y,
-                    centre_x: cx as usize,
-                    centre_y: cy as usize,
-                });
-            }
-            return Admitted::NoPatch;
-        }
-        return Admitted::NoLimit;
+    if !imageview::is_image(img, sizes) {
+        return Admitted::Refused(Refusal::BadImage);
     }
-    Admitted::NoImage
+    if 7 < cfg.radius {
+        return Admitted::Refused(Refusal::BadRadius);
+    }
+    if !good_limits(cfg) {
+        return Admitted::Refused(Refusal::BadLimit);
+    }
+    let cx = floats::f32_to_i32(floats::round_f32(x));
+    let cy = floats::f32_to_i32(floats::round_f32(y));
+    if !imageview::supports_patch(sizes, cx, cy, cfg.radius) {
+        return Admitted::Unmoved(Why::OutOfBounds);
+    }
+    Admitted::Good(Seed {
+        x,
+        y,
+        centre_x: cx as usize,
+        centre_y: cy as usize,
+    })
 }
 
 // A seed that passed the tests, with an operator that is lent; at radius 0 there is none, whatever is lent.
 fn refine_lent(
     img: &[u8],
-    width: usize,
-    height: usize,
+    sizes: Sizes,
     cfg: SaddlePointConfig,
     seed: Seed,
     wanted: bool,
     columns: &[f32; 1125],
     overlap: &[f32; 225],
 ) -> Refined
-    requires { ⌜ Within (imageOf (now img) width height) (cfg .radius) (seed .«centre_x») (seed .«centre_y») ⌝ }
-    ensures { λ r. ⌜ r ≡ lentWith cfg (fittedWith (imageOf (now (img .entry)) width height) cfg seed wanted (now (columns .entry)) (now (overlap .entry))) ⌝ }
+    requires { ⌜ PatchWithin (imageOf (now img) sizes) (cfg .radius) (seed .«centre_x») (seed .«centre_y») ⌝ }
+    ensures { λ r. ⌜ r ≡ lentWith cfg (refineWith (imageOf (now (img .entry)) sizes) cfg seed wanted (now (columns .entry)) (now (overlap .entry))) ⌝ }
 {
     if cfg.radius == 0 {
-        return Refined::IllConditioned(0.0);
+        return Refined::Unmoved(Why::IllConditioned, 0.0);
     }
-    refine_seed(img, width, height, cfg, seed, wanted, columns, overlap)
+    refine_seed(img, sizes, cfg, seed, wanted, columns, overlap)
 }
 
 // A seed that passed the tests: the first fit decides acceptance.
 fn refine_seed(
     img: &[u8],
-    width: usize,
-    height: usize,
+    sizes: Sizes,
     cfg: SaddlePointConfig,
     seed: Seed,
     wanted: bool,
     columns: &[f32; 1125],
     overlap: &[f32; 225],
 ) -> Refined
-    requires { ⌜ Within (imageOf (now img) width height) (cfg .radius) (seed .«centre_x») (seed .«centre_y») ⌝ }
-    ensures { λ r. ⌜ r ≡ fittedWith (imageOf (now (img .entry)) width height) cfg seed wanted (now (columns .entry)) (now (overlap .entry)) ⌝ }
+    requires { ⌜ PatchWithin (imageOf (now img) sizes) (cfg .radius) (seed .«centre_x») (seed .«centre_y») ⌝ }
+    ensures { λ r. ⌜ r ≡ refineWith (imageOf (now (img .entry)) sizes) cfg seed wanted (now (columns .entry)) (now (overlap .entry)) ⌝ }
 {
     let radius = cfg.radius;
     let cx = seed.centre_x;
     let cy = seed.centre_y;
-    let here = fits::fit_patch(img, width, height, cx, cy, radius, columns);
+    let here = fits::fit_patch(img, sizes, cx, cy, radius, columns);
     let solved = solve::solve(cfg, here);
     match solved {
-        Solved::Refused(det) => Refined::IllConditioned(det),
+        Solved::Refused(det) => Refined::Unmoved(Why::IllConditioned, det),
         Solved::Saddle(f) => {
             if tries::near_seed(cfg, seed, f.ux, f.uy) {
                 return Refined::Accepted(closing::estimate(
                     img,
-                    width,
-                    height,
+                    sizes,
                     columns,
                     overlap,
                     cfg,
@@ -211,7 +197,7 @@ fn refine_seed(
                     wanted,
                 ));
             }
-            Refined::Rejected(f.det_h)
+            Refined::Unmoved(Why::Rejected, f.det_h)
         }
     }
 }

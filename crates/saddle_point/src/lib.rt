@@ -1,5 +1,6 @@
 // The saddle-point refiner of one seed, after `saddle_point.rs`.
 use fit_cache::Seed;
+use refusals::Refusal;
 use saddle_fit::Corners;
 use saddle_fit::Covariance;
 use saddle_fit::PatchSaddle;
@@ -12,6 +13,7 @@ mod steps;
 pub use entry::good_limits;
 pub use entry::refine;
 pub use entry::refine_with;
+pub use entry::why_number;
 pub use spots::spot_with;
 
 // Where the steps ended: settled or not, after how many tries, and where they settled the window's offset and fractions, the saddle and the four fits.
@@ -26,13 +28,11 @@ pub struct Ended {
     pub corners: Corners,
 }
 
-// A seed that passed the tests, or the first test that it did not pass.
+// A seed that passed its tests, or what the first test that it did not pass says.
 pub enum Admitted {
     Good(Seed),
-    NoImage,
-    NoRadius,
-    NoLimit,
-    NoPatch,
+    Unmoved(Why),
+    Refused(Refusal),
 }
 
 // The slope along an axis, where there is one.
@@ -50,15 +50,18 @@ pub struct Estimate {
     pub covariance: Covariance,
 }
 
-// How refining a seed ended, by document 01's names; the refusals of the first fit hold its determinant.
+// Why a seed stays where it is, by the Rust's names.
+pub enum Why {
+    Rejected,
+    OutOfBounds,
+    IllConditioned,
+}
+
+// How refining a seed ended. A seed that stays where it is has a score beside the reason: the determinant of the first fit, where there was one.
 pub enum Refined {
     Accepted(Estimate),
-    Rejected(f32),
-    OutOfBounds,
-    IllConditioned(f32),
-    BadImage,
-    BadRadius,
-    BadLimit,
+    Unmoved(Why, f32),
+    Refused(Refusal),
 }
 
 // Where a seed was refined to, if it was accepted.

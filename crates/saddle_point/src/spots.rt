@@ -6,6 +6,7 @@ use crate::steps;
 use fit_cache::Seed;
 use fit_cache::fits;
 use fit_cache::tries;
+use imageview::Sizes;
 use saddle_fit::PatchSaddle;
 use saddle_fit::SaddlePointConfig;
 use saddle_fit::Solved;
@@ -16,75 +17,69 @@ ghost use lib.IntN.{pos};
 ghost use lib.Ieee.{binary32, ofInt};
 ghost use Rattle.imageview.specs.Image.{imageOf};
 ghost use Rattle.saddle_fit.specs.Numbers.{_⊕_};
-ghost use Rattle.fit_cache.specs.Adding.{Within};
+ghost use Rattle.fit_cache.specs.Adding.{PatchWithin};
 ghost use Rattle.fit_cache.specs.Tries.{taskAt};
 ghost use Rattle.saddle_point.specs.declared.Spot.the-variants.{At};
-ghost use Rattle.saddle_point.specs.Refine.{lentWith, refineLent};
-ghost use Rattle.saddle_point.specs.Admission.{fittedWith};
+ghost use Rattle.saddle_point.specs.Refine.{refineWith, lentWith, refineLent};
 ghost use Rattle.saddle_point.specs.Spot.{Comes, Lands};
 
 // The spot of one seed with an operator that is lent.
 pub fn spot_with(
     img: &[u8],
-    width: usize,
-    height: usize,
+    sizes: Sizes,
     cfg: SaddlePointConfig,
     x: f32,
     y: f32,
     columns: &[f32; 1125],
 ) -> Spot
-    ensures { λ r. ⌜ Lands (λ overlap wanted. refineLent (imageOf (now (img .entry)) width height) cfg x y wanted (now (columns .entry)) overlap) r ⌝ }
+    ensures { λ r. ⌜ Lands (λ overlap wanted. refineLent (imageOf (now (img .entry)) sizes) cfg x y wanted (now (columns .entry)) overlap) r ⌝ }
 {
-    let admitted = entry::admit(img, width, height, cfg, x, y);
+    let admitted = entry::admit(img, sizes, cfg, x, y);
     match admitted {
-        Admitted::Good(seed) => spot_lent(img, width, height, cfg, seed, columns),
-        Admitted::NoImage => Spot::Nowhere,
-        Admitted::NoRadius => Spot::Nowhere,
-        Admitted::NoLimit => Spot::Nowhere,
-        Admitted::NoPatch => Spot::Nowhere,
+        Admitted::Good(seed) => spot_lent(img, sizes, cfg, seed, columns),
+        Admitted::Unmoved(_) => Spot::Nowhere,
+        Admitted::Refused(_) => Spot::Nowhere,
     }
 }
 
 // A seed that passed the tests; at radius 0 there is no operator, whatever is lent.
 fn spot_lent(
     img: &[u8],
-    width: usize,
-    height: usize,
+    sizes: Sizes,
     cfg: SaddlePointConfig,
     seed: Seed,
     columns: &[f32; 1125],
 ) -> Spot
-    requires { ⌜ Within (imageOf (now img) width height) (cfg .radius) (seed .«centre_x») (seed .«centre_y») ⌝ }
-    ensures { λ r. ⌜ Lands (λ overlap wanted. lentWith cfg (fittedWith (imageOf (now (img .entry)) width height) cfg seed wanted (now (columns .entry)) overlap)) r ⌝ }
+    requires { ⌜ PatchWithin (imageOf (now img) sizes) (cfg .radius) (seed .«centre_x») (seed .«centre_y») ⌝ }
+    ensures { λ r. ⌜ Lands (λ overlap wanted. lentWith cfg (refineWith (imageOf (now (img .entry)) sizes) cfg seed wanted (now (columns .entry)) overlap)) r ⌝ }
 {
     if cfg.radius == 0 {
         return Spot::Nowhere;
     }
-    spot_of_seed(img, width, height, cfg, seed, columns)
+    spot_of_seed(img, sizes, cfg, seed, columns)
 }
 
 // A seed that passed the tests: the first fit decides acceptance.
 fn spot_of_seed(
     img: &[u8],
-    width: usize,
-    height: usize,
+    sizes: Sizes,
     cfg: SaddlePointConfig,
     seed: Seed,
     columns: &[f32; 1125],
 ) -> Spot
-    requires { ⌜ Within (imageOf (now img) width height) (cfg .radius) (seed .«centre_x») (seed .«centre_y») ⌝ }
-    ensures { λ r. ⌜ Lands (λ overlap wanted. fittedWith (imageOf (now (img .entry)) width height) cfg seed wanted (now (columns .entry)) overlap) r ⌝ }
+    requires { ⌜ PatchWithin (imageOf (now img) sizes) (cfg .radius) (seed .«centre_x») (seed .«centre_y») ⌝ }
+    ensures { λ r. ⌜ Lands (λ overlap wanted. refineWith (imageOf (now (img .entry)) sizes) cfg seed wanted (now (columns .entry)) overlap) r ⌝ }
 {
     let radius = cfg.radius;
     let cx = seed.centre_x;
     let cy = seed.centre_y;
-    let here = fits::fit_patch(img, width, height, cx, cy, radius, columns);
+    let here = fits::fit_patch(img, sizes, cx, cy, radius, columns);
     let solved = solve::solve(cfg, here);
     match solved {
         Solved::Refused(det) => Spot::Nowhere,
         Solved::Saddle(f) => {
             if tries::near_seed(cfg, seed, f.ux, f.uy) {
-                return spot_from(img, width, height, columns, cfg, seed, f);
+                return spot_from(img, sizes, columns, cfg, seed, f);
             }
             Spot::Nowhere
         }
@@ -94,20 +89,19 @@ fn spot_of_seed(
 // From the first fit's saddle.
 fn spot_from(
     img: &[u8],
-    width: usize,
-    height: usize,
+    sizes: Sizes,
     columns: &[f32; 1125],
     cfg: SaddlePointConfig,
     seed: Seed,
     first: PatchSaddle,
 ) -> Spot
-    requires { ⌜ Within (imageOf (now img) width height) (cfg .radius) (seed .«centre_x») (seed .«centre_y») ⌝ }
-    ensures { λ r. ⌜ Comes (taskAt (imageOf (now (img .entry)) width height) (now (columns .entry)) cfg seed) first r ⌝ }
+    requires { ⌜ PatchWithin (imageOf (now img) sizes) (cfg .radius) (seed .«centre_x») (seed .«centre_y») ⌝ }
+    ensures { λ r. ⌜ Comes (taskAt (imageOf (now (img .entry)) sizes) (now (columns .entry)) cfg seed) first r ⌝ }
 {
     if solve::settled(first) {
         return spot_at(seed, 0.0, 0.0, first);
     }
-    let e = steps::run(img, width, height, columns, cfg, seed, first);
+    let e = steps::run(img, sizes, columns, cfg, seed, first);
     if e.settled {
         let fit = e.fit;
         return spot_at(seed, e.ox, e.oy, fit);

@@ -3,6 +3,7 @@ use super::Ended;
 use fit_cache::IntegerFits;
 use fit_cache::Seed;
 use fit_cache::tries;
+use imageview::Sizes;
 use saddle_fit::Corners;
 use saddle_fit::Move;
 use saddle_fit::PatchSaddle;
@@ -50,18 +51,33 @@ fn later_move(fit: PatchSaddle, corners: Corners, tx: f32, ty: f32) -> Move
     sensitivity::newton_step(m, fit)
 }
 
+// An end that is not settled: of the rest only the tries are asked then.
+fn not_settled(tries: u32, fit: PatchSaddle, corners: Corners) -> Ended
+    ensures { λ r. ⌜ (r .settled ≡ false) × (r .tries ≡ tries) ⌝ }
+{
+    Ended {
+        settled: false,
+        tries,
+        ox: 0.0,
+        oy: 0.0,
+        tx: 0.0,
+        ty: 0.0,
+        fit,
+        corners,
+    }
+}
+
 // From the first fit's saddle, which is not settled. `left` steps may follow the present one, `halvings` candidates are left of it.
 pub fn run(
     img: &[u8],
-    width: usize,
-    height: usize,
+    sizes: Sizes,
     columns: &[f32; 1125],
     cfg: SaddlePointConfig,
     seed: Seed,
     first: PatchSaddle,
 ) -> Ended
-    requires { ⌜ Sound (imageOf (now img) width height) (cfg .radius) ⌝ ∗ ⌜ (seed .«centre_x» < 4096) × (seed .«centre_y» < 4096) ⌝ ∗ ⌜ Run.settled first ≡ false ⌝ }
-    ensures { λ r. ⌜ Ends (taskAt (imageOf (now (img .entry)) width height) (now (columns .entry)) cfg seed) first r ⌝ }
+    requires { ⌜ Sound (imageOf (now img) sizes) (cfg .radius) ⌝ ∗ ⌜ (seed .«centre_x» < 4096) × (seed .«centre_y» < 4096) ⌝ ∗ ⌜ Run.settled first ≡ false ⌝ }
+    ensures { λ r. ⌜ Ends (taskAt (imageOf (now (img .entry)) sizes) (now (columns .entry)) cfg seed) first r ⌝ }
 {
     let mut fits = no_fits();
     let mut fit = first;
@@ -78,7 +94,7 @@ pub fn run(
     while 0 < halvings {
         let nx = ox + scale * step.x;
         let ny = oy + scale * step.y;
-        let c = tries::candidate(fits, img, width, height, columns, cfg, seed, fit, nx, ny);
+        let c = tries::candidate(fits, img, sizes, columns, cfg, seed, fit, nx, ny);
         fits = c.fits;
         tries += 1;
         if c.taken {
@@ -98,16 +114,7 @@ pub fn run(
                 };
             }
             if left == 0 {
-                return Ended {
-                    settled: false,
-                    tries,
-                    ox: nx,
-                    oy: ny,
-                    tx: w.tx,
-                    ty: w.ty,
-                    fit,
-                    corners,
-                };
+                return not_settled(tries, fit, corners);
             }
             step = later_move(fit, corners, w.tx, w.ty);
             ox = nx;
@@ -121,14 +128,5 @@ pub fn run(
         }
     }
     let corners = fits.corners;
-    Ended {
-        settled: false,
-        tries,
-        ox,
-        oy,
-        tx: 0.0,
-        ty: 0.0,
-        fit,
-        corners,
-    }
+    not_settled(tries, fit, corners)
 }

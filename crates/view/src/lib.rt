@@ -1,6 +1,8 @@
 // An image as bytes that are borrowed, with width and height, after `imageview.rs`. The functions are thin: each takes the view apart and
 // calls the one on a plain slice and numbers, which does the work. The borrow checker covers no function over such a struct, so each is
 // proved by a walk by hand.
+mod plain;
+
 use response::Response;
 use response::Roi;
 use saddle_fit::SaddlePointConfig;
@@ -8,7 +10,7 @@ use saddle_point::Refined;
 ghost use mathlib.Core.Path.{_≡_};
 ghost use Prim.Native.Nat.{_+_, _*_, _≤_};
 ghost use lib.ListN.{length, take, drop};
-ghost use Rattle.imageview.specs.Image.{imageOf, isImage};
+ghost use Rattle.imageview.specs.Image.{imageOf, sizesOf, isImage};
 ghost use Rattle.response.specs.Call.{Done, regionOf};
 ghost use Rattle.saddle_point.specs.Refine.{refineOf};
 ghost use Rattle.view.specs.Seen.{imageIn};
@@ -34,7 +36,7 @@ pub fn from_u8_slice<'a>(data: &'a [u8], width: usize, height: usize) -> ImageVi
 pub fn is_image<'a>(view: ImageView<'a>) -> bool
     ensures { λ r. ⌜ r ≡ isImage (imageIn (view .entry)) ⌝ }
 {
-    imageview::is_image(view.data, view.width, view.height)
+    plain::is_image(view.data, view.width, view.height)
 }
 
 pub fn width<'a>(view: ImageView<'a>) -> usize
@@ -67,7 +69,7 @@ pub fn response<'a>(
 ) -> Response
     ensures { λ r. ⌜ Done (imageIn (view .entry)) (now (ring .entry)) radius (regionOf roi) (now (out .entry)) r (now (out .exit)) ⌝ }
 {
-    response::chess_response_u8_patch(view.data, view.width, view.height, ring, radius, roi, out)
+    plain::response(view.data, view.width, view.height, ring, radius, roi, out)
 }
 
 // The refiner of one seed on the view's image.
@@ -80,7 +82,7 @@ pub fn refine<'a>(
 ) -> Refined
     ensures { λ r. ⌜ r ≡ refineOf (imageIn (view .entry)) cfg x y wanted ⌝ }
 {
-    saddle_point::refine(view.data, view.width, view.height, cfg, x, y, wanted)
+    plain::refine(view.data, view.width, view.height, cfg, x, y, wanted)
 }
 
 // The same from plain bytes: the view is a local, so whoever calls this needs no walk by hand.
@@ -93,7 +95,7 @@ pub fn refine_bytes(
     y: f32,
     wanted: bool,
 ) -> Refined
-    ensures { λ r. ⌜ r ≡ refineOf (imageOf (now («data» .entry)) width height) cfg x y wanted ⌝ }
+    ensures { λ r. ⌜ r ≡ refineOf (imageOf (now («data» .entry)) (sizesOf width height)) cfg x y wanted ⌝ }
 {
     refine(from_u8_slice(data, width, height), cfg, x, y, wanted)
 }

@@ -12,7 +12,7 @@ use Rattle.detect.proofs.refine_corners_on_image.Statement.{statement}
 use Rattle.detect.proofs.refine_corners_on_image.Tie as tie
 
 abbrev image : tie.Start → Image
-image c = imageOf (c .args .img .now) (c .args .width) (c .args .height)
+image c = imageOf (c .args .img .now) (c .args .sizes)
 
 is-one : (c : tie.Else1) → isImage (image (c .before .before .before .before .before)) ≡ true
 is-one c = sym (c .before .is-image .ensures) ∙ not-false (c .before .is-image .result) (c .if1 .left)

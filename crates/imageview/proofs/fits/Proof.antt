@@ -1,27 +1,29 @@
--- `imageview::fits` meets its contract: each return is one law of the test.
-use native.Mathlib.Omega.{arith}
+-- `imageview::fits` meets its contract: the count is asked of sizes that passed alone.
+use mathlib.Core.Path.{sym, _∙_}
 use mir.Facts.{fits-le, fits-lit}
-use Rattle.imageview.proofs.ImageLaws.{no-width, too-wide, no-height, too-high, by-count, count-most}
+use borrow.Author.Needs.{needs}
+use Rattle.imageview.proofs.ImageLaws.{by-count, no-size, sized, passed, count-most}
 use Rattle.imageview.proofs.fits.Statement.{statement}
 use Rattle.imageview.proofs.fits.Tie as tie
 
-returns : tie.Need-returns
-returns c = no-width (c .before .args .count) (c .before .args .width) (c .before .args .height) (c .if1 .taken)
-
-returns-2 : tie.Need-returns-2
-returns-2 c = too-wide (c .before .before .args .count) (c .before .before .args .width) (c .before .before .args .height) (c .if2 .taken)
-
-returns-3 : tie.Need-returns-3
-returns-3 c = no-height (c .before .before .before .args .count) (c .before .before .before .args .width) (c .before .before .before .args .height) (c .if3 .taken)
-
-returns-4 : tie.Need-returns-4
-returns-4 c = too-high (c .before .before .before .before .args .count) (c .before .before .before .before .args .width) (c .before .before .before .before .args .height) (c .if4 .taken)
+is-size-requires : tie.Need-is-size-requires
+is-size-requires c κs = search needs
 
 mul-result : tie.Need-mul-result
-mul-result c = fits-le (count-most (c .before .before .before .before .args .width) (c .before .before .before .before .args .height) (c .before .before .if2 .left) (c .if4 .left)) (fits-lit tt)
+mul-result c =
+    let a = c .before .before .args in
+    let s = sized (a .width) (a .height) (passed (sym (c .before .is-size .ensures) ∙ c .if1 .taken)) in
+    fits-le (count-most (a .width) (a .height) (s .width-most) (s .height-most)) (fits-lit tt)
 
-returns-5 : tie.Need-returns-5
-returns-5 c = by-count (c .before .before .before .before .args .count) (c .before .before .before .before .args .width) (c .before .before .before .before .args .height) (c .before .before .before .if1 .left) (c .before .before .if2 .left) (c .before .if3 .left) (c .if4 .left)
+returns : tie.Need-returns
+returns c =
+    let a = c .before .before .args in
+    by-count (a .count) (a .width) (a .height) (sym (c .before .is-size .ensures) ∙ c .if1 .taken)
+
+returns-2 : tie.Need-returns-2
+returns-2 c =
+    let a = c .before .before .args in
+    no-size (a .count) (a .width) (a .height) (sym (c .before .is-size .ensures) ∙ c .if1 .left)
 
 pub fits-spec : {M : Type 1} → statement M
-fits-spec = tie.close (tie.spec returns returns-2 returns-3 returns-4 mul-result returns-5)
+fits-spec = tie.close (tie.spec is-size-requires mul-result returns returns-2)

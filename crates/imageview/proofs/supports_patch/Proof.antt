@@ -18,13 +18,13 @@ returns c =
     let s = c .before .before .before .args in
     let f = c .before .before .before .fits in
     c .within2 .ensures
-    ∙ read-back (s .radius) (s .height) (s .y) (f .y)
-    ∙ ap (λ (b : Bool). b && inside (s .radius) (s .height) (s .y)) (sym (c .before .if1 .taken) ∙ c .before .before .within .ensures ∙ read-back (s .radius) (s .width) (s .x) (f .x))
+    ∙ read-back (s .radius) (s .sizes .height) (s .y) (f .y)
+    ∙ ap (λ (b : Bool). b && inside (s .radius) (s .sizes .height) (s .y)) (sym (c .before .if1 .taken) ∙ c .before .before .within .ensures ∙ read-back (s .radius) (s .sizes .width) (s .x) (f .x))
 
 returns-2 : tie.Need-returns-2
 returns-2 c =
     let s = c .before .before .args in
-    ap (λ (b : Bool). b && inside (s .radius) (s .height) (s .y)) (sym (c .if1 .left) ∙ c .before .within .ensures ∙ read-back (s .radius) (s .width) (s .x) (c .before .before .fits .x))
+    ap (λ (b : Bool). b && inside (s .radius) (s .sizes .height) (s .y)) (sym (c .if1 .left) ∙ c .before .within .ensures ∙ read-back (s .radius) (s .sizes .width) (s .x) (c .before .before .fits .x))
 
 pub supports-patch-spec : {M : Type 1} → statement M
 supports-patch-spec = tie.close (tie.spec within-requires within-requires-2 returns returns-2)

@@ -4,8 +4,8 @@ use mathlib.Core.Bool.{true}
 use borrow.Author.Needs.{needs}
 use borrow.Author.Tests.{not-true, not-false}
 use lib.Dec.{T}
-use Rattle.imageview.specs.Image.{Image, isImage}
-use Rattle.imageview.proofs.ImageLaws.{good}
+use Rattle.imageview.specs.Image.{Image, imageOf, isImage}
+use Rattle.imageview.proofs.ImageLaws as images
 use Rattle.response.specs.Region.{Region, ringWithin}
 use Rattle.response.specs.Call.{regionOf}
 use Rattle.response.proofs.RingLaws.{tested}
@@ -14,7 +14,7 @@ use Rattle.response.proofs.chess_response_u8_patch.Statement.{statement
 use Rattle.response.proofs.chess_response_u8_patch.Tie as tie
 
 abbrev image : tie.Start → Image
-image c = record { samples = c .args .img .now; width = c .args .width; height = c .args .height }
+image c = imageOf (c .args .img .now) (c .args .sizes)
 
 abbrev area : tie.Start → Region
 area c = regionOf (c .args .roi)
@@ -80,11 +80,9 @@ write-clamped-requires : tie.Need-write-clamped-requires
 write-clamped-requires c κs =
     let e = c .before .before .before .before .before .before .before .before .before .before .before in
     let f = c .before .before .before .before .before .before in
-    let g = good (image (e .before .before .before .before .before .before)) (subst T (sym (is-one (e .before .before))) tt) in
+    let g = images.tested (image (e .before .before .before .before .before .before)) (subst T (sym (is-one (e .before .before))) tt) in
     record {
-      width-most = g .width-most;
-      height-most = g .height-most;
-      count = g .count;
+      image = g;
       radius-most = e .if3 .left;
       around = f .before .are-around .ensures .yes (not-false (f .before .are-around .result) (f .if4 .left));
       right = search needs;
@@ -99,7 +97,7 @@ returns-7 c =
     let e = c .before .before .before .before .before .before .before .before .before .before .before .before .before .before in
     let f = c .before .before .before .before .before .before .before .before .before in
     settled (image s) (s .args .ring .now) (s .args .radius) (area s) (s .args .out .now) (is-one (e .before .before)) (e .before .if2 .left) (e .if3 .left) (ring-fits f)
-    (f .before .before .before .offsets-of .result) (c .before .before .write-clamped .result) (c .before .before .write-clamped .last .1 .1 .1 .1 .1 .1 .0) (f .before .before .before .offsets-of .ensures)
+    (f .before .before .before .offsets-of .result) (c .before .before .write-clamped .result) (c .before .before .write-clamped .last .1 .1 .1 .1 .1 .0) (f .before .before .before .offsets-of .ensures)
     (c .before .before .before .before .before .before .before .if5 .left) (c .before .before .before .before .before .if6 .left) (c .before .before .write-clamped .ensures)
 
 pub chess-response-u8-patch-spec : {M : Type 1} → statement M

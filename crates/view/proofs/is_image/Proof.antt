@@ -1,4 +1,4 @@
--- `view::is_image` meets its contract: a walk of its MIR, by hand. The view is taken apart, and `imageview::is_image` is called on the bytes and the sizes. All that the proof knows of it is that it meets its contract.
+-- `view::is_image` meets its contract: a walk of its MIR, by hand. The view is taken apart, and `plain::is_image` is called on the bytes and the sizes. All that the proof knows of it is that it meets its contract.
 -- The view is Copy: of what it owns the bytes' part goes to the callee (`Apart.antt`), beside the lifetime's token, which comes back, and the view is kept whole for the exit.
 -- Assumes nothing.
 use mathlib.Core.Path.{_≡_, refl}
@@ -40,10 +40,10 @@ use denote.Triple.Table.{entered, cited}
 use denote.Triple.Walked.{says, Stays, stay-none, walkOf, goes-none, Walks, ends-at, walked, walk-meets}
 use denote.Exit.{yes}
 use Rattle.imageview.specs.Image.{isImage}
-use Rattle.imageview.proofs.is_image as test
-use Rattle.imageview.proofs.is_image.Symbol as test-def
-use Rattle.imageview.proofs.is_image.Symbol.{name as #imageview·is-image}
-use Rattle.imageview.proofs.is_image.Met as test-thm
+use Rattle.view.proofs.plain.is_image as test
+use Rattle.view.proofs.plain.is_image.Symbol as test-def
+use Rattle.view.proofs.plain.is_image.Symbol.{name as #view·plain·is-image}
+use Rattle.view.proofs.plain.is_image.Met as test-thm
 use Rattle.view.specs.Seen.{imageIn}
 use Rattle.view.specs.declared.ImageView.{ImageView}
 use Rattle.view.proofs.ImageView as T
@@ -108,7 +108,7 @@ module _ {M : Type 1} (𝓤 : URA M) (H : Heap 𝓤) (A : Atoms 𝓤) (W : Given
       suffices ! _ (ends-at 𝓤 H A is-image.ended stayed (is-image.clauses 𝓤 H A mem run) W (((κ, tt), (q, tt), tt, (d, tt), (mach ∷ [], tt)), tt) u r (tt, tt) (tt, tt)) $ says ! e $
       move ! (1 ∷ []) $ frame ! $ nothing ! $ move ! (2 ∷ 0 ∷ []) $ fjoin ! $ frame ! $ done !
 
-  module _ (C : Calls 𝓤 H) (Λ : Loops 𝓤 H) (fm : FmC 𝓤 H (W .laws) C) (known : Triple 𝓤 (C #imageview·is-image) (Test 𝓤 H A mem run)) where
+  module _ (C : Calls 𝓤 H) (Λ : Loops 𝓤 H) (fm : FmC 𝓤 H (W .laws) C) (known : Triple 𝓤 (C #view·plain·is-image) (Test 𝓤 H A mem run)) where
     walk : Holds (hasTy (T′.mir (named 0)) mach) × WT mach → ent 𝓤 (onEntry 𝓤 H A is-image.signature (κ, tt) (q, tt) (d, tt) (mach ∷ [], tt)) (WpFn 𝓤 H C Λ code.function (mach ∷ []) Post)
     walk wt =
         qed W (raw (onEntry 𝓤 H A is-image.signature (κ, tt) (q, tt) (d, tt) (mach ∷ [], tt)) ∷ []) ∵ enter ! C Λ code.function (mach ∷ []) _ $
@@ -127,13 +127,13 @@ module _ {M : Type 1} (𝓤 : URA M) (H : Heap 𝓤) (A : Atoms 𝓤) (W : Given
         move ! (11 ∷ 12 ∷ []) $ free1 ! $ move ! (9 ∷ 10 ∷ []) $ free1 ! $ move ! (7 ∷ 8 ∷ []) $ free1 ! $ move ! (5 ∷ 6 ∷ []) $ free1 ! $ move ! (3 ∷ 4 ∷ []) $ free1 ! $ free0 ! $ by ! (exits r u e))))))))))
 
 module _ {M : Type 1} (𝓤 : URA M) (H : Heap 𝓤) (A : Atoms 𝓤) (W : Given 𝓤 H A) (mem : Memory → SProp 𝓤) (run : Routine → Fun 𝓤) where
-  is-image-walks : (C : Calls 𝓤 H) (Λ : Loops 𝓤 H) → FmC 𝓤 H (W .laws) C → Triple 𝓤 (C #imageview·is-image) (Test 𝓤 H A mem run)
+  is-image-walks : (C : Calls 𝓤 H) (Λ : Loops 𝓤 H) → FmC 𝓤 H (W .laws) C → Triple 𝓤 (C #view·plain·is-image) (Test 𝓤 H A mem run)
       → Walks 𝓤 H A is-image.ended stayed (WpFn 𝓤 H C Λ code.function) (is-image.clauses 𝓤 H A mem run)
   is-image-walks C Λ fm known = walked 𝓤 H A is-image.ended stayed (is-image.clauses 𝓤 H A mem run) (WpFn 𝓤 H C Λ code.function) (λ κs. (LL.vals (T.the-type (namedLft 1 0 tt κs)) (T′.the-laws (namedLft 1 0 tt κs)), tt)) (λ κs. (LL.tells (T.the-type (namedLft 1 0 tt κs)) (T′.the-laws (namedLft 1 0 tt κs)), tt))
       (λ κs qs bounds a g are. via 𝓤 _ (fst∗ 𝓤 _ (emp 𝓤)) (walk 𝓤 H A W mem run (κs .0) (qs .0) (a .0) C Λ fm known (LL.lawful (T.the-type (namedLft 1 0 tt κs)) (T′.the-laws (namedLft 1 0 tt κs)) 𝓤 H A W .typed (a .0) _ (are .0) .0)))
 
 is-image-meets : {M : Type 1} (𝓤 : URA M) (H : Heap 𝓤) (A : Atoms 𝓤) (W : Given 𝓤 H A) (mem : Memory → SProp 𝓤) (run : Routine → Fun 𝓤) (𝓣 : Tables 𝓤 H)
-    → Triple 𝓤 (𝓣 .C #imageview·is-image) (Test 𝓤 H A mem run)
+    → Triple 𝓤 (𝓣 .C #view·plain·is-image) (Test 𝓤 H A mem run)
     → Meets 𝓤 H A is-image.signature (WpFn 𝓤 H (𝓣 .C) (𝓣 .Λ) code.function) (is-image.spec 𝓤 H A mem run)
 is-image-meets 𝓤 H A W mem run 𝓣 known = walk-meets 𝓤 H A is-image.ended stayed W (goes-none 𝓤 H A W 1 B yes (λ κs x f. refl), tt) (is-image.clauses 𝓤 H A mem run) (WpFn 𝓤 H (𝓣 .C) (𝓣 .Λ) code.function) (WpFn-mono 𝓤 H (W .laws) 𝓣 code.function)
     (is-image-walks 𝓤 H A W mem run (𝓣 .C) (𝓣 .Λ) (fmOf 𝓤 H (W .laws) 𝓣) known)
@@ -144,4 +144,4 @@ is-image-spec 𝓤 H 𝓜 𝓖 𝓡 =
     entered 𝓤 H (tripleOf 𝓤 H (𝓖 .A) is-image.signature (is-image.spec 𝓤 H (𝓖 .A) (𝓜 .mem) (𝓡 .run)))
     (tables 𝓤 H 𝓜 𝓡 code.env .C) (tables 𝓤 H 𝓜 𝓡 code.env .Λ) #view·is-image code.function (code.unfolded 𝓤 H 𝓜 𝓡)
     (is-image-meets 𝓤 H (𝓖 .A) (givenOf 𝓤 H 𝓜 𝓖) (𝓜 .mem) (𝓡 .run) (tablesOf 𝓤 H 𝓜 (tables 𝓤 H 𝓜 𝓡 code.env))
-    (cited 𝓤 H (Test 𝓤 H (𝓖 .A) (𝓜 .mem) (𝓡 .run)) 𝓜 𝓡 code.env #imageview·is-image test-def.routine code.calls-imageview·is-image (test-thm.met 𝓤 H 𝓜 𝓖 𝓡)))
+    (cited 𝓤 H (Test 𝓤 H (𝓖 .A) (𝓜 .mem) (𝓡 .run)) 𝓜 𝓡 code.env #view·plain·is-image test-def.routine code.calls-view·plain·is-image (test-thm.met 𝓤 H 𝓜 𝓖 𝓡)))

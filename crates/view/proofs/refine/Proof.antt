@@ -1,4 +1,4 @@
--- `view::refine` meets its contract: a walk of its MIR, by hand. The view is taken apart, and `saddle_point::refine` is called on the bytes, the sizes and what else was passed. All that the proof knows of it is that it meets its contract.
+-- `view::refine` meets its contract: a walk of its MIR, by hand. The view is taken apart, and `plain::refine` is called on the bytes, the sizes and what else was passed. All that the proof knows of it is that it meets its contract.
 -- The view is Copy: of what it owns the bytes' part goes to the callee (`Apart.antt`), beside the lifetime's token, which comes back, and the view is kept whole for the exit. The settings, the place and the truth value own only facts.
 -- Assumes nothing.
 use mathlib.Core.Path.{_≡_, refl}
@@ -49,10 +49,10 @@ use Rattle.saddle_point.specs.Refine.{refineOf}
 use Rattle.saddle_point.specs.declared.Refined.{Refined}
 use Rattle.saddle_point.proofs.Refined as S
 use Rattle.saddle_point.proofs.Refined.Laws as S′
-use Rattle.saddle_point.proofs.refine as plain
-use Rattle.saddle_point.proofs.refine.Symbol as plain-def
-use Rattle.saddle_point.proofs.refine.Symbol.{name as #saddle-point·refine}
-use Rattle.saddle_point.proofs.refine.Met as plain-thm
+use Rattle.view.proofs.plain.refine as plain
+use Rattle.view.proofs.plain.refine.Symbol as plain-def
+use Rattle.view.proofs.plain.refine.Symbol.{name as #view·plain·refine}
+use Rattle.view.proofs.plain.refine.Met as plain-thm
 use Rattle.view.specs.Seen.{imageIn}
 use Rattle.view.specs.declared.ImageView.{ImageView}
 use Rattle.view.proofs.ImageView as T
@@ -125,7 +125,7 @@ module _ {M : Type 1} (𝓤 : URA M) (H : Heap 𝓤) (A : Atoms 𝓤) (W : Given
       suffices ! _ (ends-at 𝓤 H A refine.ended stayed (refine.clauses 𝓤 H A mem run) W (((κ, tt), (q, tt), tt, (d, further cfg x y wanted), vals), tt) u r (tt, (tt, (tt, (tt, (tt, tt))))) (tt, (tt, (tt, (tt, (tt, tt)))))) $ says ! e $
       move ! (1 ∷ []) $ frame ! $ nothing ! $ use1 W (‵ (owns furtherRows (further cfg x y wanted) (furtherVals cfg x y wanted))) (facts cfg x y wanted 𝓤 H A W beside) $ move ! (2 ∷ 0 ∷ []) $ fjoin ! $ frame ! $ done !
 
-  module _ (C : Calls 𝓤 H) (Λ : Loops 𝓤 H) (fm : FmC 𝓤 H (W .laws) C) (known : Triple 𝓤 (C #saddle-point·refine) (Plain 𝓤 H A mem run)) where
+  module _ (C : Calls 𝓤 H) (Λ : Loops 𝓤 H) (fm : FmC 𝓤 H (W .laws) C) (known : Triple 𝓤 (C #view·plain·refine) (Plain 𝓤 H A mem run)) where
     walk : Holds (hasTy (T′.mir (named 0)) mach) × WT mach → ent 𝓤 (onEntry 𝓤 H A refine.signature (κ, tt) (q, tt) (d, further cfg x y wanted) vals) (WpFn 𝓤 H C Λ code.function (mach ∷ G′.lowered cfg ∷ vfloat binary32 x ∷ vfloat binary32 y ∷ vbool wanted ∷ []) Post)
     walk wt =
         qed W (raw (onEntry 𝓤 H A refine.signature (κ, tt) (q, tt) (d, further cfg x y wanted) vals) ∷ []) ∵ enter ! C Λ code.function (mach ∷ G′.lowered cfg ∷ vfloat binary32 x ∷ vfloat binary32 y ∷ vbool wanted ∷ []) _ $
@@ -149,7 +149,7 @@ module _ {M : Type 1} (𝓤 : URA M) (H : Heap 𝓤) (A : Atoms 𝓤) (W : Given
         by ! (exits r u e))))))))))))))
 
 module _ {M : Type 1} (𝓤 : URA M) (H : Heap 𝓤) (A : Atoms 𝓤) (W : Given 𝓤 H A) (mem : Memory → SProp 𝓤) (run : Routine → Fun 𝓤) where
-  refine-walks : (C : Calls 𝓤 H) (Λ : Loops 𝓤 H) → FmC 𝓤 H (W .laws) C → Triple 𝓤 (C #saddle-point·refine) (Plain 𝓤 H A mem run)
+  refine-walks : (C : Calls 𝓤 H) (Λ : Loops 𝓤 H) → FmC 𝓤 H (W .laws) C → Triple 𝓤 (C #view·plain·refine) (Plain 𝓤 H A mem run)
       → Walks 𝓤 H A refine.ended stayed (WpFn 𝓤 H C Λ code.function) (refine.clauses 𝓤 H A mem run)
   refine-walks C Λ fm known = walked 𝓤 H A refine.ended stayed (refine.clauses 𝓤 H A mem run) (WpFn 𝓤 H C Λ code.function)
       (λ κs. (LL.vals (T.the-type (namedLft 1 0 tt κs)) (T′.the-laws (namedLft 1 0 tt κs)), (LL.vals G.the-type G′.the-laws, (float-vals binary32, (float-vals binary32, (bool-vals, tt))))))
@@ -158,7 +158,7 @@ module _ {M : Type 1} (𝓤 : URA M) (H : Heap 𝓤) (A : Atoms 𝓤) (W : Given
       (LL.lawful (T.the-type (namedLft 1 0 tt κs)) (T′.the-laws (namedLft 1 0 tt κs)) 𝓤 H A W .typed (a .0) _ (are .0) .0)))
 
 refine-meets : {M : Type 1} (𝓤 : URA M) (H : Heap 𝓤) (A : Atoms 𝓤) (W : Given 𝓤 H A) (mem : Memory → SProp 𝓤) (run : Routine → Fun 𝓤) (𝓣 : Tables 𝓤 H)
-    → Triple 𝓤 (𝓣 .C #saddle-point·refine) (Plain 𝓤 H A mem run)
+    → Triple 𝓤 (𝓣 .C #view·plain·refine) (Plain 𝓤 H A mem run)
     → Meets 𝓤 H A refine.signature (WpFn 𝓤 H (𝓣 .C) (𝓣 .Λ) code.function) (refine.spec 𝓤 H A mem run)
 refine-meets 𝓤 H A W mem run 𝓣 known = walk-meets 𝓤 H A refine.ended stayed W
     (goes-none 𝓤 H A W 1 B yes (λ κs x f. refl), (goes-none 𝓤 H A W 1 (λ _. G.the-row) yes (λ κs x f. refl), (goes-none 𝓤 H A W 1 (λ _. f32) yes (λ κs x f. refl), (goes-none 𝓤 H A W 1 (λ _. f32) yes (λ κs x f. refl), (goes-none 𝓤 H A W 1 (λ _. bool) yes (λ κs x f. refl), tt)))))
@@ -170,4 +170,4 @@ refine-spec 𝓤 H 𝓜 𝓖 𝓡 =
     entered 𝓤 H (tripleOf 𝓤 H (𝓖 .A) refine.signature (refine.spec 𝓤 H (𝓖 .A) (𝓜 .mem) (𝓡 .run)))
     (tables 𝓤 H 𝓜 𝓡 code.env .C) (tables 𝓤 H 𝓜 𝓡 code.env .Λ) #view·refine code.function (code.unfolded 𝓤 H 𝓜 𝓡)
     (refine-meets 𝓤 H (𝓖 .A) (givenOf 𝓤 H 𝓜 𝓖) (𝓜 .mem) (𝓡 .run) (tablesOf 𝓤 H 𝓜 (tables 𝓤 H 𝓜 𝓡 code.env))
-    (cited 𝓤 H (Plain 𝓤 H (𝓖 .A) (𝓜 .mem) (𝓡 .run)) 𝓜 𝓡 code.env #saddle-point·refine plain-def.routine code.calls-saddle-point·refine (plain-thm.met 𝓤 H 𝓜 𝓖 𝓡)))
+    (cited 𝓤 H (Plain 𝓤 H (𝓖 .A) (𝓜 .mem) (𝓡 .run)) 𝓜 𝓡 code.env #view·plain·refine plain-def.routine code.calls-view·plain·refine (plain-thm.met 𝓤 H 𝓜 𝓖 𝓡)))

@@ -41,7 +41,7 @@ use denote.Triple.Spec.{Meets, tripleOf}
 use denote.Triple.Table.{entered, cited}
 use denote.Triple.Walked.{says, Stays, stay-none, stay-none-slice, walkOf, goes-none, goes-none-slice, Walks, ends-at, walked, walk-meets}
 use denote.Exit.{yes}
-use Rattle.imageview.specs.Image.{imageOf}
+use Rattle.imageview.specs.Image.{imageOf, sizesOf}
 use Rattle.saddle_fit.specs.declared.SaddlePointConfig.{SaddlePointConfig}
 use Rattle.saddle_fit.proofs.SaddlePointConfig as G
 use Rattle.saddle_fit.proofs.SaddlePointConfig.Laws as G′
@@ -95,7 +95,7 @@ module _ {M : Type 1} (𝓤 : URA M) (H : Heap 𝓤) (A : Atoms 𝓤) (W : Given
   vals = (v ∷ [], (vint w64 w ∷ [], (vint w64 h ∷ [], furtherVals cfg x y wanted)))
 
   abbrev found : Refined
-  found = refineOf (imageOf (now s) w h) cfg x y wanted
+  found = refineOf (imageOf (now s) (sizesOf w h)) cfg x y wanted
 
   -- the view that is made, and the lifetime of its type as a local of a body has it
   abbrev made : ImageView

@@ -1,4 +1,4 @@
--- `view::response` meets its contract: a walk of its MIR, by hand. The view is taken apart, and `response::chess_response_u8_patch` is called on the bytes, the sizes and what else was passed. All that the proof knows of it is that it meets its contract.
+-- `view::response` meets its contract: a walk of its MIR, by hand. The view is taken apart, and `plain::response` is called on the bytes, the sizes and what else was passed. All that the proof knows of it is that it meets its contract.
 -- The view and the ring are Copy: of what they own a part goes to the callee, and a part is kept for the exit. The borrow of `out` is given up for good, at its own lifetime and ghost name: what the callee says of the last list is what is said of `out` at exit. The three lifetimes' tokens go to the callee, and come back.
 -- Assumes nothing.
 use mathlib.Core.Path.{_≡_, refl}
@@ -50,10 +50,10 @@ use Rattle.response.proofs.Response as S
 use Rattle.response.proofs.Response.Laws as S′
 use Rattle.response.proofs.Roi as G
 use Rattle.response.proofs.Roi.Laws as G′
-use Rattle.response.proofs.chess_response_u8_patch as patch
-use Rattle.response.proofs.chess_response_u8_patch.Symbol as patch-def
-use Rattle.response.proofs.chess_response_u8_patch.Symbol.{name as #response·chess-response-u8-patch}
-use Rattle.response.proofs.chess_response_u8_patch.Met as patch-thm
+use Rattle.view.proofs.plain.response as patch
+use Rattle.view.proofs.plain.response.Symbol as patch-def
+use Rattle.view.proofs.plain.response.Symbol.{name as #view·plain·response}
+use Rattle.view.proofs.plain.response.Met as patch-thm
 use Rattle.view.specs.Seen.{imageIn}
 use Rattle.view.specs.declared.ImageView.{ImageView}
 use Rattle.view.proofs.ImageView as T
@@ -153,7 +153,7 @@ module _ {M : Type 1} (𝓤 : URA M) (H : Heap 𝓤) (A : Atoms 𝓤) (W : Given
       move ! (1 ∷ []) $ frame ! $ move ! (1 ∷ 2 ∷ []) $ fjoin ! $ owned ! G.the-row (Is G.the-row) (LL.makes G.the-type G′.the-plain 𝓤 H A) roi _ roi-is $ fjoin ! $
       owned ! usize (Is usize) (uint-makes 𝓤 H A W w64) radius _ (refl, radius-fits) $ fjoin ! $ move ! (2 ∷ []) $ split ! $ move ! (0 ∷ 2 ∷ []) $ fjoin ! $ move ! (1 ∷ 0 ∷ []) $ fjoin ! $ frame ! $ done !
 
-  module _ (C : Calls 𝓤 H) (Λ : Loops 𝓤 H) (fm : FmC 𝓤 H (W .laws) C) (known : Triple 𝓤 (C #response·chess-response-u8-patch) (Patch 𝓤 H A mem run)) where
+  module _ (C : Calls 𝓤 H) (Λ : Loops 𝓤 H) (fm : FmC 𝓤 H (W .laws) C) (known : Triple 𝓤 (C #view·plain·response) (Patch 𝓤 H A mem run)) where
     walk : Holds (hasTy (T′.mir (named 0)) mach) × WT mach → Is (ShrRef (named 1) κ′ (Array i32 32)) ring (ring-val ∷ []) → Is (MutSlice (named 2) κ″ f32) out (out-val ∷ [])
         → ent 𝓤 (onEntry 𝓤 H A response.signature κs qs (d, further) vals) (WpFn 𝓤 H C Λ code.function (mach ∷ ring-val ∷ vint w64 radius ∷ G′.lowered roi ∷ out-val ∷ []) Post)
     walk wt ring-is out-is =
@@ -183,7 +183,7 @@ module _ {M : Type 1} (𝓤 : URA M) (H : Heap 𝓤) (A : Atoms 𝓤) (W : Given
         by ! (exits r u (zs .1 .1 .1 .1 .1 .1 .0) e l))))))))))))))))))
 
 module _ {M : Type 1} (𝓤 : URA M) (H : Heap 𝓤) (A : Atoms 𝓤) (W : Given 𝓤 H A) (mem : Memory → SProp 𝓤) (run : Routine → Fun 𝓤) where
-  response-walks : (C : Calls 𝓤 H) (Λ : Loops 𝓤 H) → FmC 𝓤 H (W .laws) C → Triple 𝓤 (C #response·chess-response-u8-patch) (Patch 𝓤 H A mem run)
+  response-walks : (C : Calls 𝓤 H) (Λ : Loops 𝓤 H) → FmC 𝓤 H (W .laws) C → Triple 𝓤 (C #view·plain·response) (Patch 𝓤 H A mem run)
       → Walks 𝓤 H A response.ended stayed (WpFn 𝓤 H C Λ code.function) (response.clauses 𝓤 H A mem run)
   response-walks C Λ fm known = walked 𝓤 H A response.ended stayed (response.clauses 𝓤 H A mem run) (WpFn 𝓤 H C Λ code.function)
       (λ κs. (LL.vals (T.the-type (namedLft 3 0 tt κs)) (T′.the-laws (namedLft 3 0 tt κs)), (ptr-vals, (uint-vals w64, (LL.vals G.the-type G′.the-laws, (slice-vals, tt))))))
@@ -192,7 +192,7 @@ module _ {M : Type 1} (𝓤 : URA M) (H : Heap 𝓤) (A : Atoms 𝓤) (W : Given
       (LL.lawful (T.the-type (namedLft 3 0 tt κs)) (T′.the-laws (namedLft 3 0 tt κs)) 𝓤 H A W .typed (a .0) _ (are .0) .0) (are .1 .0) (are .1 .1 .1 .1 .0)))
 
 response-meets : {M : Type 1} (𝓤 : URA M) (H : Heap 𝓤) (A : Atoms 𝓤) (W : Given 𝓤 H A) (mem : Memory → SProp 𝓤) (run : Routine → Fun 𝓤) (𝓣 : Tables 𝓤 H)
-    → Triple 𝓤 (𝓣 .C #response·chess-response-u8-patch) (Patch 𝓤 H A mem run)
+    → Triple 𝓤 (𝓣 .C #view·plain·response) (Patch 𝓤 H A mem run)
     → Meets 𝓤 H A response.signature (WpFn 𝓤 H (𝓣 .C) (𝓣 .Λ) code.function) (response.spec 𝓤 H A mem run)
 response-meets 𝓤 H A W mem run 𝓣 known = walk-meets 𝓤 H A response.ended stayed W
     (goes-none 𝓤 H A W 3 B yes (λ κs x f. refl), (goes-none-ref 𝓤 H A W 3 (1 ∷ []) tt pairs yes, (goes-none 𝓤 H A W 3 (λ _. usize) yes (λ κs x f. refl), (goes-none 𝓤 H A W 3 (λ _. G.the-row) yes (λ κs x f. refl), (goes-gave-slice 𝓤 H A W 3 2 tt (plain (λ _. f32)), tt)))))
@@ -204,4 +204,4 @@ response-spec 𝓤 H 𝓜 𝓖 𝓡 =
     entered 𝓤 H (tripleOf 𝓤 H (𝓖 .A) response.signature (response.spec 𝓤 H (𝓖 .A) (𝓜 .mem) (𝓡 .run)))
     (tables 𝓤 H 𝓜 𝓡 code.env .C) (tables 𝓤 H 𝓜 𝓡 code.env .Λ) #view·response code.function (code.unfolded 𝓤 H 𝓜 𝓡)
     (response-meets 𝓤 H (𝓖 .A) (givenOf 𝓤 H 𝓜 𝓖) (𝓜 .mem) (𝓡 .run) (tablesOf 𝓤 H 𝓜 (tables 𝓤 H 𝓜 𝓡 code.env))
-    (cited 𝓤 H (Patch 𝓤 H (𝓖 .A) (𝓜 .mem) (𝓡 .run)) 𝓜 𝓡 code.env #response·chess-response-u8-patch patch-def.routine code.calls-response·chess-response-u8-patch (patch-thm.met 𝓤 H 𝓜 𝓖 𝓡)))
+    (cited 𝓤 H (Patch 𝓤 H (𝓖 .A) (𝓜 .mem) (𝓡 .run)) 𝓜 𝓡 code.env #view·plain·response patch-def.routine code.calls-view·plain·response (patch-thm.met 𝓤 H 𝓜 𝓖 𝓡)))

@@ -8,15 +8,15 @@ use Rattle.detect.proofs.list.refine_all.Statement.{statement}
 use Rattle.detect.proofs.list.refine_all.Tie as tie
 
 abbrev Inv-loop : tie.InvT-loop
-Inv-loop img width height cfg columns corners out₀ n written₀ i₀ out written i = Going (imageOf img width height) cfg corners out₀ i written out × (i ≤ n)
+Inv-loop img sizes cfg columns corners out₀ n written₀ i₀ out written i = Going (imageOf img sizes) cfg corners out₀ i written out × (i ≤ n)
 
 abbrev μ-loop : tie.MeasureT-loop
-μ-loop img width height cfg columns corners out₀ n written₀ i₀ out written i = n - i
+μ-loop img sizes cfg columns corners out₀ n written₀ i₀ out written i = n - i
 
 loop-holds : tie.Need-loop-holds Inv-loop μ-loop
 loop-holds c =
     let a = c .before .before .before .args in
-    (begins (imageOf (a .img .now) (a .width) (a .height)) (a .cfg) (a .corners .now) (a .out .now), omega arith)
+    (begins (imageOf (a .img .now) (a .sizes)) (a .cfg) (a .corners .now) (a .out .now), omega arith)
 
 mul-spot-with : tie.Need-mul-spot-with Inv-loop μ-loop
 mul-spot-with c = omega arith
@@ -58,7 +58,7 @@ put-requires : tie.Need-put-requires Inv-loop μ-loop
 put-requires c κs =
     let a = c .before .before .before .before .before .before .before .before .before .before .args in
     let l = c .before .before .before .before .before .before .loop in
-    room (imageOf (a .img .now) (a .width) (a .height)) (a .cfg) (a .corners .now) (a .out .now) (l .i) (l .written) (l .out) (l .inv .0) (c .before .before .before .before .before .loop-test .taken) (c .before .before .before .before .before .before .before .before .before .before .pre .0)
+    room (imageOf (a .img .now) (a .sizes)) (a .cfg) (a .corners .now) (a .out .now) (l .i) (l .written) (l .out) (l .inv .0) (c .before .before .before .before .before .loop-test .taken) (c .before .before .before .before .before .before .before .before .before .before .pre .0)
 
 add-i : tie.Need-add-i Inv-loop μ-loop
 add-i c = omega arith
@@ -72,20 +72,20 @@ loop-again c =
     let l = c .before .before .before .before .before .before .before .before .before .loop in
     let p = c .before .before .put in
     let s = c .before .before .before .before .before .spot-with in
-    let img = imageOf (a .img .now) (a .width) (a .height) in
+    let img = imageOf (a .img .now) (a .sizes) in
     (goes-on img (a .cfg) (a .corners .now) (a .out .now) (l .i) (l .written) (l .out) (l .inv .0) (s .result) (spot-is img (a .cfg) (a .columns .now) (a .corners .now) (l .i) (s .result) (c .before .before .before .before .before .before .before .before .before .before .before .before .before .pre .1) (s .ensures)) (p .result) (p .last .0) (p .ensures .0) (p .ensures .1), omega arith)
 
 same-length : tie.Need-same-length Inv-loop μ-loop
 same-length c =
     let a = c .before .before .before .before .before .args in
     let l = c .before .loop in
-    as-long (imageOf (a .img .now) (a .width) (a .height)) (a .cfg) (a .corners .now) (a .out .now) (l .i) (l .written) (l .out) (l .inv .0) (omega arith)
+    as-long (imageOf (a .img .now) (a .sizes)) (a .cfg) (a .corners .now) (a .out .now) (l .i) (l .written) (l .out) (l .inv .0) (omega arith)
 
 returns : tie.Need-returns Inv-loop μ-loop
 returns c =
     let a = c .before .before .before .before .before .args in
     let l = c .before .loop in
-    ends (imageOf (a .img .now) (a .width) (a .height)) (a .cfg) (a .corners .now) (a .out .now) (l .i) (l .written) (l .out) (l .inv .0) (omega arith)
+    ends (imageOf (a .img .now) (a .sizes)) (a .cfg) (a .corners .now) (a .out .now) (l .i) (l .written) (l .out) (l .inv .0) (omega arith)
 
 pub refine-all-spec : {M : Type 1} → statement M
 refine-all-spec =

@@ -34,13 +34,13 @@ returns c = search needs
 returns-2 : tie.Need-returns-2
 returns-2 c =
     let a = c .before .before .before .before .before .before .before .before .args in
-    let img = imageOf (a .img .now) (a .width) (a .height) in
+    let img = imageOf (a .img .now) (a .sizes) in
     empty img (a .cfg) (a .corners .now) (a .out .now) (λ x y. none-singular img (a .cfg) x y false _ _ _ _ _ (c .before .before .fit-operator .ensures) (c .enum-told2 .given .1))
 
 returns-3 : tie.Need-returns-3
 returns-3 c =
     let a = c .before .before .before .before .before .before .before .before .args in
-    let img = imageOf (a .img .now) (a .width) (a .height) in
+    let img = imageOf (a .img .now) (a .sizes) in
     empty img (a .cfg) (a .corners .now) (a .out .now) (λ x y. none-bad img (a .cfg) x y false _ _ _ _ _ (c .before .before .fit-operator .ensures) (c .enum-told3 .given .1))
 
 pub refine-list-spec : {M : Type 1} → statement M

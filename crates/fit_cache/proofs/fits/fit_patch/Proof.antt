@@ -4,21 +4,22 @@ use Prim.Native.Nat.{ℕ, _+_, _-_, _*_, _≤_, _<_}
 use native.Mathlib.Nat.{le-trans}
 use native.Mathlib.Omega.{arith}
 use lib.ListN.{length}
-use lib.Ieee.{ofBits}
+use lib.IntN.{pos}
+use lib.Ieee.{ofBits, ofInt, binary32}
 use mir.Facts.{fits-le, fits-lit}
 use Rattle.imageview.specs.Image.{imageOf}
 use Rattle.fit_operator.specs.Basis as Basis
-use Rattle.fit_cache.specs.Adding.{sumsOf, Within}
-use Rattle.fit_cache.proofs.FitLaws.{sums-none, row-done, all-rows, centre-sample, row-within, centre-within, few, part-length, numbered}
+use Rattle.fit_cache.specs.Adding.{sumsOf, PatchWithin}
+use Rattle.fit_cache.proofs.FitLaws.{sums-none, row-done, all-rows, centre-sample, row-within, centre-within, part-length, numbered}
 use Rattle.fit_cache.proofs.fits.fit_patch.Statement.{statement}
 use Rattle.fit_cache.proofs.fits.fit_patch.Tie as tie
 
 abbrev Inv-loop : tie.InvT-loop
-Inv-loop img width height x y radius columns side centre sums₀ row₀ sums row =
-    (row ≤ 2 * radius + 1) × (sums ≡ sumsOf (imageOf img width height) columns radius x y (row * Basis.side radius))
+Inv-loop img sizes x y radius columns side centre sums₀ row₀ sums row =
+    (row ≤ 2 * radius + 1) × (sums ≡ sumsOf (imageOf img sizes) columns radius x y (row * Basis.side radius))
 
 abbrev μ-loop : tie.MeasureT-loop
-μ-loop img width height x y radius columns side centre sums₀ row₀ sums row = side - row
+μ-loop img sizes x y radius columns side centre sums₀ row₀ sums row = side - row
 
 mul-side : tie.Need-mul-side Inv-loop μ-loop
 mul-side c = omega arith
@@ -26,22 +27,10 @@ mul-side c = omega arith
 add-side : tie.Need-add-side Inv-loop μ-loop
 add-side c = omega arith
 
-mul-centre : tie.Need-mul-centre Inv-loop μ-loop
-mul-centre c =
+sample-requires : tie.Need-sample-requires Inv-loop μ-loop
+sample-requires c κs =
     let a = c .before .args in
-    let img = imageOf (a .img .now) (a .width) (a .height) in
-    omega (arith, centre-within img (a .radius) (a .x) (a .y) (c .before .pre), few img (a .radius) (a .x) (a .y) (c .before .pre))
-
-add-centre : tie.Need-add-centre Inv-loop μ-loop
-add-centre c =
-    let a = c .before .args in
-    let img = imageOf (a .img .now) (a .width) (a .height) in
-    omega (arith, centre-within img (a .radius) (a .x) (a .y) (c .before .pre), few img (a .radius) (a .x) (a .y) (c .before .pre))
-
-shared-slice-read-centre : tie.Need-shared-slice-read-centre Inv-loop μ-loop
-shared-slice-read-centre c =
-    let a = c .before .before .args in
-    centre-within (imageOf (a .img .now) (a .width) (a .height)) (a .radius) (a .x) (a .y) (c .before .before .pre)
+    centre-within (imageOf (a .img .now) (a .sizes)) (a .radius) (a .x) (a .y) (c .before .pre)
 
 int-to-float-centre : tie.Need-int-to-float-centre Inv-loop μ-loop
 int-to-float-centre c = tt
@@ -50,7 +39,7 @@ loop-holds : tie.Need-loop-holds Inv-loop μ-loop
 unfolding ofBits
 loop-holds c =
     let a = c .before .before .before .args in
-    (omega arith, sums-none (imageOf (a .img .now) (a .width) (a .height)) (a .columns .now) (a .radius) (a .x) (a .y))
+    (omega arith, sums-none (imageOf (a .img .now) (a .sizes)) (a .columns .now) (a .radius) (a .x) (a .y))
 
 sub-patch-row : tie.Need-sub-patch-row Inv-loop μ-loop
 sub-patch-row c = c .before .before .before .before .before .pre .left
@@ -65,7 +54,7 @@ patch-row-requires : tie.Need-patch-row-requires Inv-loop μ-loop
 patch-row-requires c κs =
     let s = c .before .before .before .before .before in
     let a = s .args in
-    row-within (imageOf (a .img .now) (a .width) (a .height)) (a .radius) (a .x) (a .y) (c .before .loop .row) (s .pre) (c .loop-test .taken)
+    row-within (imageOf (a .img .now) (a .sizes)) (a .radius) (a .x) (a .y) (c .before .loop .row) (s .pre) (c .loop-test .taken)
 
 mul-add-row : tie.Need-mul-add-row Inv-loop μ-loop
 mul-add-row c =
@@ -77,8 +66,8 @@ whole : (c : tie.After-patch-row Inv-loop μ-loop) → length (c .patch-row .res
 whole c =
     let s = c .before .before .before .before .before .before in
     let a = s .args in
-    let img = imageOf (a .img .now) (a .width) (a .height) in
-    part-length img ((a .y - a .radius + c .before .before .loop .row) * a .width + (a .x - a .radius)) (Basis.side (a .radius)) (c .patch-row .result .now) (row-within img (a .radius) (a .x) (a .y) (c .before .before .loop .row) (s .pre) (c .before .loop-test .taken)) (c .patch-row .ensures)
+    let img = imageOf (a .img .now) (a .sizes) in
+    part-length img ((a .y - a .radius + c .before .before .loop .row) * a .sizes .width + (a .x - a .radius)) (Basis.side (a .radius)) (c .patch-row .result .now) (row-within img (a .radius) (a .x) (a .y) (c .before .before .loop .row) (s .pre) (c .before .loop-test .taken)) (c .patch-row .ensures)
 
 add-row-requires : tie.Need-add-row-requires Inv-loop μ-loop
 add-row-requires c κs =
@@ -97,15 +86,15 @@ loop-again c =
     let s = c .before .before .before .before .before .before .before in
     let a = s .args in
     let l = c .before .before .before .loop in
-    let img = imageOf (a .img .now) (a .width) (a .height) in
-    (omega arith, row-done img (a .columns .now) (a .radius) (a .x) (a .y) (l .row) (c .before .patch-row .result .now) _ (l .sums) (c .add-row .result) (l .inv .1) (c .before .patch-row .ensures) (whole (c .before)) (centre-sample img (a .radius) (a .x) (a .y) (s .pre .left) (s .pre .above)) (c .add-row .ensures))
+    let img = imageOf (a .img .now) (a .sizes) in
+    (omega arith, row-done img (a .columns .now) (a .radius) (a .x) (a .y) (l .row) (c .before .patch-row .result .now) _ (l .sums) (c .add-row .result) (l .inv .1) (c .before .patch-row .ensures) (whole (c .before)) (ap (λ (v : ℕ). ofInt binary32 (pos v)) (c .before .before .before .before .before .sample .ensures) ∙ centre-sample img (a .radius) (a .x) (a .y) (s .pre .left) (s .pre .above)) (c .add-row .ensures))
 
 returns : tie.Need-returns Inv-loop μ-loop
 returns c =
     let s = c .before .before .before .before .before in
     let a = s .args in
     let l = c .before .loop in
-    all-rows (imageOf (a .img .now) (a .width) (a .height)) (a .columns .now) (a .radius) (a .x) (a .y) (l .row) (l .sums) (let e : l .row ≡ 2 * a .radius + 1 = omega arith in e) (l .inv .1)
+    all-rows (imageOf (a .img .now) (a .sizes)) (a .columns .now) (a .radius) (a .x) (a .y) (l .row) (l .sums) (let e : l .row ≡ 2 * a .radius + 1 = omega arith in e) (l .inv .1)
 
 pub fit-patch-spec : {M : Type 1} → statement M
 fit-patch-spec =
@@ -115,9 +104,7 @@ fit-patch-spec =
     μ-loop
     mul-side
     add-side
-    mul-centre
-    add-centre
-    shared-slice-read-centre
+    sample-requires
     int-to-float-centre
     loop-holds
     sub-patch-row

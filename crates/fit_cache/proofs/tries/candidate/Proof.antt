@@ -34,13 +34,13 @@ returns : tie.Need-returns
 returns c =
     let s = c .before .before .before .before .before .before .before .before in
     let a = s .args in
-    weighed-up (imageOf (a .img .now) (a .width) (a .height)) (a .columns .now) (a .cfg) (a .seed) (a .f) (a .ox) (a .oy) (s .pre .0) (c .before .before .before .before .before .before .window-at .result) (c .before .before .before .before .before .about .result) (c .before .before .before .before .before .before .window-at .ensures) (c .before .before .before .before .before .about .ensures) (c .before .weigh .result) (c .before .before .before .if1 .taken) (c .before .weigh .ensures)
+    weighed-up (imageOf (a .img .now) (a .sizes)) (a .columns .now) (a .cfg) (a .seed) (a .f) (a .ox) (a .oy) (s .pre .0) (c .before .before .before .before .before .before .window-at .result) (c .before .before .before .before .before .about .result) (c .before .before .before .before .before .before .window-at .ensures) (c .before .before .before .before .before .about .ensures) (c .before .weigh .result) (c .before .before .before .if1 .taken) (c .before .weigh .ensures)
 
 returns-2 : tie.Need-returns-2
 returns-2 c =
     let s = c .before .before .before .before .before in
     let a = s .args in
-    passed-by (imageOf (a .img .now) (a .width) (a .height)) (a .columns .now) (a .cfg) (a .seed) (a .f) (a .ox) (a .oy) (s .pre .0) (c .before .before .before .window-at .result) (c .before .before .about .result) (c .before .before .before .window-at .ensures) (c .before .before .about .ensures) (c .if1 .left)
+    passed-by (imageOf (a .img .now) (a .sizes)) (a .columns .now) (a .cfg) (a .seed) (a .f) (a .ox) (a .oy) (s .pre .0) (c .before .before .before .window-at .result) (c .before .before .about .result) (c .before .before .before .window-at .ensures) (c .before .before .about .ensures) (c .if1 .left)
 
 pub candidate-spec : {M : Type 1} → statement M
 candidate-spec =

@@ -2,6 +2,7 @@
 use Prim.Native.Nat.{_+_}
 use lib.ListN.{length}
 use Rattle.shapes.specs.Numbers.{plusZero}
+use Rattle.imageview.specs.Image.{imageOf}
 use Rattle.response.specs.Frame.{shiftedAt}
 use Rattle.response.proofs.PassLaws.{wrote-cong}
 use Rattle.response.proofs.RegionLaws.{row-above, row-below, row-narrow, row-is, startable, started-all}
@@ -18,8 +19,8 @@ same-length c = search needs
 returns : tie.Need-returns
 returns c =
     let a = c .before .before .before .before .before .before .before .args in
-    wrote-cong plusZero (length (a .out .now)) 0 _ (λ i. shiftedAt (record { samples = a .img .now; width = a .width; height = a .height }) (a .offsets .now) (a .radius) (a .x0 + i) (a .y)) (a .out .now) (c .before .before .fill .last .0)
-    (λ i h. row-above (record { samples = a .img .now; width = a .width; height = a .height }) (a .offsets .now) (a .radius) (a .x0) (a .y) (c .before .before .before .before .if1 .taken) i) (c .before .before .fill .ensures)
+    wrote-cong plusZero (length (a .out .now)) 0 _ (λ i. shiftedAt (imageOf (a .img .now) (a .sizes)) (a .offsets .now) (a .radius) (a .x0 + i) (a .y)) (a .out .now) (c .before .before .fill .last .0)
+    (λ i h. row-above (imageOf (a .img .now) (a .sizes)) (a .offsets .now) (a .radius) (a .x0) (a .y) (c .before .before .before .before .if1 .taken) i) (c .before .before .fill .ensures)
 
 add-if2 : tie.Need-add-if2
 add-if2 c = search needs
@@ -32,9 +33,9 @@ same-length-2 c = search needs
 
 returns-2 : tie.Need-returns-2
 returns-2 c =
-    let a = c .before .before .before .before .before .before .before .before .args in
-    wrote-cong plusZero (length (a .out .now)) 0 _ (λ i. shiftedAt (record { samples = a .img .now; width = a .width; height = a .height }) (a .offsets .now) (a .radius) (a .x0 + i) (a .y)) (a .out .now) (c .before .before .fill2 .last .0)
-    (λ i h. row-below (record { samples = a .img .now; width = a .width; height = a .height }) (a .offsets .now) (a .radius) (a .x0) (a .y) (c .before .before .before .before .if2 .taken) i) (c .before .before .fill2 .ensures)
+    let a = c .before .before .before .before .before .before .before .before .before .args in
+    wrote-cong plusZero (length (a .out .now)) 0 _ (λ i. shiftedAt (imageOf (a .img .now) (a .sizes)) (a .offsets .now) (a .radius) (a .x0 + i) (a .y)) (a .out .now) (c .before .before .fill2 .last .0)
+    (λ i h. row-below (imageOf (a .img .now) (a .sizes)) (a .offsets .now) (a .radius) (a .x0) (a .y) (c .before .before .before .before .if2 .taken) i) (c .before .before .fill2 .ensures)
 
 fill-requires-3 : tie.Need-fill-requires-3
 fill-requires-3 c κs = search needs
@@ -44,27 +45,27 @@ same-length-3 c = search needs
 
 returns-3 : tie.Need-returns-3
 returns-3 c =
-    let a = c .before .before .before .before .before .before .before .before .before .args in
-    wrote-cong plusZero (length (a .out .now)) 0 _ (λ i. shiftedAt (record { samples = a .img .now; width = a .width; height = a .height }) (a .offsets .now) (a .radius) (a .x0 + i) (a .y)) (a .out .now) (c .before .before .fill3 .last .0)
-    (row-narrow (record { samples = a .img .now; width = a .width; height = a .height }) (a .offsets .now) (a .radius) (a .x0) (a .y) (length (a .out .now)) (a .from) (a .to) (c .before .before .before .before .before .before .before .before .before .pre .1 .0) (c .before .before .before .before .before .before .before .before .before .pre .1 .1 .0) (c .before .before .before .before .if3 .taken)) (c .before .before .fill3 .ensures)
+    let a = c .before .before .before .before .before .before .before .before .before .before .args in
+    wrote-cong plusZero (length (a .out .now)) 0 _ (λ i. shiftedAt (imageOf (a .img .now) (a .sizes)) (a .offsets .now) (a .radius) (a .x0 + i) (a .y)) (a .out .now) (c .before .before .fill3 .last .0)
+    (row-narrow (imageOf (a .img .now) (a .sizes)) (a .offsets .now) (a .radius) (a .x0) (a .y) (length (a .out .now)) (a .from) (a .to) (c .before .before .before .before .before .before .before .before .before .before .pre .1 .0) (c .before .before .before .before .before .before .before .before .before .before .pre .1 .1 .0) (c .before .before .before .before .if3 .taken)) (c .before .before .fill3 .ensures)
 
 row-inside-requires : tie.Need-row-inside-requires
 row-inside-requires c κs =
-    let a = c .before .before .before .before .before .before .args in
-    let g = c .before .before .before .before .before .before .pre .0 in
-    let f = c .before .before .before .before .before .before .pre .1 .0 in
-    let t = c .before .before .before .before .before .before .pre .1 .1 .0 in
-    let s = startable (record { samples = a .img .now; width = a .width; height = a .height }) (a .offsets .now) (a .radius) (a .x0) (a .y) (length (a .out .now)) (a .from) (a .to) f t g (c .before .before .before .if1 .left) (c .before .before .if2 .left) (c .before .if3 .left) in
-    ((c .before .if3 .left, t .most, s .x-most), (s, started-all (record { samples = a .img .now; width = a .width; height = a .height }) (a .offsets .now) (a .radius) (a .x0) (a .y) (length (a .out .now)) (a .from) (a .to) f t g (c .before .before .before .if1 .left) (c .before .before .if2 .left) (c .before .if3 .left)))
+    let a = c .before .before .before .before .before .before .before .args in
+    let g = c .before .before .before .before .before .before .before .pre .0 in
+    let f = c .before .before .before .before .before .before .before .pre .1 .0 in
+    let t = c .before .before .before .before .before .before .before .pre .1 .1 .0 in
+    let s = startable (imageOf (a .img .now) (a .sizes)) (a .offsets .now) (a .radius) (a .x0) (a .y) (length (a .out .now)) (a .from) (a .to) f t g (c .before .before .before .before .if1 .left) (c .before .before .if2 .left) (c .before .if3 .left) in
+    ((c .before .if3 .left, t .most, s .x-most), (s, started-all (imageOf (a .img .now) (a .sizes)) (a .offsets .now) (a .radius) (a .x0) (a .y) (length (a .out .now)) (a .from) (a .to) f t g (c .before .before .before .before .if1 .left) (c .before .before .if2 .left) (c .before .if3 .left)))
 
 same-length-4 : tie.Need-same-length-4
 same-length-4 c = search needs
 
 returns-4 : tie.Need-returns-4
 returns-4 c =
-    let a = c .before .before .before .before .before .before .before .before .before .args in
-    wrote-cong plusZero (length (a .out .now)) 0 _ (λ i. shiftedAt (record { samples = a .img .now; width = a .width; height = a .height }) (a .offsets .now) (a .radius) (a .x0 + i) (a .y)) (a .out .now) (c .before .before .row-inside .last .1 .1 .1 .1 .1 .1 .1 .0)
-    (row-is (record { samples = a .img .now; width = a .width; height = a .height }) (a .offsets .now) (a .radius) (a .x0) (a .y) (length (a .out .now)) (a .from) (a .to) (c .before .before .before .before .before .before .before .before .before .pre .1 .0) (c .before .before .before .before .before .before .before .before .before .pre .1 .1 .0) (c .before .before .before .before .before .before .if1 .left) (c .before .before .before .before .before .if2 .left)) (c .before .before .row-inside .ensures)
+    let a = c .before .before .before .before .before .before .before .before .before .before .args in
+    wrote-cong plusZero (length (a .out .now)) 0 _ (λ i. shiftedAt (imageOf (a .img .now) (a .sizes)) (a .offsets .now) (a .radius) (a .x0 + i) (a .y)) (a .out .now) (c .before .before .row-inside .last .1 .1 .1 .1 .1 .1 .1 .0)
+    (row-is (imageOf (a .img .now) (a .sizes)) (a .offsets .now) (a .radius) (a .x0) (a .y) (length (a .out .now)) (a .from) (a .to) (c .before .before .before .before .before .before .before .before .before .before .pre .1 .0) (c .before .before .before .before .before .before .before .before .before .before .pre .1 .1 .0) (c .before .before .before .before .before .before .before .if1 .left) (c .before .before .before .before .before .if2 .left)) (c .before .before .row-inside .ensures)
 
 pub region-row-spec : {M : Type 1} → statement M
 region-row-spec =

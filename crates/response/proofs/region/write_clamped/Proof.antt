@@ -1,6 +1,6 @@
 -- `response::region::write_clamped` meets its contract: the corners are those of the clamped region.
 use mir.Facts.{fits-le, fits-lit}
-use Rattle.imageview.specs.Image.{Image}
+use Rattle.imageview.specs.Image.{Image, imageOf}
 use Rattle.imageview.proofs.ImageLaws.{count-most}
 use Rattle.response.specs.Call.{regionOf}
 use Rattle.response.proofs.CallLaws.{Cornered, columns, lines, misfit, fit}
@@ -10,30 +10,30 @@ use Rattle.response.proofs.region.write_clamped.Statement.{statement}
 use Rattle.response.proofs.region.write_clamped.Tie as tie
 
 abbrev image : tie.After-height-of → Image
-image c = let a = c .before .before .before .before .before .before .before .before .args in record { samples = a .img .now; width = a .width; height = a .height }
+image c = let a = c .before .before .before .before .before .before .before .before .args in imageOf (a .img .now) (a .sizes)
 
-cornered : (c : tie.After-height-of) → Cornered (image c) (regionOf (c .before .before .before .before .before .before .before .before .args .roi)) (c .before .before .before .before .before .least .result) (c .before .before .before .before .least2 .result) (c .before .before .before .least3 .result) (c .before .before .least4 .result) (c .before .width-of .result) (c .height-of .result)
+cornered : (c : tie.After-height-of) → Cornered (image c) (regionOf (c .before .before .before .before .before .before .before .before .args .roi)) (c .before .before .before .before .before .lesser .result) (c .before .before .before .before .lesser2 .result) (c .before .before .before .lesser3 .result) (c .before .before .lesser4 .result) (c .before .width-of .result) (c .height-of .result)
 cornered c =
     record {
-      left = c .before .before .before .before .before .least .ensures;
-      top = c .before .before .before .before .least2 .ensures;
-      right = c .before .before .before .least3 .ensures;
-      bottom = c .before .before .least4 .ensures;
+      left = c .before .before .before .before .before .lesser .ensures;
+      top = c .before .before .before .before .lesser2 .ensures;
+      right = c .before .before .before .lesser3 .ensures;
+      bottom = c .before .before .lesser4 .ensures;
       wide = c .before .width-of .ensures;
       high = c .height-of .ensures;
     }
 
-least-requires : tie.Need-least-requires
-least-requires c κs = search needs
+lesser-requires : tie.Need-lesser-requires
+lesser-requires c κs = search needs
 
-least-requires-2 : tie.Need-least-requires-2
-least-requires-2 c κs = search needs
+lesser-requires-2 : tie.Need-lesser-requires-2
+lesser-requires-2 c κs = search needs
 
-least-requires-3 : tie.Need-least-requires-3
-least-requires-3 c κs = search needs
+lesser-requires-3 : tie.Need-lesser-requires-3
+lesser-requires-3 c κs = search needs
 
-least-requires-4 : tie.Need-least-requires-4
-least-requires-4 c κs = search needs
+lesser-requires-4 : tie.Need-lesser-requires-4
+lesser-requires-4 c κs = search needs
 
 width-of-requires : tie.Need-width-of-requires
 width-of-requires c κs = search needs
@@ -44,7 +44,7 @@ height-of-requires c κs = search needs
 mul-size : tie.Need-mul-size
 mul-size c =
     let g = c .before .before .before .before .before .before .before .before .pre in
-    fits-le (count-most (c .before .width-of .result) (c .height-of .result) (omega (arith, columns (cornered c), g .width-most)) (omega (arith, lines (cornered c), g .height-most))) (fits-lit tt)
+    fits-le (count-most (c .before .width-of .result) (c .height-of .result) (omega (arith, columns (cornered c), g .image .sized .width-most)) (omega (arith, lines (cornered c), g .image .sized .height-most))) (fits-lit tt)
 
 returns : tie.Need-returns
 returns c =
@@ -55,7 +55,7 @@ write-region-requires : tie.Need-write-region-requires
 write-region-requires c κs =
     let g = c .before .before .before .before .before .before .before .before .before .before .pre in
     let k = cornered (c .before .before) in (
-      record { width-most = g .width-most; height-most = g .height-most; count = g .count; radius-most = g .radius-most; around = g .around; right = columns k },
+      record { image = g .image; radius-most = g .radius-most; around = g .around; right = columns k },
       (lines k, c .before .if1 .left),
     )
 
@@ -65,16 +65,16 @@ same-length c = search needs
 returns-2 : tie.Need-returns-2
 returns-2 c =
     let a = c .before .before .before .before .before .before .before .before .before .before .before .before .before .args in
-    fit (cornered (c .before .before .before .before .before)) (a .offsets .now) (a .radius) (a .out .now) (c .before .before .write-region .last .1 .1 .1 .1 .1 .1 .1 .1 .1 .0) (c .before .before .before .before .if1 .left) (c .before .before .write-region .ensures)
+    fit (cornered (c .before .before .before .before .before)) (a .offsets .now) (a .radius) (a .out .now) (c .before .before .write-region .last .1 .1 .1 .1 .1 .1 .1 .1 .0) (c .before .before .before .before .if1 .left) (c .before .before .write-region .ensures)
 
 pub write-clamped-spec : {M : Type 1} → statement M
 write-clamped-spec =
     tie.close
     (tie.spec
-    least-requires
-    least-requires-2
-    least-requires-3
-    least-requires-4
+    lesser-requires
+    lesser-requires-2
+    lesser-requires-3
+    lesser-requires-4
     width-of-requires
     height-of-requires
     mul-size

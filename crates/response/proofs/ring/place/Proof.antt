@@ -10,7 +10,7 @@ mul-result : tie.Need-mul-result
 mul-result c = fits-le (mul-le-mul (c .pre .2) (c .pre .0)) (fits-lit tt)
 
 add-result : tie.Need-add-result
-add-result c = fits-le (place-most (c .args .width) (c .args .x) (c .args .y) (c .pre .0) (c .pre .1) (c .pre .2)) (fits-lit tt)
+add-result c = fits-le (place-most (c .args .stride) (c .args .x) (c .args .y) (c .pre .0) (c .pre .1) (c .pre .2)) (fits-lit tt)
 
 returns : tie.Need-returns
 returns c = search needs

@@ -22,7 +22,7 @@ returns c =
     let a = s .args in
     let x = c .before .before .before .before .before .before .along-x in
     let y = c .before .before .before .before .before .along-y in
-    with-slope (imageOf (a .img .now) (a .width) (a .height)) (a .columns .now) (a .overlap .now) (a .cfg) (a .seed) (a .first) (a .wanted) (x .result) (y .result) (x .ensures) (y .ensures) (s .pre .1 .1) (c .closed .result) (c .before .before .before .before .if1 .taken) (c .before .before .before .if2 .taken) (c .closed .ensures)
+    with-slope (imageOf (a .img .now) (a .sizes)) (a .columns .now) (a .overlap .now) (a .cfg) (a .seed) (a .first) (a .wanted) (x .result) (y .result) (x .ensures) (y .ensures) (s .pre .1 .1) (c .closed .result) (c .before .before .before .before .if1 .taken) (c .before .before .before .if2 .taken) (c .closed .ensures)
 
 estimate-at-requires : tie.Need-estimate-at-requires
 estimate-at-requires c κs = search needs
@@ -34,7 +34,7 @@ returns-2 c =
     let a = s .args in
     let x = c .before .before .before .before .along-x in
     let y = c .before .before .before .along-y in
-    no-slope-y (imageOf (a .img .now) (a .width) (a .height)) (a .columns .now) (a .overlap .now) (a .cfg) (a .seed) (a .first) (a .wanted) (x .result) (y .result) (x .ensures) (y .ensures) (s .pre .1 .1) (c .estimate-at .result) (c .before .before .if1 .taken) (c .before .if2 .left) (c .estimate-at .ensures)
+    no-slope-y (imageOf (a .img .now) (a .sizes)) (a .columns .now) (a .overlap .now) (a .cfg) (a .seed) (a .first) (a .wanted) (x .result) (y .result) (x .ensures) (y .ensures) (s .pre .1 .1) (c .estimate-at .result) (c .before .before .if1 .taken) (c .before .if2 .left) (c .estimate-at .ensures)
 
 estimate-at-requires-2 : tie.Need-estimate-at-requires-2
 estimate-at-requires-2 c κs = search needs
@@ -46,7 +46,7 @@ returns-3 c =
     let a = s .args in
     let x = c .before .before .before .along-x in
     let y = c .before .before .along-y in
-    no-slope-x (imageOf (a .img .now) (a .width) (a .height)) (a .columns .now) (a .overlap .now) (a .cfg) (a .seed) (a .first) (a .wanted) (x .result) (y .result) (x .ensures) (y .ensures) (s .pre .1 .1) (c .estimate-at2 .result) (c .before .if1 .left) (c .estimate-at2 .ensures)
+    no-slope-x (imageOf (a .img .now) (a .sizes)) (a .columns .now) (a .overlap .now) (a .cfg) (a .seed) (a .first) (a .wanted) (x .result) (y .result) (x .ensures) (y .ensures) (s .pre .1 .1) (c .estimate-at2 .result) (c .before .if1 .left) (c .estimate-at2 .ensures)
 
 pub at-centre-spec : {M : Type 1} → statement M
 at-centre-spec =

@@ -1,6 +1,6 @@
 -- `saddle_point::closing::estimate` meets its contract: settled at the start, settled at a window, or not.
 use borrow.Author.Needs.{needs}
-use mathlib.Core.Path.{_≡_, sym, _∙_}
+use mathlib.Core.Path.{_≡_, refl, sym, _∙_}
 use mathlib.Core.Bool.{true, false}
 use Prim.Native.Nat.{_<_}
 use Rattle.imageview.specs.Image.{imageOf}
@@ -24,16 +24,13 @@ run-requires c κs =
     let s = c .before .before .before in
     (s .pre .0 .sound, ((column (s .pre .0), row (s .pre .0)), sym (c .before .settled .ensures) ∙ c .if1 .left))
 
-slope-within-requires : tie.Need-slope-within-requires
-slope-within-requires c κs = search needs
-
-closed-requires : tie.Need-closed-requires
-closed-requires c κs = (column (c .before .before .before .before .before .before .before .before .pre .0), row (c .before .before .before .before .before .before .before .before .pre .0))
+at-window-requires : tie.Need-at-window-requires
+at-window-requires c κs = (column (c .before .before .before .before .before .pre .0), row (c .before .before .before .before .before .pre .0))
 
 returns-2 : tie.Need-returns-2
 returns-2 c =
-    let a = c .before .before .before .before .before .before .before .before .before .args in
-    ends-closed (imageOf (a .img .now) (a .width) (a .height)) (a .columns .now) (a .overlap .now) (a .cfg) (a .seed) (a .first) (a .wanted) (c .before .before .before .before .before .run .result) (c .before .before .before .before .before .run .ensures) (c .closed .result) (c .before .slope-within .result) (c .before .before .before .before .if2 .taken) (c .before .slope-within .ensures) (c .closed .ensures)
+    let a = c .before .before .before .before .before .before .args in
+    ends-closed (imageOf (a .img .now) (a .sizes)) (a .columns .now) (a .overlap .now) (a .cfg) (a .seed) (a .first) (a .wanted) (c .before .before .run .result) (c .before .before .run .ensures) (c .at-window .result) _ (c .before .if2 .taken) refl (c .at-window .ensures)
 
 single-at-requires : tie.Need-single-at-requires
 single-at-requires c κs = (column (c .before .before .before .before .before .pre .0), row (c .before .before .before .before .before .pre .0))
@@ -41,7 +38,7 @@ single-at-requires c κs = (column (c .before .before .before .before .before .p
 returns-3 : tie.Need-returns-3
 returns-3 c =
     let a = c .before .before .before .before .before .before .args in
-    ends-first (imageOf (a .img .now) (a .width) (a .height)) (a .columns .now) (a .overlap .now) (a .cfg) (a .seed) (a .first) (a .wanted) (c .before .before .run .result) (c .before .before .run .ensures) (c .single-at .result) (c .before .if2 .left) (c .single-at .ensures)
+    ends-first (imageOf (a .img .now) (a .sizes)) (a .columns .now) (a .overlap .now) (a .cfg) (a .seed) (a .first) (a .wanted) (c .before .before .run .result) (c .before .before .run .ensures) (c .single-at .result) (c .before .if2 .left) (c .single-at .ensures)
 
 pub estimate-spec : {M : Type 1} → statement M
 estimate-spec =
@@ -51,8 +48,7 @@ estimate-spec =
     at-centre-requires
     returns
     run-requires
-    slope-within-requires
-    closed-requires
+    at-window-requires
     returns-2
     single-at-requires
     returns-3)

@@ -27,18 +27,18 @@ returns c =
     let a = c .before .before .before .before .before .before .before .before .before .args in
     let f = c .before .before .before .before .before .fit-operator in
     c .refine-seed .ensures
-    ∙ fresh-built (imageOf (a .img .now) (a .width) (a .height)) (a .cfg) (a .seed) (a .wanted) _ _ _ _ _ (f .ensures) (c .before .before .before .enum-told .given .1)
+    ∙ fresh-built (imageOf (a .img .now) (a .sizes)) (a .cfg) (a .seed) (a .wanted) _ _ _ _ _ (f .ensures) (c .before .before .before .enum-told .given .1)
 
 returns-2 : tie.Need-returns-2
 unfolding ofBits
 returns-2 c =
     let a = c .before .before .before .before .before .before .args in
-    fresh-singular (imageOf (a .img .now) (a .width) (a .height)) (a .cfg) (a .seed) (a .wanted) _ _ _ _ _ (c .before .before .fit-operator .ensures) (c .enum-told2 .given .1)
+    fresh-singular (imageOf (a .img .now) (a .sizes)) (a .cfg) (a .seed) (a .wanted) _ _ _ _ _ (c .before .before .fit-operator .ensures) (c .enum-told2 .given .1)
 
 returns-3 : tie.Need-returns-3
 returns-3 c =
     let a = c .before .before .before .before .before .before .args in
-    fresh-bad (imageOf (a .img .now) (a .width) (a .height)) (a .cfg) (a .seed) (a .wanted) _ _ _ _ _ (c .before .before .fit-operator .ensures) (c .enum-told3 .given .1)
+    fresh-bad (imageOf (a .img .now) (a .sizes)) (a .cfg) (a .seed) (a .wanted) _ _ _ _ _ (c .before .before .fit-operator .ensures) (c .enum-told3 .given .1)
 
 pub refine-fresh-spec : {M : Type 1} → statement M
 refine-fresh-spec = tie.close (tie.spec fit-operator-requires enum-told refine-seed-requires enum-told-2 enum-told-3 returns returns-2 returns-3)

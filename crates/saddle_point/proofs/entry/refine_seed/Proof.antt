@@ -28,21 +28,21 @@ returns c =
     let a = c .before .before .before .before .before .before .before .before .before .args in
     let fit = c .before .before .before .before .before .before .before .fit-patch in
     let solved = c .before .before .before .before .before .before .solve in
-    seed-accepted (imageOf (a .img .now) (a .width) (a .height)) (a .columns .now) (a .overlap .now) (a .cfg) (a .seed) (a .wanted) (fit .result) _ (solved .result) (fit .ensures) (solved .ensures) (c .before .before .before .before .solved2 .given .0 .0) (c .before .before .near-seed .result) (c .estimate .result) (c .before .before .before .before .solved2 .given .1) (c .before .before .near-seed .ensures) (c .before .if1 .taken) (c .estimate .ensures)
+    seed-accepted (imageOf (a .img .now) (a .sizes)) (a .columns .now) (a .overlap .now) (a .cfg) (a .seed) (a .wanted) (fit .result) _ (solved .result) (fit .ensures) (solved .ensures) (c .before .before .before .before .solved2 .given .0 .0) (c .before .before .near-seed .result) (c .estimate .result) (c .before .before .before .before .solved2 .given .1) (c .before .before .near-seed .ensures) (c .before .if1 .taken) (c .estimate .ensures)
 
 returns-2 : tie.Need-returns-2
 returns-2 c =
     let a = c .before .before .before .before .before .before .args in
     let fit = c .before .before .before .before .fit-patch in
     let solved = c .before .before .before .solve in
-    seed-refused (imageOf (a .img .now) (a .width) (a .height)) (a .columns .now) (a .overlap .now) (a .cfg) (a .seed) (a .wanted) (fit .result) _ (solved .result) (fit .ensures) (solved .ensures) (c .before .solved .given .0 .0) (c .before .solved .given .1)
+    seed-refused (imageOf (a .img .now) (a .sizes)) (a .columns .now) (a .overlap .now) (a .cfg) (a .seed) (a .wanted) (fit .result) _ (solved .result) (fit .ensures) (solved .ensures) (c .before .solved .given .0 .0) (c .before .solved .given .1)
 
 returns-3 : tie.Need-returns-3
 returns-3 c =
     let a = c .before .before .before .before .before .before .before .before .args in
     let fit = c .before .before .before .before .before .before .fit-patch in
     let solved = c .before .before .before .before .before .solve in
-    seed-rejected (imageOf (a .img .now) (a .width) (a .height)) (a .columns .now) (a .overlap .now) (a .cfg) (a .seed) (a .wanted) (fit .result) _ (solved .result) (fit .ensures) (solved .ensures) (c .before .before .before .solved2 .given .0 .0) (c .before .near-seed .result) (c .before .before .before .solved2 .given .1) (c .before .near-seed .ensures) (c .if1 .left)
+    seed-rejected (imageOf (a .img .now) (a .sizes)) (a .columns .now) (a .overlap .now) (a .cfg) (a .seed) (a .wanted) (fit .result) _ (solved .result) (fit .ensures) (solved .ensures) (c .before .before .before .solved2 .given .0 .0) (c .before .near-seed .result) (c .before .before .before .solved2 .given .1) (c .before .near-seed .ensures) (c .if1 .left)
 
 pub refine-seed-spec : {M : Type 1} → statement M
 refine-seed-spec =

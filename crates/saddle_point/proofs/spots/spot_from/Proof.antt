@@ -18,7 +18,7 @@ returns : tie.Need-returns
 unfolding ofBits
 returns c =
     let a = c .before .before .before .before .args in
-    comes-settled (imageOf (a .img .now) (a .width) (a .height)) (a .columns .now) (a .cfg) (a .seed) (a .first) _ (sym (c .before .before .settled .ensures) ∙ c .before .if1 .taken) (c .spot-at .ensures)
+    comes-settled (imageOf (a .img .now) (a .sizes)) (a .columns .now) (a .cfg) (a .seed) (a .first) _ (sym (c .before .before .settled .ensures) ∙ c .before .if1 .taken) (c .spot-at .ensures)
 
 run-requires : tie.Need-run-requires
 run-requires c κs =
@@ -31,7 +31,7 @@ spot-at-requires-2 c κs = (column (c .before .before .before .before .before .b
 returns-2 : tie.Need-returns-2
 returns-2 c =
     let a = c .before .before .before .before .before .before .before .args in
-    comes-window (imageOf (a .img .now) (a .width) (a .height)) (a .columns .now) (a .cfg) (a .seed) (a .first) _ _ (c .before .before .before .run .ensures) (c .before .before .if2 .taken) (c .spot-at2 .ensures)
+    comes-window (imageOf (a .img .now) (a .sizes)) (a .columns .now) (a .cfg) (a .seed) (a .first) _ _ (c .before .before .before .run .ensures) (c .before .before .if2 .taken) (c .spot-at2 .ensures)
 
 single-spot-requires : tie.Need-single-spot-requires
 single-spot-requires c κs = (column (c .before .before .before .before .before .pre), row (c .before .before .before .before .before .pre))
@@ -39,7 +39,7 @@ single-spot-requires c κs = (column (c .before .before .before .before .before 
 returns-3 : tie.Need-returns-3
 returns-3 c =
     let a = c .before .before .before .before .before .before .args in
-    comes-first (imageOf (a .img .now) (a .width) (a .height)) (a .columns .now) (a .cfg) (a .seed) (a .first) _ _ (c .before .before .run .ensures) (c .before .if2 .left) (c .single-spot .ensures)
+    comes-first (imageOf (a .img .now) (a .sizes)) (a .columns .now) (a .cfg) (a .seed) (a .first) _ _ (c .before .before .run .ensures) (c .before .if2 .left) (c .single-spot .ensures)
 
 pub spot-from-spec : {M : Type 1} → statement M
 spot-from-spec = tie.close (tie.spec settled-requires spot-at-requires returns run-requires spot-at-requires-2 returns-2 single-spot-requires returns-3)

@@ -1,0 +1,16 @@
+-- The number of each refusal; docs/RULES.md says when each is given.
+use Prim.Native.Nat.{ℕ}
+use Rattle.refusals.specs.declared.Refusal.{Refusal}
+use Rattle.refusals.specs.declared.Refusal.the-variants.{BadImage, BadRadius, BadLimit, BadRing, EmptyRoi, BadOut, TooMany, GridTooBig, BadScratch, BadLength}
+
+abbrev pub numberOf : Refusal → ℕ
+numberOf BadImage = 10
+numberOf BadRadius = 11
+numberOf BadLimit = 12
+numberOf BadRing = 13
+numberOf EmptyRoi = 14
+numberOf BadOut = 15
+numberOf TooMany = 16
+numberOf GridTooBig = 17
+numberOf BadScratch = 18
+numberOf BadLength = 19

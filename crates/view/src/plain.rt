@@ -1,0 +1,44 @@
+// What a view is taken apart for: the calls on bytes and plain numbers. The sizes are put together here, since a walk by hand would go through that too.
+use imageview::Sizes;
+use response::Response;
+use response::Roi;
+use saddle_fit::SaddlePointConfig;
+use saddle_point::Refined;
+ghost use mathlib.Core.Path.{_≡_};
+ghost use Rattle.imageview.specs.Image.{imageOf, sizesOf, isImage};
+ghost use Rattle.response.specs.Call.{Done, regionOf};
+ghost use Rattle.saddle_point.specs.Refine.{refineOf};
+
+pub fn is_image(img: &[u8], width: usize, height: usize) -> bool
+    ensures { λ r. ⌜ r ≡ isImage (imageOf (now (img .entry)) (sizesOf width height)) ⌝ }
+{
+    imageview::is_image(img, Sizes { width, height })
+}
+
+pub fn response(
+    img: &[u8],
+    width: usize,
+    height: usize,
+    ring: &[i32; 32],
+    radius: usize,
+    roi: Roi,
+    out: &mut [f32],
+) -> Response
+    ensures { λ r. ⌜ Done (imageOf (now (img .entry)) (sizesOf width height)) (now (ring .entry)) radius (regionOf roi) (now (out .entry)) r (now (out .exit)) ⌝ }
+{
+    response::chess_response_u8_patch(img, Sizes { width, height }, ring, radius, roi, out)
+}
+
+pub fn refine(
+    img: &[u8],
+    width: usize,
+    height: usize,
+    cfg: SaddlePointConfig,
+    x: f32,
+    y: f32,
+    wanted: bool,
+) -> Refined
+    ensures { λ r. ⌜ r ≡ refineOf (imageOf (now (img .entry)) (sizesOf width height)) cfg x y wanted ⌝ }
+{
+    saddle_point::refine(img, Sizes { width, height }, cfg, x, y, wanted)
+}
