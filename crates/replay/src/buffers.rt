@@ -1,0 +1,98 @@
+// Buffers: lent before a call with the numbers of a case or with paint, and judged after it.
+ghost use mathlib.Core.Path.{_≡_};
+ghost use Rattle.replay.specs.Buffers.{markOf, wantedOf, lentOf, standsIn, scratchOf, paintedOf, scratchStands, countsAs};
+
+// The paint of a place, a word for each.
+pub fn mark(i: usize) -> u32
+    ensures { λ r. ⌜ r ≡ markOf i ⌝ }
+{
+    0x3fc0_0000 + (i % 999) as u32
+}
+
+// The word of a buffer at place i: one of the n that stand in the case from a byte on, and behind them paint, or +0.0.
+pub fn wanted(case: &[u8], at: usize, n: usize, painted: bool, i: usize) -> u32
+    ensures { λ r. ⌜ r ≡ wantedOf (now (case .entry)) at n painted i ⌝ }
+{
+    if i < n {
+        return crate::word_from(case, at, i);
+    }
+    if painted {
+        return mark(i);
+    }
+    0
+}
+
+// A list lent with n numbers of the case, and paint or +0.0 behind them.
+pub fn lend(case: &[u8], at: usize, n: usize, painted: bool, list: &mut [f32])
+    ensures { λ _. ⌜ now (list .exit) ≡ lentOf (now (case .entry)) at n painted (now (list .entry)) ⌝ }
+{
+    let mut i = 0;
+    while i < list.len() {
+        list[i] = floats::f32_from_bits(wanted(case, at, n, painted, i));
+        i += 1;
+    }
+}
+
+// Whether a list is n numbers of the case with paint or +0.0 behind them.
+pub fn stands(case: &[u8], at: usize, n: usize, painted: bool, list: &[f32]) -> bool
+    ensures { λ r. ⌜ r ≡ standsIn (now (case .entry)) at n painted (now (list .entry)) ⌝ }
+{
+    if list.len() < n {
+        return false;
+    }
+    let mut i = 0;
+    while i < list.len() {
+        if floats::f32_to_bits(list[i]) != wanted(case, at, n, painted, i) {
+            return false;
+        }
+        i += 1;
+    }
+    true
+}
+
+// The number of scratch at place i: paint, or 0.
+fn scratch(painted: bool, i: usize) -> u16
+    ensures { λ r. ⌜ r ≡ scratchOf painted i ⌝ }
+{
+    if painted {
+        return (i % 999) as u16 + 1;
+    }
+    0
+}
+
+// Scratch painted, and whether it is still, or all of it 0.
+pub fn paint_u16(list: &mut [u16])
+    ensures { λ _. ⌜ now (list .exit) ≡ paintedOf (now (list .entry)) ⌝ }
+{
+    let mut i = 0;
+    while i < list.len() {
+        list[i] = scratch(true, i);
+        i += 1;
+    }
+}
+
+pub fn stands_u16(painted: bool, list: &[u16]) -> bool
+    ensures { λ r. ⌜ r ≡ scratchStands painted (now (list .entry)) ⌝ }
+{
+    let mut i = 0;
+    while i < list.len() {
+        if list[i] != scratch(painted, i) {
+            return false;
+        }
+        i += 1;
+    }
+    true
+}
+
+// Whether a number handed out beside the answer is the stored one, or, where the call is refused, is still paint with 0 stored.
+pub fn counts(number: u32, stored: u32, count: usize) -> bool
+    ensures { λ r. ⌜ r ≡ countsAs number stored count ⌝ }
+{
+    if number == 0 {
+        return count == stored as usize;
+    }
+    if stored != 0 {
+        return false;
+    }
+    count == mark(0) as usize
+}
