@@ -2,4 +2,5 @@
 pub mod Place
 pub mod Buffers
 pub mod Spoil
+pub mod Aim
 pub mod Count

@@ -3,7 +3,7 @@ use mathlib.Core.Bool.{Bool, true, false, cond}
 use mathlib.Core.List.{List}
 use Prim.Native.Nat.{ℕ, _+_, _-_, _*_, _/_, _%_, _^_}
 use lib.Bits.{bitXor}
-use lib.Dec.{eqb}
+use lib.Dec.{eqb, leb}
 use lib.Ieee.{Float, binary32, ofBits, toBits}
 use lib.ListN.{getD, set}
 use Rattle.words.specs.Words.{wordAt}
@@ -36,8 +36,12 @@ flipped l place bit = set l (byteOf place bit) (bitXor (getD l (byteOf place bit
 unfoldable pub judgedAt : ℕ → ℕ → ℕ → ℕ → ℕ
 judgedAt at number next i = cond (eqb i 0) (placeOf at number) (placeOf (placeOf at next) (i - 1))
 
-abbrev pub spoiltAt : List ℕ → ℕ → ℕ → ℕ → Spoilt
-spoiltAt case turn n at = record { place = at; bit = bitOf (wordAt case at) (roundOf turn n) }
+-- no bit below `low`
+unfoldable pub raisedOf : ℕ → ℕ → ℕ
+raisedOf bit low = cond (leb low bit) bit low
+
+abbrev pub spoiltAt : List ℕ → ℕ → ℕ → ℕ → ℕ → Spoilt
+spoiltAt case turn n place low = record { place = place; bit = raisedOf (bitOf (wordAt case place) (roundOf turn n)) low }
 
 -- ---- an element of what was written
 unfoldable pub otherOf : ℕ → ℕ
@@ -52,6 +56,3 @@ hitOf d f h l = cond (eqb h 0) l (set l (h - 1) (f (getD l (h - 1) d)))
 
 unfoldable pub hitNumber : ℕ → ℕ → ℕ
 hitNumber n h = cond (eqb h 1) (otherOf n) n
-
-unfoldable pub behindOf : ℕ → ℕ → ℕ
-behindOf h n = h - n

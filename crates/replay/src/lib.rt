@@ -11,21 +11,22 @@ pub use buffers::stands;
 pub use buffers::stands_u16;
 pub use buffers::wanted;
 use libc::STDOUT_FILENO;
-pub use spoiling::behind;
 pub use spoiling::bit_for;
 pub use spoiling::flip;
 pub use spoiling::hit;
 pub use spoiling::hit_number;
 pub use spoiling::hit_u16;
-pub use spoiling::hitting;
+pub use spoiling::judged;
 pub use spoiling::pick;
 pub use spoiling::spoil;
+pub use spoiling::spoil_at;
 ghost use mathlib.Core.Path.{_≡_};
 ghost use lib.Ieee as Ieee;
 ghost use lib.Ieee.{binary32};
 ghost use lib.ListN.{length};
 ghost use Rattle.words.specs.Words.{wordAt, longAt};
-ghost use Rattle.replay.specs.Place.{placeOf};
+ghost use Rattle.replay.specs.Place.{placeOf, imageIn, imageEnd};
+ghost use Rattle.replay.specs.Aim.{noAim, aimOf, aimedAt};
 ghost use Rattle.replay.specs.Count.{Within, none, moreOf, countedIn, endedOf};
 
 // What an open list has next: a case of so many bytes, its end, or what is no whole case.
@@ -93,10 +94,64 @@ pub fn place(at: usize, i: usize) -> usize
     at + 4 * i
 }
 
+// The image of a case that begins with its sizes and the number of its bytes; empty where it is not whole. What follows begins at a whole word.
+pub fn image(case: &[u8]) -> &[u8]
+    ensures { λ r. ⌜ now r ≡ imageIn (now (case .entry)) ⌝ }
+{
+    let end = 20 + words::word(case, 16) as usize;
+    if case.len() < end {
+        return &case[0..0];
+    }
+    &case[20..end]
+}
+
+pub fn behind_image(case: &[u8]) -> usize
+    ensures { λ r. ⌜ r ≡ imageEnd (now (case .entry)) ⌝ }
+{
+    place(20, (words::word(case, 16) as usize + 3) / 4)
+}
+
 // A bit of the word at a place of a case, which was flipped.
 pub struct Spoilt {
     pub place: usize,
     pub bit: usize,
+}
+
+// An element of what a call wrote, which is changed: of the part with a number, the first is 1. Part 0 is none.
+pub struct Aim {
+    pub part: u32,
+    pub at: usize,
+}
+
+impl Aim {
+    pub fn none() -> Self
+        ensures { λ r. ⌜ r ≡ noAim ⌝ }
+    {
+        Aim { part: 0, at: 0 }
+    }
+
+    // The one of a turn in a part of n elements; where it has none, the first of part 1.
+    pub fn of(turn: u32, part: u32, n: usize) -> Self
+        ensures { λ r. ⌜ r ≡ aimOf turn part n ⌝ }
+    {
+        if n == 0 {
+            return Aim { part: 1, at: 1 };
+        }
+        Aim {
+            part,
+            at: pick(turn, n) + 1,
+        }
+    }
+
+    // The element of a part that is changed, 0 where none is.
+    pub fn within(self, part: u32) -> usize
+        ensures { λ r. ⌜ r ≡ aimedAt self part ⌝ }
+    {
+        if self.part == part {
+            return self.at;
+        }
+        0
+    }
 }
 
 // What was counted of a list: cases, wrong answers, spoilt ones that went unnoticed, and whether the list was read to its end.

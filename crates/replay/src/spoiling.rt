@@ -1,10 +1,9 @@
 // Spoiling: one bit of what is stored, or one element of what a call wrote. What is taken goes round from turn to turn.
 use crate::Spoilt;
 ghost use mathlib.Core.Path.{_≡_};
-ghost use Prim.Native.Nat.{_+_};
 ghost use lib.Ieee.{nan};
 ghost use Rattle.words.specs.Words.{wordAt};
-ghost use Rattle.replay.specs.Spoil.{pickOf, roundOf, bitOf, maskOf, flipped, judgedAt, spoiltAt, otherOf, otherFloat, hitNumber, hitOf, behindOf};
+ghost use Rattle.replay.specs.Spoil.{pickOf, roundOf, bitOf, maskOf, flipped, judgedAt, raisedOf, spoiltAt, otherOf, otherFloat, hitNumber, hitOf};
 
 // Which of n things is taken at a turn.
 pub fn pick(turn: u32, n: usize) -> usize
@@ -78,17 +77,33 @@ pub fn flip(case: &mut [u8], place: usize, bit: usize)
 
 // Flips a bit of one of n judged words: the answer's number, and those that follow one after the other from `next` on.
 pub fn spoil(case: &mut [u8], turn: u32, n: usize, at: usize, number: usize, next: usize) -> Spoilt
-    ensures { λ r. ⌜ r ≡ spoiltAt (now (case .entry)) turn n (judgedAt at number next (pickOf turn n)) ⌝ }
+    ensures { λ r. ⌜ r ≡ spoiltAt (now (case .entry)) turn n (judgedAt at number next (pickOf turn n)) 0 ⌝ }
     ensures { λ r. ⌜ now (case .exit) ≡ flipped (now (case .entry)) (r .place) (r .bit) ⌝ }
 {
-    let place = judged(at, number, next, pick(turn, n));
-    let bit = bit_for(case, place, turn, n);
+    spoil_at(case, turn, n, judged(at, number, next, pick(turn, n)), 0)
+}
+
+// The same of the word at a place, of which only bits from `low` up tell one answer from another.
+pub fn spoil_at(case: &mut [u8], turn: u32, n: usize, place: usize, low: usize) -> Spoilt
+    ensures { λ r. ⌜ r ≡ spoiltAt (now (case .entry)) turn n place low ⌝ }
+    ensures { λ r. ⌜ now (case .exit) ≡ flipped (now (case .entry)) (r .place) (r .bit) ⌝ }
+{
+    let bit = raised(bit_for(case, place, turn, n), low);
     flip(case, place, bit);
     Spoilt { place, bit }
 }
 
+fn raised(bit: usize, low: usize) -> usize
+    ensures { λ r. ⌜ r ≡ raisedOf bit low ⌝ }
+{
+    if low <= bit {
+        return bit;
+    }
+    low
+}
+
 // Where the judged word number i stands.
-fn judged(at: usize, number: usize, next: usize, i: usize) -> usize
+pub fn judged(at: usize, number: usize, next: usize, i: usize) -> usize
     ensures { λ r. ⌜ r ≡ judgedAt at number next i ⌝ }
 {
     if i == 0 {
@@ -102,23 +117,6 @@ fn other(word: u32) -> u32
     ensures { λ r. ⌜ r ≡ otherOf word ⌝ }
 {
     if word == 0 { 1 } else { 0 }
-}
-
-// Which of n written elements is changed at a turn; the first is 1, so that 0 is none.
-pub fn hitting(turn: u32, n: usize) -> usize
-    ensures { λ r. ⌜ r ≡ pickOf turn n + 1 ⌝ }
-{
-    pick(turn, n) + 1
-}
-
-// The same counted from behind the first n, 0 where it is one of those.
-pub fn behind(h: usize, n: usize) -> usize
-    ensures { λ r. ⌜ r ≡ behindOf h n ⌝ }
-{
-    if h <= n {
-        return 0;
-    }
-    h - n
 }
 
 // The element number h of a buffer changed, and none where h is 0 or past its end.

@@ -1,5 +1,6 @@
 // Replays the oracle's list of peak scans (data/peaks.bin) through the exported call: the number, the count, every record written, and the
 // paint behind the last record, or everywhere where the scan is refused.
+use replay::Aim;
 use replay::Next;
 use replay::Tally;
 
@@ -43,9 +44,9 @@ fn replay_list(case: &mut [u8], values: &mut [f32], out: &mut [f32]) {
 // One case: as it is stored, with a bit of its answer flipped, and with an element of what was written changed.
 fn trial(tally: Tally, case: &mut [u8], values: &mut [f32], out: &mut [f32]) -> Tally {
     let turn = tally.cases;
-    let right = holds(case, 0, values, out);
+    let right = holds(case, Aim::none(), values, out);
     let taken = spoilt_holds(case, turn, values, out);
-    let missed = holds(case, hit(case, turn), values, out);
+    let missed = holds(case, aim(case, turn), values, out);
     tally.counted(right, !taken & !missed)
 }
 
@@ -53,15 +54,18 @@ fn spoilt_holds(case: &mut [u8], turn: u32, values: &mut [f32], out: &mut [f32])
     let at = settings(case);
     let judged = 2 + 3 * (replay::word_from(case, at, 9) as usize);
     let spoilt = replay::spoil(case, turn, judged, at, 6, 9);
-    let taken = holds(case, 0, values, out);
+    let taken = holds(case, Aim::none(), values, out);
     replay::flip(case, spoilt.place, spoilt.bit);
     taken
 }
 
-// Which element is changed: the count is the first, the output follows it.
-fn hit(case: &[u8], turn: u32) -> usize {
+// Part 1 is the count, part 2 the output.
+fn aim(case: &[u8], turn: u32) -> Aim {
+    if turn % 2 == 0 {
+        return Aim::of(turn, 1, 1);
+    }
     let room = replay::word_from(case, settings(case), 5) as usize;
-    replay::hitting(turn, room + 1)
+    Aim::of(turn / 2, 2, room)
 }
 
 // Where the settings stand: behind the values, which begin with the sixth word.
@@ -69,8 +73,8 @@ fn settings(case: &[u8]) -> usize {
     replay::place(20, words::word(case, 16) as usize)
 }
 
-// Whether the answer, with the element number h of what was written changed, is the stored one.
-fn holds(case: &[u8], h: usize, values: &mut [f32], out: &mut [f32]) -> bool {
+// Whether the answer, with an element of what was written changed, is the stored one.
+fn holds(case: &[u8], aim: Aim, values: &mut [f32], out: &mut [f32]) -> bool {
     let n = words::word(case, 16) as usize;
     let at = settings(case);
     let room = replay::word_from(case, at, 5) as usize;
@@ -80,16 +84,22 @@ fn holds(case: &[u8], h: usize, values: &mut [f32], out: &mut [f32]) -> bool {
     if out.len() < room {
         return false;
     }
-    one(case, at, h, &mut values[..n], &mut out[..room])
+    one(case, at, aim, &mut values[..n], &mut out[..room])
 }
 
-fn one(case: &[u8], at: usize, h: usize, values: &mut [f32], out: &mut [f32]) -> bool {
+fn one(case: &[u8], at: usize, aim: Aim, values: &mut [f32], out: &mut [f32]) -> bool {
     replay::lend(case, 20, values.len(), false, values);
     replay::lend(case, 0, 0, true, out);
     let mut count = replay::mark(0) as usize;
     let number = ask(case, at, values, out, &mut count);
-    replay::hit(out, replay::behind(h, 1));
-    is_right(case, at, number, replay::hit_number(count, h), out)
+    replay::hit(out, aim.within(2));
+    is_right(
+        case,
+        at,
+        number,
+        replay::hit_number(count, aim.within(1)),
+        out,
+    )
 }
 
 // The call, with the settings of the case.
