@@ -2,14 +2,16 @@
 use mathlib.Core.Path.{_≡_, refl, sym, ap, _∙_}
 use mathlib.Core.Bool.{Bool, true, false, cond}
 use mathlib.Core.List.{List, [], _∷_}
-use Prim.Native.Nat.{ℕ, zero, suc, _+_, _-_, _≤_, _<_}
+use Prim.Native.Nat.{ℕ, zero, suc, _+_, _-_, _*_, _≤_, _<_}
 use native.Mathlib.Nat.{not-suc-le-zero, le-of-suc-le-suc, zero-add}
 use native.Mathlib.Numerals.{add-one}
 use native.Mathlib.Omega.{arith}
 use lib.ListN.{length, set}
 use lib.Ieee.{Float}
-use borrow.Author.Tests.{lt-ltb, le-ltb}
-use Rattle.replay.specs.Buffers.{over, every, standsAt, standsIn}
+use borrow.Author.Tests.{lt-ltb, le-ltb, eq-eqb, ne-eqb}
+use Rattle.replay.specs.Buffers.{over, every, standsAt, standsIn, countsAs, cornersStand}
+use Rattle.replay.specs.Place.{placeOf}
+use Rattle.words.specs.Words.{wordAt}
 
 over-suc : {A : Type 0} (f : ℕ → A) (i n : ℕ) (l : List A) → n < length l → set (over f i n l) n (f (i + n)) ≡ over f i (suc n) l
 unfolding over
@@ -74,3 +76,21 @@ module _ (case : List ℕ) (at n : ℕ) (painted : Bool) (l : List Float) where
   pub stands-is : n ≤ length l → standsIn case at n painted l ≡ every (standsAt case at n painted l) 0 (length l)
   unfolding standsIn
   stands-is h = ap (λ (b : Bool). cond b false (every (standsAt case at n painted l) 0 (length l))) (le-ltb (length l) n h)
+
+-- ---- an answer of corners, test by test
+module _ (case : List ℕ) (at number count : ℕ) (out : List Float) where
+  abbrev judgedBy : Bool → Bool → Bool
+  judgedBy a b = cond a (cond b (standsIn case (placeOf at 4) (3 * wordAt case (placeOf at 3)) true out) false) false
+
+  pub corners-number : (number ≡ wordAt case (placeOf at 0) → ⊥) → cornersStand case at number count out ≡ false
+  unfolding cornersStand
+  corners-number h = ap (λ (a : Bool). judgedBy a (countsAs number (wordAt case (placeOf at 3)) count)) (ne-eqb _ _ h)
+
+  pub corners-count : number ≡ wordAt case (placeOf at 0) → countsAs number (wordAt case (placeOf at 3)) count ≡ false → cornersStand case at number count out ≡ false
+  unfolding cornersStand
+  corners-count h e = ap (λ (a : Bool). judgedBy a (countsAs number (wordAt case (placeOf at 3)) count)) (eq-eqb _ _ h) ∙ ap (judgedBy true) e
+
+  pub corners-are : number ≡ wordAt case (placeOf at 0) → countsAs number (wordAt case (placeOf at 3)) count ≡ true
+      → cornersStand case at number count out ≡ standsIn case (placeOf at 4) (3 * wordAt case (placeOf at 3)) true out
+  unfolding cornersStand
+  corners-are h e = ap (λ (a : Bool). judgedBy a (countsAs number (wordAt case (placeOf at 3)) count)) (eq-eqb _ _ h) ∙ ap (judgedBy true) e

@@ -1,7 +1,7 @@
 -- What a buffer holds before a call and what it is judged by after it: words of the case, and behind them paint or zeros.
 use mathlib.Core.Bool.{Bool, true, false, cond, _&&_}
 use mathlib.Core.List.{List, [], _∷_}
-use Prim.Native.Nat.{ℕ, zero, suc, _+_, _%_}
+use Prim.Native.Nat.{ℕ, zero, suc, _+_, _-_, _*_, _%_}
 use lib.Dec.{eqb, ltb}
 use lib.Ieee.{Float, nan, binary32, ofBits, toBits}
 use lib.ListN.{length, getD}
@@ -54,3 +54,16 @@ scratchStands painted l = every (scratchAt painted l) 0 (length l)
 -- ---- a number handed out beside the answer: the stored one; where the call is refused 0 is stored and it is still paint
 unfoldable pub countsAs : ℕ → ℕ → ℕ → Bool
 countsAs number stored count = cond (eqb number 0) (eqb count stored) (cond (eqb stored 0) (eqb count (markOf 0)) false)
+
+-- an answer of a number, two words that are not ours to answer, a count and that many corners
+unfoldable pub cornersStand : List ℕ → ℕ → ℕ → ℕ → List Float → Bool
+cornersStand case at number count out =
+    cond (eqb number (wordAt case (placeOf at 0)))
+    (cond (countsAs number (wordAt case (placeOf at 3)) count) (standsIn case (placeOf at 4) (3 * wordAt case (placeOf at 3)) true out) false) false
+
+-- ---- words that are 0, from one number up to another
+abbrev pub zeroAt : List ℕ → ℕ → ℕ → Bool
+zeroAt case at i = eqb (wordAt case (placeOf at i)) 0
+
+unfoldable pub zerosIn : List ℕ → ℕ → ℕ → ℕ → Bool
+zerosIn case at from to = every (zeroAt case at) from (to - from)

@@ -1,6 +1,6 @@
 // Buffers: lent before a call with the numbers of a case or with paint, and judged after it.
 ghost use mathlib.Core.Path.{_≡_};
-ghost use Rattle.replay.specs.Buffers.{markOf, wantedOf, lentOf, standsIn, scratchOf, paintedOf, scratchStands, countsAs};
+ghost use Rattle.replay.specs.Buffers.{markOf, wantedOf, lentOf, standsIn, scratchOf, paintedOf, scratchStands, countsAs, cornersStand, zerosIn};
 
 // The paint of a place, a word for each.
 pub fn mark(i: usize) -> u32
@@ -95,4 +95,33 @@ pub fn counts(number: u32, stored: u32, count: usize) -> bool
         return false;
     }
     count == mark(0) as usize
+}
+
+// Whether an answer is the stored one, which begins at a place with its number, who decided and why, and goes on with a count and that many corners;
+// behind those the output is painted.
+pub fn corners_stand(case: &[u8], at: usize, number: u32, count: usize, out: &[f32]) -> bool
+    ensures { λ r. ⌜ r ≡ cornersStand (now (case .entry)) at number count (now (out .entry)) ⌝ }
+{
+    let stored = crate::word_from(case, at, 3);
+    if number != crate::word_from(case, at, 0) {
+        return false;
+    }
+    if !counts(number, stored, count) {
+        return false;
+    }
+    stands(case, crate::place(at, 4), 3 * (stored as usize), true, out)
+}
+
+// Whether the words of a case from one number up to another are 0.
+pub fn zeros(case: &[u8], at: usize, from: usize, to: usize) -> bool
+    ensures { λ r. ⌜ r ≡ zerosIn (now (case .entry)) at from to ⌝ }
+{
+    let mut i = from;
+    while i < to {
+        if crate::word_from(case, at, i) != 0 {
+            return false;
+        }
+        i += 1;
+    }
+    true
 }

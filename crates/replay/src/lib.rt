@@ -3,6 +3,7 @@
 mod buffers;
 mod spoiling;
 
+pub use buffers::corners_stand;
 pub use buffers::counts;
 pub use buffers::lend;
 pub use buffers::mark;
@@ -10,6 +11,7 @@ pub use buffers::paint_u16;
 pub use buffers::stands;
 pub use buffers::stands_u16;
 pub use buffers::wanted;
+pub use buffers::zeros;
 use libc::STDOUT_FILENO;
 pub use spoiling::bit_for;
 pub use spoiling::flip;

@@ -93,13 +93,8 @@ fn one(case: &[u8], at: usize, aim: Aim, values: &mut [f32], out: &mut [f32]) ->
     let mut count = replay::mark(0) as usize;
     let number = ask(case, at, values, out, &mut count);
     replay::hit(out, aim.within(2));
-    is_right(
-        case,
-        at,
-        number,
-        replay::hit_number(count, aim.within(1)),
-        out,
-    )
+    let counted = replay::hit_number(count, aim.within(1));
+    replay::corners_stand(case, replay::place(at, 6), number, counted, out)
 }
 
 // The call, with the settings of the case.
@@ -115,23 +110,5 @@ fn ask(case: &[u8], at: usize, values: &[f32], out: &mut [f32], count: &mut usiz
         replay::word_from(case, at, 4),
         out,
         count,
-    )
-}
-
-// The number, the count, the records and the paint behind them.
-fn is_right(case: &[u8], at: usize, number: u32, count: usize, out: &[f32]) -> bool {
-    let stored = replay::word_from(case, at, 9);
-    if number != replay::word_from(case, at, 6) {
-        return false;
-    }
-    if !replay::counts(number, stored, count) {
-        return false;
-    }
-    replay::stands(
-        case,
-        replay::place(at, 10),
-        3 * (stored as usize),
-        true,
-        out,
     )
 }
