@@ -1,5 +1,10 @@
 // Buffers: lent before a call with the numbers of a case or with paint, and judged after it.
 ghost use mathlib.Core.Path.{_≡_};
+ghost use lib.Dec.{eqb};
+ghost use lib.Ieee as Ieee;
+ghost use lib.Ieee.{binary32};
+ghost use Rattle.words.specs.Words.{wordAt};
+ghost use Rattle.replay.specs.Place.{placeOf};
 ghost use Rattle.replay.specs.Buffers.{markOf, wantedOf, lentOf, standsIn, scratchOf, paintedOf, scratchStands, countsAs, cornersStand, zerosIn};
 
 // The paint of a place, a word for each.
@@ -31,6 +36,13 @@ pub fn lend(case: &[u8], at: usize, n: usize, painted: bool, list: &mut [f32])
         list[i] = floats::f32_from_bits(wanted(case, at, n, painted, i));
         i += 1;
     }
+}
+
+// Whether a number is the one stored in the word number i after a place.
+pub fn float_stands(case: &[u8], at: usize, i: usize, x: f32) -> bool
+    ensures { λ r. ⌜ r ≡ eqb (Ieee.toBits binary32 x) (wordAt (now (case .entry)) (placeOf at i)) ⌝ }
+{
+    floats::f32_to_bits(x) == crate::word_from(case, at, i)
 }
 
 // Whether a list is n numbers of the case with paint or +0.0 behind them.

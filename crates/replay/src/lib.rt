@@ -5,6 +5,7 @@ mod spoiling;
 
 pub use buffers::corners_stand;
 pub use buffers::counts;
+pub use buffers::float_stands;
 pub use buffers::lend;
 pub use buffers::mark;
 pub use buffers::paint_u16;
@@ -19,6 +20,7 @@ pub use spoiling::hit;
 pub use spoiling::hit_number;
 pub use spoiling::hit_u16;
 pub use spoiling::judged;
+pub use spoiling::other;
 pub use spoiling::pick;
 pub use spoiling::spoil;
 pub use spoiling::spoil_at;

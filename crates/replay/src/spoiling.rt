@@ -112,11 +112,17 @@ pub fn judged(at: usize, number: usize, next: usize, i: usize) -> usize
     crate::place(crate::place(at, next), i - 1)
 }
 
-// A word that is not the given one.
-fn other(word: u32) -> u32
+// A word that is not the given one, and a number.
+fn other_word(word: u32) -> u32
     ensures { λ r. ⌜ r ≡ otherOf word ⌝ }
 {
     if word == 0 { 1 } else { 0 }
+}
+
+pub fn other(x: f32) -> f32
+    ensures { λ r. ⌜ r ≡ otherFloat x ⌝ }
+{
+    floats::f32_from_bits(other_word(floats::f32_to_bits(x)))
 }
 
 // The element number h of a buffer changed, and none where h is 0 or past its end.
@@ -129,7 +135,7 @@ pub fn hit(list: &mut [f32], h: usize)
     if list.len() < h {
         return;
     }
-    list[h - 1] = floats::f32_from_bits(other(floats::f32_to_bits(list[h - 1])));
+    list[h - 1] = other(list[h - 1]);
 }
 
 pub fn hit_u16(list: &mut [u16], h: usize)

@@ -1,16 +1,20 @@
--- A number that is another one.
-use borrow.Author.Tests.{eq-eqb, ne-eqb}
-use Rattle.replay.specs.Spoil.{otherOf}
+-- `replay::other` meets its contract, by those it calls.
+use borrow.Author.Needs.{needs}
 use Rattle.replay.proofs.spoiling.other.Statement.{statement}
 use Rattle.replay.proofs.spoiling.other.Tie as tie
 
-returns : tie.Need-returns
-unfolding otherOf
-returns c = simp (eq-eqb _ _ (c .if1 .taken))
+f32-to-bits-requires : tie.Need-f32-to-bits-requires
+f32-to-bits-requires c κs = search needs
 
-returns-2 : tie.Need-returns-2
-unfolding otherOf
-returns-2 c = simp (ne-eqb _ _ (c .if1 .left))
+other-word-requires : tie.Need-other-word-requires
+other-word-requires c κs = search needs
+
+f32-from-bits-requires : tie.Need-f32-from-bits-requires
+f32-from-bits-requires c κs = search needs
+
+returns : tie.Need-returns
+returns c = cc
 
 pub other-spec : {M : Type 1} → statement M
-other-spec = tie.close (tie.spec returns returns-2)
+other-spec =
+    tie.close (tie.spec f32-to-bits-requires other-word-requires f32-from-bits-requires returns)
