@@ -1,14 +1,11 @@
-// Replays the oracle's list of refined lists (data/refine_list.bin): the number, the count, every record written, and a painted output that keeps
-// what stands past the last record, and all of it where the call is refused. A line: cases run, and how many differ.
-use detect::Refinements;
-use imageview::Sizes;
-use saddle_fit::SaddlePointConfig;
-ghost use Prim.Native.Nat.{_≤_};
-
-mod paint;
+// Replays the oracle's list of refined lists (data/refine_list.bin) through the exported call: the number, the count, every record written, and the
+// paint behind the last record, or everywhere where the call is refused.
+use replay::Aim;
+use replay::Next;
+use replay::Tally;
 
 // More cases than the list has, so that the loop ends.
-const MOST: u64 = 2000;
+const MOST: u32 = 2000;
 
 fn main() {
     let mut case = [0u8; 5000];
@@ -24,117 +21,97 @@ fn replay_list(case: &mut [u8], corners: &mut [f32], out: &mut [f32]) {
         os::fail(name);
         return;
     }
-    let mut cases: u64 = 0;
-    let mut wrong: u64 = 0;
+    let mut tally = Tally::new();
     let mut left = MOST;
     while 0 < left {
-        let answer = next(fd, case, corners, out);
-        if answer == 2 {
-            left = 0;
-        } else {
-            left -= 1;
-            cases += 1;
-            wrong += answer;
+        let next = replay::next_case(fd, case);
+        match next {
+            Next::Case(n) => {
+                tally = trial(tally, &mut case[..n], corners, out);
+                left -= 1;
+            }
+            Next::End => {
+                tally = tally.ended();
+                left = 0;
+            }
+            Next::Broken => left = 0,
         }
     }
     libc::close(fd);
-    replay::report(name, cases, wrong);
+    replay::report(name, tally);
 }
 
-// One case: 0 where our answer is the stored one, 1 where it differs, 2 where no case is left.
-fn next(fd: i32, case: &mut [u8], corners: &mut [f32], out: &mut [f32]) -> u64
-    ensures { λ r. ⌜ r ≤ 2 ⌝ }
-{
-    if replay::next_case(fd, case) == 0 {
-        return 2;
-    }
-    if holds(case, corners, out) { 0 } else { 1 }
+// One case: as it is stored, with a bit of its answer flipped, and with an element of what was written changed.
+fn trial(tally: Tally, case: &mut [u8], corners: &mut [f32], out: &mut [f32]) -> Tally {
+    let turn = tally.cases;
+    let right = holds(case, Aim::none(), corners, out);
+    let taken = spoilt_holds(case, turn, corners, out);
+    let missed = holds(case, aim(case, turn), corners, out);
+    tally.counted(right, !taken & !missed)
 }
 
-// The image's bytes stand from the sixth word on; what follows them begins at a whole word.
-fn holds(case: &[u8], corners: &mut [f32], out: &mut [f32]) -> bool {
-    let n = words::word(case, 16) as usize;
-    let end = 20 + n;
-    let at = 20 + (n + 3) / 4 * 4;
-    if case.len() < at {
-        return false;
-    }
-    sized(case, &case[20..end], &case[at..], corners, out)
+fn spoilt_holds(case: &mut [u8], turn: u32, corners: &mut [f32], out: &mut [f32]) -> bool {
+    let at = room(case);
+    let judged = 2 + 3 * (replay::word_from(case, at, 4) as usize);
+    let spoilt = replay::spoil(case, turn, judged, at, 1, 4);
+    let taken = holds(case, Aim::none(), corners, out);
+    replay::flip(case, spoilt.place, spoilt.bit);
+    taken
 }
 
-// The settings, the number of lent floats and how many are given; what follows those begins with the length of the output.
-fn sized(head: &[u8], img: &[u8], rest: &[u8], corners: &mut [f32], out: &mut [f32]) -> bool {
-    let count = words::word(rest, 16) as usize;
-    let at = 24 + 4 * (words::word(rest, 20) as usize);
-    if rest.len() < at {
+// Part 1 is the count, part 2 the output.
+fn aim(case: &[u8], turn: u32) -> Aim {
+    if turn % 2 == 0 {
+        return Aim::of(turn, 1, 1);
+    }
+    Aim::of(turn / 2, 2, words::word(case, room(case)) as usize)
+}
+
+// Where the length of the output stands: behind the lent corners, which follow the image and the settings.
+fn room(case: &[u8]) -> usize {
+    let at = replay::behind_image(case);
+    let given = replay::word_from(case, at, 5) as usize;
+    replay::place(replay::place(at, 6), given)
+}
+
+// Whether the answer, with an element of what was written changed, is the stored one.
+fn holds(case: &[u8], aim: Aim, corners: &mut [f32], out: &mut [f32]) -> bool {
+    let n = replay::word_from(case, replay::behind_image(case), 4) as usize;
+    let at = room(case);
+    let m = words::word(case, at) as usize;
+    if corners.len() < n {
         return false;
     }
-    let room = words::word(rest, at) as usize;
-    if corners.len() < count {
+    if out.len() < m {
         return false;
     }
-    if out.len() < room {
-        return false;
-    }
-    one(
-        head,
-        img,
-        rest,
-        &rest[at..],
-        &mut corners[..count],
-        &mut out[..room],
+    one(case, at, aim, &mut corners[..n], &mut out[..m])
+}
+
+fn one(case: &[u8], at: usize, aim: Aim, corners: &mut [f32], out: &mut [f32]) -> bool {
+    let settings = replay::behind_image(case);
+    let given = replay::word_from(case, settings, 5) as usize;
+    replay::lend(case, replay::place(settings, 6), given, false, corners);
+    replay::lend(case, 0, 0, true, out);
+    let mut count = replay::mark(0) as usize;
+    let number = ask(case, settings, corners, out, &mut count);
+    replay::hit(out, aim.within(2));
+    let counted = replay::hit_number(count, aim.within(1));
+    replay::corners_stand(case, replay::place(at, 1), number, counted, out)
+}
+
+// The call, with the image and the settings of the case. A radius below zero becomes one above every limit.
+fn ask(case: &[u8], at: usize, corners: &[f32], out: &mut [f32], count: &mut usize) -> u32 {
+    chess_corners::chess_corners_refine_list(
+        replay::image(case),
+        words::long(case, 0) as usize,
+        words::long(case, 8) as usize,
+        replay::word_from(case, at, 0) as usize,
+        replay::float_from(case, at, 1),
+        replay::float_from(case, at, 2),
+        replay::float_from(case, at, 3),
+        corners,
+        out,
+        count,
     )
-}
-
-fn one(
-    head: &[u8],
-    img: &[u8],
-    rest: &[u8],
-    want: &[u8],
-    corners: &mut [f32],
-    out: &mut [f32],
-) -> bool {
-    paint::load(rest, corners);
-    paint::paint(out);
-    let answer = detect::refine_corners_on_image(img, sizes(head), settings(rest), corners, out);
-    let number = words::word(want, 4);
-    match answer {
-        Refinements::Refined(count) => number == 0 && refined(want, count, out),
-        Refinements::BadImage => number == 10 && refused(want, out),
-        Refinements::BadRadius => number == 11 && refused(want, out),
-        Refinements::BadLimit => number == 12 && refused(want, out),
-        Refinements::BadLength => number == 19 && refused(want, out),
-        Refinements::TooMany => number == 16 && refused(want, out),
-        Refinements::BadOut => number == 15 && refused(want, out),
-    }
-}
-
-fn sizes(head: &[u8]) -> Sizes {
-    Sizes {
-        width: words::long(head, 0) as usize,
-        height: words::long(head, 8) as usize,
-    }
-}
-
-// A radius below zero becomes one above every limit.
-fn settings(rest: &[u8]) -> SaddlePointConfig {
-    SaddlePointConfig {
-        radius: words::word(rest, 0) as usize,
-        det_margin: paint::float(rest, 4),
-        max_offset: paint::float(rest, 8),
-        min_abs_det: paint::float(rest, 12),
-    }
-}
-
-// The stored count and records, and the paint behind them.
-fn refined(want: &[u8], count: usize, out: &[f32]) -> bool {
-    let kept = words::word(want, 16) as usize;
-    if count != kept {
-        return false;
-    }
-    paint::same(want, 3 * kept, out) && paint::painted_from(3 * kept, out)
-}
-
-fn refused(want: &[u8], out: &[f32]) -> bool {
-    words::word(want, 16) == 0 && paint::painted_from(0, out)
 }

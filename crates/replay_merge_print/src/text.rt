@@ -1,4 +1,6 @@
 // The stored file and the stored text of a case.
+use replay::Spoilt;
+ghost use Prim.Native.Nat.{_≤_};
 
 // The bytes given in the case, from its third word on, and zeros behind them.
 pub fn load(case: &[u8], given: usize, bytes: &mut [u8]) {
@@ -20,6 +22,27 @@ fn loaded(case: &[u8], given: usize, i: usize) -> u8 {
         return 0;
     }
     case[8 + i]
+}
+
+// Flips a bit of what is judged: the length of the text that begins at a place, or one of its bytes.
+pub fn spoil(case: &mut [u8], turn: u32, start: usize) -> Spoilt
+    requires { ⌜ (4 ≤ start) × (start ≤ 0x2_0000_0000) ⌝ }
+{
+    let n = words::word(case, start - 4) as usize + 1;
+    let i = replay::pick(turn, n);
+    if i == 0 {
+        return replay::spoil_at(case, turn, n, start - 4, 0);
+    }
+    spoil_byte(case, turn, n, start, i - 1)
+}
+
+fn spoil_byte(case: &mut [u8], turn: u32, n: usize, start: usize, i: usize) -> Spoilt
+    requires { ⌜ (start ≤ 0x2_0000_0000) × (i ≤ 0x1_0000_0000) ⌝ }
+{
+    let place = start + i;
+    let bit = replay::bit_for(case, place, turn, n) % 8;
+    replay::flip(case, place, bit);
+    Spoilt { place, bit }
 }
 
 // The text from a place on is a line of `refused` and the number.

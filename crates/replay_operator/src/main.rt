@@ -1,121 +1,161 @@
-// Replays the stored operators of the Rust (data/, written by the oracle), one for each radius from 0 to 7, on the crate fit_operator.
-// A line for the list: its name, how many cases were run, and how many answers differ.
-use fit_operator::Operator;
+// Replays the stored operators of the Rust (data/operator.bin), one for each radius from 0 to 7, through the exported call: the number, the columns,
+// the overlaps, and the paint that stays where nothing is written.
+use replay::Aim;
+use replay::Next;
+use replay::Tally;
 ghost use Prim.Native.Nat.{_≤_};
-ghost use lib.ListN.{length};
 
 // More cases than the list has, so that the loop ends.
-const MOST: u64 = 100;
+const MOST: u32 = 100;
 
-// What the lent arrays hold before the call, so that an entry that is not to be written can be told from one that is.
-const BEFORE: f32 = 9.0;
+// How often each case is spoilt: it has many words, and there are few cases.
+const TURNS: u32 = 100;
 
 fn main() {
-    replay_list(b"operator.bin");
+    let mut case = [0u8; 5700];
+    replay_list(&mut case);
 }
 
-fn replay_list(name: &[u8]) {
+fn replay_list(case: &mut [u8]) {
+    let name = b"operator.bin";
     let fd = os::open_read(name);
     if fd < 0 {
         os::fail(name);
         return;
     }
-    let mut cases: u64 = 0;
-    let mut wrong: u64 = 0;
-    while cases < MOST {
-        let answer = next(fd);
-        if answer == 2 {
-            break;
+    let mut tally = Tally::new();
+    let mut left = MOST;
+    while 0 < left {
+        let next = replay::next_case(fd, case);
+        match next {
+            Next::Case(n) => {
+                tally = trial(tally, &mut case[..n]);
+                left -= 1;
+            }
+            Next::End => {
+                tally = tally.ended();
+                left = 0;
+            }
+            Next::Broken => left = 0,
         }
-        cases += 1;
-        wrong += answer;
     }
     libc::close(fd);
-    replay::report(name, cases, wrong);
+    replay::report(name, tally);
 }
 
-// One case: 0 where our answer is the stored one, 1 where it differs, 2 where no case is left.
-fn next(fd: i32) -> u64
-    ensures { λ r. ⌜ r ≤ 2 ⌝ }
-{
-    let mut space = [0u8; 5700];
-    if replay::next_case(fd, &mut space) == 0 {
-        return 2;
+// One case as it is stored, and spoilt at many turns.
+fn trial(tally: Tally, case: &mut [u8]) -> Tally {
+    let right = holds(case, Aim::none());
+    let noticed = notices(case);
+    tally.counted(right, noticed)
+}
+
+// Whether every flipped bit of the answer and every changed element of what was written is noticed.
+fn notices(case: &mut [u8]) -> bool {
+    let mut noticed = true;
+    let mut k: u32 = 0;
+    while k < TURNS {
+        let taken = spoilt_holds(case, 37 * k);
+        let missed = holds(case, aim(37 * k));
+        noticed = noticed & !taken & !missed;
+        k += 1;
     }
-    if holds(&space) { 0 } else { 1 }
+    noticed
+}
+
+// The words that are judged: whether there is an operator, and where there is one, its side, the columns and the overlaps.
+fn spoilt_holds(case: &mut [u8], turn: u32) -> bool {
+    let judged = if words::word(case, 4) == 0 {
+        1
+    } else {
+        227 + numbers_of(words::word(case, 8) as usize)
+    };
+    let word = replay::pick(turn, judged);
+    let place = if word < 2 {
+        replay::place(4, word)
+    } else {
+        replay::place(292, word)
+    };
+    let spoilt = replay::spoil_at(case, turn, judged, place, 0);
+    let taken = holds(case, Aim::none());
+    replay::flip(case, spoilt.place, spoilt.bit);
+    taken
+}
+
+// Part 1 is the columns, part 2 the overlaps.
+fn aim(turn: u32) -> Aim {
+    if turn % 2 == 0 {
+        return Aim::of(turn / 2, 1, 1125);
+    }
+    Aim::of(turn / 2, 2, 225)
+}
+
+// Whether the answer, with an element of what was written changed, is the stored one.
+fn holds(case: &[u8], aim: Aim) -> bool {
+    let mut columns = [0.0f32; 1125];
+    let mut overlap = [0.0f32; 225];
+    replay::lend(case, 0, 0, true, &mut columns);
+    replay::lend(case, 0, 0, true, &mut overlap);
+    let radius = words::word(case, 0) as usize;
+    let number = chess_corners::chess_corners_fit_operator(radius, &mut columns, &mut overlap);
+    hit_columns(&mut columns, aim.within(1));
+    hit_overlap(&mut overlap, aim.within(2));
+    is_right(case, number, &columns, &overlap)
+}
+
+fn hit_columns(list: &mut [f32; 1125], h: usize) {
+    if h == 0 {
+        return;
+    }
+    if 1125 < h {
+        return;
+    }
+    list[h - 1] = replay::other(list[h - 1]);
+}
+
+fn hit_overlap(list: &mut [f32; 225], h: usize) {
+    if h == 0 {
+        return;
+    }
+    if 225 < h {
+        return;
+    }
+    list[h - 1] = replay::other(list[h - 1]);
 }
 
 // The radius, whether there is an operator, its side, its inverse, the columns and the overlaps. The inverse is not ours to answer.
-fn holds(case: &[u8]) -> bool {
-    let mut columns = [BEFORE; 1125];
-    let mut overlap = [BEFORE; 225];
-    let radius = words::word(case, 0) as usize;
-    let answer = fit_operator::fit_operator(radius, &mut columns, &mut overlap);
-    if flag(answer) != words::word(case, 4) {
+fn is_right(case: &[u8], number: u32, columns: &[f32; 1125], overlap: &[f32; 225]) -> bool {
+    if words::word(case, 4) != flag(number) {
         return false;
     }
-    if words::word(case, 4) == 0 {
-        return columns_hold(case, &columns, 0) && overlap_holds(case, &overlap, 0, 0);
+    if number != 0 {
+        return replay::stands(case, 0, 0, true, columns)
+            && replay::stands(case, 0, 0, true, overlap);
     }
     let side = words::word(case, 8) as usize;
-    if 15 < side {
+    if side != 2 * (words::word(case, 0) as usize) + 1 {
         return false;
     }
     let n = numbers_of(side);
-    columns_hold(case, &columns, n) && overlap_holds(case, &overlap, 300 + 4 * n, 225)
+    replay::stands(case, 300, n, true, columns)
+        && replay::stands(case, replay::place(300, n), 225, true, overlap)
 }
 
-// Whether the first n numbers are the stored ones and the others as before the call.
-fn columns_hold(case: &[u8], columns: &[f32; 1125], n: usize) -> bool
-    requires { ⌜ n ≤ 1125 ⌝ }
-{
-    same(case, 300, columns, n) && rest_is_kept(columns, n)
+// Whether there is an operator: built 0, none 3, and no other number is stored.
+fn flag(number: u32) -> u32 {
+    match number {
+        0 => 1,
+        3 => 0,
+        _ => 2,
+    }
 }
 
-fn overlap_holds(case: &[u8], overlap: &[f32; 225], at: usize, n: usize) -> bool
-    requires { ⌜ (at ≤ 10000) × (n ≤ 225) ⌝ }
-{
-    same(case, at, overlap, n) && rest_is_kept(overlap, n)
-}
-
-// Five numbers a sample.
+// Five numbers a sample, where the side is that of an operator.
 fn numbers_of(side: usize) -> usize
-    requires { ⌜ side ≤ 15 ⌝ }
     ensures { λ n. ⌜ n ≤ 1125 ⌝ }
 {
+    if 15 < side {
+        return 0;
+    }
     5 * (side * side)
-}
-
-fn flag(answer: Operator) -> u32 {
-    match answer {
-        Operator::Built => 1,
-        Operator::Singular => 0,
-        Operator::BadRadius => 2,
-    }
-}
-
-// Whether the first n numbers are those that stand in the case from a byte's place on.
-fn same(case: &[u8], at: usize, list: &[f32], n: usize) -> bool
-    requires { ⌜ (at ≤ 10000) × (n ≤ length (now list)) × (n ≤ 10000) ⌝ }
-{
-    let mut i: usize = 0;
-    while i < n {
-        if floats::f32_to_bits(list[i]) != words::word(case, at + 4 * i) {
-            return false;
-        }
-        i += 1;
-    }
-    true
-}
-
-// Whether the numbers from the place n on are as before the call.
-fn rest_is_kept(list: &[f32], n: usize) -> bool {
-    let mut i = n;
-    while i < list.len() {
-        if list[i] != BEFORE {
-            return false;
-        }
-        i += 1;
-    }
-    true
 }

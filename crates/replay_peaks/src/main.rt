@@ -1,12 +1,11 @@
-// Replays the oracle's list of peak scans (data/peaks.bin): the number, the count, every record written, and a painted output that must stay
-// past the last record, or whole where the scan is refused. A line: cases run, and how many differ.
-use peaks::Peaks;
-ghost use Prim.Native.Nat.{_≤_};
-
-mod paint;
+// Replays the oracle's list of peak scans (data/peaks.bin) through the exported call: the number, the count, every record written, and the
+// paint behind the last record, or everywhere where the scan is refused.
+use replay::Aim;
+use replay::Next;
+use replay::Tally;
 
 // More cases than the list has, so that the loop ends.
-const MOST: u64 = 20000;
+const MOST: u32 = 20000;
 
 fn main() {
     let mut case = [0u8; 20000];
@@ -22,89 +21,94 @@ fn replay_list(case: &mut [u8], values: &mut [f32], out: &mut [f32]) {
         os::fail(name);
         return;
     }
-    let mut cases: u64 = 0;
-    let mut wrong: u64 = 0;
+    let mut tally = Tally::new();
     let mut left = MOST;
     while 0 < left {
-        let answer = next(fd, case, values, out);
-        if answer == 2 {
-            left = 0;
-        } else {
-            left -= 1;
-            cases += 1;
-            wrong += answer;
+        let next = replay::next_case(fd, case);
+        match next {
+            Next::Case(n) => {
+                tally = trial(tally, &mut case[..n], values, out);
+                left -= 1;
+            }
+            Next::End => {
+                tally = tally.ended();
+                left = 0;
+            }
+            Next::Broken => left = 0,
         }
     }
     libc::close(fd);
-    replay::report(name, cases, wrong);
+    replay::report(name, tally);
 }
 
-// One case: 0 where our answer is the stored one, 1 where it differs, 2 where no case is left.
-fn next(fd: i32, case: &mut [u8], values: &mut [f32], out: &mut [f32]) -> u64
-    ensures { λ r. ⌜ r ≤ 2 ⌝ }
-{
-    if replay::next_case(fd, case) == 0 {
-        return 2;
+// One case: as it is stored, with a bit of its answer flipped, and with an element of what was written changed.
+fn trial(tally: Tally, case: &mut [u8], values: &mut [f32], out: &mut [f32]) -> Tally {
+    let turn = tally.cases;
+    let right = holds(case, Aim::none(), values, out);
+    let taken = spoilt_holds(case, turn, values, out);
+    let missed = holds(case, aim(case, turn), values, out);
+    tally.counted(right, !taken & !missed)
+}
+
+fn spoilt_holds(case: &mut [u8], turn: u32, values: &mut [f32], out: &mut [f32]) -> bool {
+    let at = settings(case);
+    let judged = 2 + 3 * (replay::word_from(case, at, 9) as usize);
+    let spoilt = replay::spoil(case, turn, judged, at, 6, 9);
+    let taken = holds(case, Aim::none(), values, out);
+    replay::flip(case, spoilt.place, spoilt.bit);
+    taken
+}
+
+// Part 1 is the count, part 2 the output.
+fn aim(case: &[u8], turn: u32) -> Aim {
+    if turn % 2 == 0 {
+        return Aim::of(turn, 1, 1);
     }
-    if holds(case, values, out) { 0 } else { 1 }
+    let room = replay::word_from(case, settings(case), 5) as usize;
+    Aim::of(turn / 2, 2, room)
 }
 
-// The values stand from the sixth word on; the settings follow them.
-fn holds(case: &[u8], values: &mut [f32], out: &mut [f32]) -> bool {
+// Where the settings stand: behind the values, which begin with the sixth word.
+fn settings(case: &[u8]) -> usize {
+    replay::place(20, words::word(case, 16) as usize)
+}
+
+// Whether the answer, with an element of what was written changed, is the stored one.
+fn holds(case: &[u8], aim: Aim, values: &mut [f32], out: &mut [f32]) -> bool {
     let n = words::word(case, 16) as usize;
-    let at = 20 + 4 * n;
-    let room = words::word(case, at + 20) as usize;
+    let at = settings(case);
+    let room = replay::word_from(case, at, 5) as usize;
     if values.len() < n {
         return false;
     }
     if out.len() < room {
         return false;
     }
-    one(case, at, &mut values[..n], &mut out[..room])
+    one(case, at, aim, &mut values[..n], &mut out[..room])
 }
 
-fn one(case: &[u8], at: usize, values: &mut [f32], out: &mut [f32]) -> bool {
-    paint::load(case, values);
-    paint::paint(out);
-    let answer = ask(case, at, values, out);
-    is_right(case, at, answer, out)
+fn one(case: &[u8], at: usize, aim: Aim, values: &mut [f32], out: &mut [f32]) -> bool {
+    replay::lend(case, 20, values.len(), false, values);
+    replay::lend(case, 0, 0, true, out);
+    let mut count = replay::mark(0) as usize;
+    let number = ask(case, at, values, out, &mut count);
+    replay::hit(out, aim.within(2));
+    let counted = replay::hit_number(count, aim.within(1));
+    replay::corners_stand(case, replay::place(at, 6), number, counted, out)
 }
 
 // The call, with the settings of the case.
-fn ask(case: &[u8], at: usize, values: &[f32], out: &mut [f32]) -> Peaks {
-    peaks::detect_peaks_from_response_with_refine_radius(
+fn ask(case: &[u8], at: usize, values: &[f32], out: &mut [f32], count: &mut usize) -> u32 {
+    chess_corners::chess_corners_peaks(
         values,
         words::long(case, 0) as usize,
         words::long(case, 8) as usize,
         replay::word_from(case, at, 1) as usize,
         replay::word_from(case, at, 2) as usize,
         replay::word_from(case, at, 3) as usize,
-        floats::f32_from_bits(replay::word_from(case, at, 0)),
+        replay::float_from(case, at, 0),
         replay::word_from(case, at, 4),
         out,
+        count,
     )
-}
-
-fn is_right(case: &[u8], at: usize, answer: Peaks, out: &[f32]) -> bool {
-    let want = replay::word_from(case, at, 6);
-    match answer {
-        Peaks::Found(count) => want == 0 && found(case, at, count, out),
-        Peaks::BadImage => want == 10 && paint::painted(0, out),
-        Peaks::BadRadius => want == 11 && paint::painted(0, out),
-        Peaks::BadLimit => want == 12 && paint::painted(0, out),
-        Peaks::BadLength => want == 19 && paint::painted(0, out),
-        Peaks::TooMany => want == 16 && paint::painted(0, out),
-    }
-}
-
-// The count, the records, and the paint behind them.
-fn found(case: &[u8], at: usize, count: usize, out: &[f32]) -> bool {
-    let stored = replay::word_from(case, at, 9) as usize;
-    if count != stored {
-        return false;
-    }
-    if !paint::same(case, at, 10, 3 * stored, out) {
-        return false;
-    }
-    paint::painted(3 * stored, out)
 }

@@ -21,25 +21,18 @@ pub fn covariance_holds(case: &[u8]) -> bool {
 }
 
 fn spread_is(case: &[u8], overlap: &[f32; 225], j: Jacobian) -> bool {
-    let tx = numbers::float(case, 4, 0);
-    let ty = numbers::float(case, 4, 1);
+    let tx = replay::float_from(case, 4, 0);
+    let ty = replay::float_from(case, 4, 1);
     let v = noise::covariance(overlap, tx, ty, j, moving::matrix(case, 52));
     match v {
         Covariance::Known { xx, xy, yy } => {
             words::word(case, 68) == 1
-                && numbers::is(case, 72, 0, xx)
-                && numbers::is(case, 72, 1, xy)
-                && numbers::is(case, 72, 2, yy)
+                && replay::float_stands(case, 72, 0, xx)
+                && replay::float_stands(case, 72, 1, xy)
+                && replay::float_stands(case, 72, 2, yy)
         }
-        Covariance::Unknown => unknown(case),
+        Covariance::Unknown => replay::zeros(case, 0, 17, 21),
     }
-}
-
-fn unknown(case: &[u8]) -> bool {
-    words::word(case, 68) == 0
-        && words::word(case, 72) == 0
-        && words::word(case, 76) == 0
-        && words::word(case, 80) == 0
 }
 
 // The radius and the patch, which is an image with nothing about it; the five coefficients, from a whole word on.
@@ -53,6 +46,15 @@ pub fn fit_holds(case: &[u8]) -> bool {
         return false;
     }
     fit_is(case, &case[4..4 + n], radius)
+}
+
+// Where the coefficients of a fit stand: behind the patch, at a whole word.
+pub fn coefficients(case: &[u8]) -> usize {
+    let radius = words::word(case, 0) as usize;
+    if 7 < radius {
+        return 0;
+    }
+    replay::place(4, (samples_of(radius) + 3) / 4)
 }
 
 fn samples_of(radius: usize) -> usize
@@ -75,5 +77,5 @@ fn fit_is(case: &[u8], patch: &[u8], radius: usize) -> bool
         height: side,
     };
     let coefs = fits::fit_patch(patch, sizes, radius, radius, radius, &columns);
-    numbers::are(case, 4 + (patch.len() + 3) / 4 * 4, coefs)
+    numbers::are(case, coefficients(case), coefs)
 }

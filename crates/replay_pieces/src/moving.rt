@@ -1,5 +1,6 @@
 // How a window's fit changes with it: the blend of four fits and its slope, the saddle's sensitivity, the step.
 use crate::numbers;
+use replay::Spoilt;
 use saddle_fit::Corners;
 use saddle_fit::Jacobian;
 use saddle_fit::Matrix;
@@ -12,8 +13,8 @@ use saddle_fit::sensitivity;
 // Four fits and the fractions; the blend and the two slopes.
 pub fn blend_holds(case: &[u8]) -> bool {
     let c = corners(case);
-    let tx = numbers::float(case, 0, 20);
-    let ty = numbers::float(case, 0, 21);
+    let tx = replay::float_from(case, 0, 20);
+    let ty = replay::float_from(case, 0, 21);
     if !numbers::are(case, 88, between::blend(c, tx, ty)) {
         return false;
     }
@@ -37,8 +38,8 @@ fn slope_is(case: &[u8], s: Slope) -> bool {
 // M and u; whether there is a Newton step, and the step. Without one ours is the plain step.
 pub fn step_holds(case: &[u8]) -> bool {
     let f = PatchSaddle {
-        ux: numbers::float(case, 16, 0),
-        uy: numbers::float(case, 16, 1),
+        ux: replay::float_from(case, 16, 0),
+        uy: replay::float_from(case, 16, 1),
         a: 0.0,
         b: 0.0,
         c: 0.0,
@@ -51,20 +52,25 @@ pub fn step_holds(case: &[u8]) -> bool {
     move_is(case, 16, step) && no_step(case)
 }
 
+// The flag and the step.
+pub fn spoil_step(turn: u32, case: &mut [u8]) -> Spoilt {
+    replay::spoil_at(case, turn, 3, replay::place(24, replay::pick(turn, 3)), 0)
+}
+
 fn no_step(case: &[u8]) -> bool {
-    words::word(case, 24) == 0 && words::word(case, 28) == 0 && words::word(case, 32) == 0
+    replay::zeros(case, 0, 6, 9)
 }
 
 fn move_is(case: &[u8], at: usize, step: Move) -> bool {
-    numbers::is(case, at, 0, step.x) && numbers::is(case, at, 1, step.y)
+    replay::float_stands(case, at, 0, step.x) && replay::float_stands(case, at, 1, step.y)
 }
 
 pub fn matrix(case: &[u8], at: usize) -> Matrix {
     Matrix {
-        m00: numbers::float(case, at, 0),
-        m01: numbers::float(case, at, 1),
-        m10: numbers::float(case, at, 2),
-        m11: numbers::float(case, at, 3),
+        m00: replay::float_from(case, at, 0),
+        m01: replay::float_from(case, at, 1),
+        m10: replay::float_from(case, at, 2),
+        m11: replay::float_from(case, at, 3),
     }
 }
 
@@ -81,12 +87,12 @@ pub fn sensitivity_holds(case: &[u8]) -> bool {
 
 fn saddle(case: &[u8]) -> PatchSaddle {
     PatchSaddle {
-        ux: numbers::float(case, 0, 0),
-        uy: numbers::float(case, 0, 1),
-        a: numbers::float(case, 0, 2),
-        b: numbers::float(case, 0, 3),
-        c: numbers::float(case, 0, 4),
-        det_h: numbers::float(case, 0, 5),
+        ux: replay::float_from(case, 0, 0),
+        uy: replay::float_from(case, 0, 1),
+        a: replay::float_from(case, 0, 2),
+        b: replay::float_from(case, 0, 3),
+        c: replay::float_from(case, 0, 4),
+        det_h: replay::float_from(case, 0, 5),
     }
 }
 
@@ -97,8 +103,8 @@ fn jacobian_is(case: &[u8], j: Jacobian) -> bool {
 }
 
 fn matrix_is(case: &[u8], m: Matrix) -> bool {
-    numbers::is(case, 104, 0, m.m00)
-        && numbers::is(case, 104, 1, m.m01)
-        && numbers::is(case, 104, 2, m.m10)
-        && numbers::is(case, 104, 3, m.m11)
+    replay::float_stands(case, 104, 0, m.m00)
+        && replay::float_stands(case, 104, 1, m.m01)
+        && replay::float_stands(case, 104, 2, m.m10)
+        && replay::float_stands(case, 104, 3, m.m11)
 }

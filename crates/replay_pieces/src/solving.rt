@@ -1,5 +1,6 @@
 // Solving a fit: five coefficients, the margin and the least determinant; the outcome, u, the determinant and the score.
 use crate::numbers;
+use replay::Spoilt;
 use saddle_fit::PatchSaddle;
 use saddle_fit::SaddlePointConfig;
 use saddle_fit::Solved;
@@ -17,10 +18,17 @@ pub fn solve_holds(case: &[u8]) -> bool {
 fn limits(case: &[u8]) -> SaddlePointConfig {
     SaddlePointConfig {
         radius: 0,
-        det_margin: numbers::float(case, 0, 5),
+        det_margin: replay::float_from(case, 0, 5),
         max_offset: 0.0,
-        min_abs_det: numbers::float(case, 0, 6),
+        min_abs_det: replay::float_from(case, 0, 6),
     }
+}
+
+// Of the outcome only whether the fit is solved is ours to answer: the bits below the third tell the three refusals apart.
+pub fn spoil(turn: u32, case: &mut [u8]) -> Spoilt {
+    let word = replay::pick(turn, 5);
+    let low = if word == 0 { 2 } else { 0 };
+    replay::spoil_at(case, turn, 5, replay::place(28, word), low)
 }
 
 // Which of the three tests refused it is not ours to answer.
@@ -32,27 +40,29 @@ fn refused(case: &[u8], det: f32) -> bool {
     if 7 < outcome {
         return false;
     }
-    if !numbers::is(case, 0, 10, det) {
+    if !replay::float_stands(case, 0, 10, det) {
         return false;
     }
-    words::word(case, 32) == 0 && words::word(case, 36) == 0 && words::word(case, 44) == 0
+    replay::zeros(case, 0, 8, 10) && words::word(case, 44) == 0
 }
 
 fn fitted(case: &[u8], f: PatchSaddle) -> bool {
     if words::word(case, 28) != 0 {
         return false;
     }
-    if !numbers::is(case, 0, 8, f.ux) {
+    if !replay::float_stands(case, 0, 8, f.ux) {
         return false;
     }
-    if !numbers::is(case, 0, 9, f.uy) {
+    if !replay::float_stands(case, 0, 9, f.uy) {
         return false;
     }
-    if !numbers::is(case, 0, 10, f.det_h) {
+    if !replay::float_stands(case, 0, 10, f.det_h) {
         return false;
     }
-    if !numbers::is(case, 0, 11, floats::sqrt_f32(-f.det_h)) {
+    if !replay::float_stands(case, 0, 11, floats::sqrt_f32(-f.det_h)) {
         return false;
     }
-    numbers::is(case, 0, 0, f.a) && numbers::is(case, 0, 1, f.b) && numbers::is(case, 0, 2, f.c)
+    replay::float_stands(case, 0, 0, f.a)
+        && replay::float_stands(case, 0, 1, f.b)
+        && replay::float_stands(case, 0, 2, f.c)
 }

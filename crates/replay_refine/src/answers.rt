@@ -1,78 +1,72 @@
-// An answer against the stored one, in the words of a seed's record: 0 and 1 the seed, 2 the number, 5 to 7 the place and the score, 8 converged,
-// 9 the tries, 10 whether there is a covariance, 11 to 13 its entries. Who decided and why is not ours to answer.
-use saddle_fit::Covariance;
-use saddle_point::Estimate;
-use saddle_point::Refined;
+// An answer against the stored one, in the words of a seed's record: 2 the number, 5 to 7 the place and the score, 8 converged, 9 the tries,
+// 10 whether there is a covariance, 11 to 13 its entries. Who decided and why is not ours to answer.
 
-pub fn same(seed: &[u8], answer: Refined) -> bool {
-    let want = words::word(seed, 8);
-    match answer {
-        Refined::Accepted(e) => want == 0 && accepted(seed, e),
-        Refined::Rejected(det) => want == 1 && unmoved(seed, det),
-        Refined::OutOfBounds => want == 2 && unmoved(seed, 0.0),
-        Refined::IllConditioned(det) => want == 3 && unmoved(seed, det),
-        Refined::BadImage => want == 10 && zero_from(seed, 5),
-        Refined::BadRadius => want == 11 && zero_from(seed, 5),
-        Refined::BadLimit => want == 12 && zero_from(seed, 5),
+ghost use Prim.Native.Nat.{_≤_};
+
+// The number, what the answer gives, paint on what it does not give, and zeros stored there. The element number h of the state is changed.
+pub fn are(
+    case: &[u8],
+    at: usize,
+    number: u32,
+    place: &[f32; 3],
+    state: &[u32; 3],
+    h: usize,
+    covariance: &[f32; 3],
+) -> bool {
+    if number != replay::word_from(case, at, 2) {
+        return false;
     }
+    let given = given(case, at, number);
+    if !replay::stands(case, replay::place(at, 5), part(given, 0), true, place) {
+        return false;
+    }
+    if !replay::stands(
+        case,
+        replay::place(at, 11),
+        part(given, 6),
+        true,
+        covariance,
+    ) {
+        return false;
+    }
+    state_stands(case, at, part(given, 3), state, h) && replay::zeros(case, at, 5 + given, 14)
 }
 
-fn accepted(seed: &[u8], e: Estimate) -> bool {
-    if !is(seed, 20, e.x) {
-        return false;
+// How many of the nine words an answer gives: none where it is refused, the place where the seed is not accepted, else all but an unknown covariance.
+fn given(case: &[u8], at: usize, number: u32) -> usize
+    ensures { λ r. ⌜ r ≤ 9 ⌝ }
+{
+    if 3 < number {
+        return 0;
     }
-    if !is(seed, 24, e.y) {
-        return false;
+    if 0 < number {
+        return 3;
     }
-    if !is(seed, 28, e.score) {
-        return false;
+    if replay::word_from(case, at, 10) == 1 {
+        return 9;
     }
-    if words::word(seed, 32) != flag(e.converged) {
-        return false;
-    }
-    if words::word(seed, 36) != e.tries {
-        return false;
-    }
-    let v = e.covariance;
-    spread(seed, v)
+    6
 }
 
-fn spread(seed: &[u8], v: Covariance) -> bool {
-    match v {
-        Covariance::Known { xx, xy, yy } => {
-            words::word(seed, 40) == 1 && is(seed, 44, xx) && is(seed, 48, xy) && is(seed, 52, yy)
-        }
-        Covariance::Unknown => zero_from(seed, 10),
-    }
+// How many words of the part that begins at a word are given: all three or none.
+fn part(given: usize, from: usize) -> usize {
+    if from < given { 3 } else { 0 }
 }
 
-// A seed that was not accepted stays where it is; it has a score and nothing else.
-fn unmoved(seed: &[u8], score: f32) -> bool {
-    if words::word(seed, 20) != words::word(seed, 0) {
-        return false;
-    }
-    if words::word(seed, 24) != words::word(seed, 4) {
-        return false;
-    }
-    is(seed, 28, score) && zero_from(seed, 8)
+fn state_stands(case: &[u8], at: usize, n: usize, state: &[u32; 3], h: usize) -> bool {
+    let from = replay::place(at, 8);
+    let converged = replay::hit_number(wide(state[0]), h);
+    let tries = replay::hit_number(wide(state[1]), less(h, 1));
+    let known = replay::hit_number(wide(state[2]), less(h, 2));
+    (converged == replay::wanted(case, from, n, true, 0) as usize)
+        & (tries == replay::wanted(case, from, n, true, 1) as usize)
+        & (known == replay::wanted(case, from, n, true, 2) as usize)
 }
 
-fn is(seed: &[u8], at: usize, v: f32) -> bool {
-    floats::f32_to_bits(v) == words::word(seed, at)
+fn less(h: usize, n: usize) -> usize {
+    if h < n { 0 } else { h - n }
 }
 
-fn flag(v: bool) -> u32 {
-    if v { 1 } else { 0 }
-}
-
-// Every word of the record from number `first` on is zero.
-fn zero_from(seed: &[u8], first: usize) -> bool {
-    let mut i = first;
-    while i < 14 {
-        if words::word(seed, 4 * i) != 0 {
-            return false;
-        }
-        i += 1;
-    }
-    true
+fn wide(n: u32) -> usize {
+    n as usize
 }

@@ -1,20 +1,18 @@
-// Replays the oracle's list of single seeds (data/refine.bin) on both calls of the refiner: the one that builds its own operator, and the one that
-// is lent the operator built once for the case. A line a call: seeds refined, and how many answers differ.
-use fit_operator::Operator;
-ghost use Prim.Native.Nat.{_≤_};
+// Replays the oracle's list of single seeds (data/refine.bin) through both exported calls of the refiner: the one that builds its own operator, and
+// the one that is lent the operator built once for the case. A line a call; each seed counts as a case.
+use replay::Next;
+use replay::Tally;
 
 mod answers;
 mod seeds;
 
 // More cases than the list has, so that the loop ends.
-const MOST: u64 = 2000;
+const MOST: u32 = 2000;
 
-// How many seeds were refined and how many answers differ, by each call.
-pub struct Counts {
-    pub own: u64,
-    pub own_wrong: u64,
-    pub lent: u64,
-    pub lent_wrong: u64,
+// What is counted by each call.
+pub struct Both {
+    pub own: Tally,
+    pub lent: Tally,
 }
 
 fn main() {
@@ -29,71 +27,51 @@ fn replay_list(case: &mut [u8]) {
         os::fail(name);
         return;
     }
-    let mut own: u64 = 0;
-    let mut own_wrong: u64 = 0;
-    let mut lent: u64 = 0;
-    let mut lent_wrong: u64 = 0;
+    let mut tally = new();
     let mut left = MOST;
     while 0 < left {
-        if replay::next_case(fd, case) == 0 {
-            left = 0;
-        } else {
-            let counts = counted(case);
-            left -= 1;
-            own += counts.own;
-            own_wrong += counts.own_wrong;
-            lent += counts.lent;
-            lent_wrong += counts.lent_wrong;
+        let next = replay::next_case(fd, case);
+        match next {
+            Next::Case(n) => {
+                tally = trial(tally, &mut case[..n]);
+                left -= 1;
+            }
+            Next::End => {
+                tally = ended(tally);
+                left = 0;
+            }
+            Next::Broken => left = 0,
         }
     }
     libc::close(fd);
-    replay::report(b"refine.bin refine", own, own_wrong);
-    replay::report(b"refine.bin refine_with", lent, lent_wrong);
+    report(tally);
 }
 
-// One case. The image's bytes stand from the sixth word on; what follows them begins at a whole word. A case that is not whole counts as a wrong answer.
-fn counted(case: &[u8]) -> Counts
-    ensures { λ r. ⌜ (r .own ≤ 100) × (r .«own_wrong» ≤ 100) × (r .lent ≤ 100) × (r .«lent_wrong» ≤ 100) ⌝ }
-{
-    let n = words::word(case, 16) as usize;
-    let end = 20 + n;
-    let at = 20 + (n + 3) / 4 * 4;
-    if case.len() < at {
-        return own_alone(1, 1);
-    }
-    both(case, &case[20..end], &case[at..])
+fn new() -> Both {
+    let own = Tally::new();
+    let lent = Tally::new();
+    Both { own, lent }
 }
 
-// The call that is lent an operator is passed over where there is none.
-fn both(head: &[u8], img: &[u8], rest: &[u8]) -> Counts
-    ensures { λ r. ⌜ (r .own ≤ 100) × (r .«own_wrong» ≤ 100) × (r .lent ≤ 100) × (r .«lent_wrong» ≤ 100) ⌝ }
-{
-    let k = seeds::number(rest);
-    let own_wrong = seeds::own_wrong(head, img, rest);
-    let mut columns = [0.0f32; 1125];
-    let mut overlap = [0.0f32; 225];
-    let radius = words::word(rest, 0) as usize;
-    let operator = fit_operator::fit_operator(radius, &mut columns, &mut overlap);
-    match operator {
-        Operator::Built => Counts {
-            own: k,
-            own_wrong,
-            lent: k,
-            lent_wrong: seeds::lent_wrong(head, img, rest, &columns, &overlap),
-        },
-        Operator::Singular => own_alone(k, own_wrong),
-        Operator::BadRadius => own_alone(k, own_wrong),
+// The seeds of a case by each call.
+fn trial(tally: Both, case: &mut [u8]) -> Both {
+    let own = seeds::own(tally.own, case);
+    let lent = seeds::lent(tally.lent, case);
+    Both { own, lent }
+}
+
+fn ended(tally: Both) -> Both {
+    let own = tally.own;
+    let lent = tally.lent;
+    let own_ended = own.ended();
+    let lent_ended = lent.ended();
+    Both {
+        own: own_ended,
+        lent: lent_ended,
     }
 }
 
-fn own_alone(own: u64, own_wrong: u64) -> Counts
-    requires { ⌜ (own ≤ 100) × («own_wrong» ≤ 100) ⌝ }
-    ensures { λ r. ⌜ (r .own ≤ 100) × (r .«own_wrong» ≤ 100) × (r .lent ≤ 100) × (r .«lent_wrong» ≤ 100) ⌝ }
-{
-    Counts {
-        own,
-        own_wrong,
-        lent: 0,
-        lent_wrong: 0,
-    }
+fn report(tally: Both) {
+    replay::report(b"refine.bin refine", tally.own);
+    replay::report(b"refine.bin refine_with", tally.lent);
 }

@@ -1,123 +1,190 @@
-// The seeds of a case: `head` begins with the image's size, `rest` with the settings, and a record of fourteen words for each seed follows them.
+// The seeds of a case. Behind the image stand the settings, whether a covariance is wanted, the number of seeds, and fourteen words for each.
 use crate::answers;
-use imageview::Sizes;
-use saddle_fit::SaddlePointConfig;
-ghost use Prim.Native.Nat.{_<_, _≤_};
+use replay::Aim;
+use replay::Tally;
+ghost use mathlib.Core.Path.{_≡_};
+ghost use Prim.Native.Nat.{_≤_};
+ghost use lib.ListN.{length};
+
+// Every seed by the call that builds its own operator.
+pub fn own(tally: Tally, case: &mut [u8]) -> Tally {
+    let columns = [0.0f32; 1125];
+    let overlap = [0.0f32; 225];
+    every(tally, case, false, &columns, &overlap)
+}
+
+// The same by the call that is lent the operator; where there is none for the radius, the case is passed over.
+pub fn lent(tally: Tally, case: &mut [u8]) -> Tally {
+    let mut columns = [0.0f32; 1125];
+    let mut overlap = [0.0f32; 225];
+    let radius = words::word(case, replay::behind_image(case)) as usize;
+    if chess_corners::chess_corners_fit_operator(radius, &mut columns, &mut overlap) != 0 {
+        return tally;
+    }
+    every(tally, case, true, &columns, &overlap)
+}
+
+fn every(
+    start: Tally,
+    case: &mut [u8],
+    lent: bool,
+    columns: &[f32; 1125],
+    overlap: &[f32; 225],
+) -> Tally {
+    let at = replay::place(replay::behind_image(case), 6);
+    let k = number(case);
+    let mut tally = start;
+    let mut i = 0;
+    while i < k {
+        tally = trial(
+            tally,
+            case,
+            replay::place(at, 14 * i),
+            lent,
+            columns,
+            overlap,
+        );
+        i += 1;
+    }
+    tally
+}
 
 // How many seeds there are; no case has more than a hundred.
-pub fn number(rest: &[u8]) -> u64
+fn number(case: &[u8]) -> usize
     ensures { λ r. ⌜ r ≤ 100 ⌝ }
 {
-    let k = words::word(rest, 20) as u64;
+    let k = replay::word_from(case, replay::behind_image(case), 5) as usize;
     if 100 < k {
         return 100;
     }
     k
 }
 
-// How many answers differ where each call builds its own operator.
-pub fn own_wrong(head: &[u8], img: &[u8], rest: &[u8]) -> u64
-    ensures { λ r. ⌜ r ≤ 100 ⌝ }
-{
-    let k = number(rest);
-    let mut wrong: u64 = 0;
-    let mut i: u64 = 0;
-    while i < k {
-        let seed = record(rest, i as usize);
-        wrong += differs(own_holds(head, img, rest, seed));
-        i += 1;
-    }
-    wrong
-}
-
-// The same with the lent operator.
-pub fn lent_wrong(
-    head: &[u8],
-    img: &[u8],
-    rest: &[u8],
+// One seed: as its answer is stored, with a bit of it flipped, and with an element of what was written changed.
+fn trial(
+    tally: Tally,
+    case: &mut [u8],
+    at: usize,
+    lent: bool,
     columns: &[f32; 1125],
     overlap: &[f32; 225],
-) -> u64
-    ensures { λ r. ⌜ r ≤ 100 ⌝ }
-{
-    let k = number(rest);
-    let mut wrong: u64 = 0;
-    let mut i: u64 = 0;
-    while i < k {
-        let seed = record(rest, i as usize);
-        wrong += differs(lent_holds(head, img, rest, seed, columns, overlap));
-        i += 1;
-    }
-    wrong
+) -> Tally {
+    let turn = tally.cases;
+    let right = holds(case, at, Aim::none(), lent, columns, overlap);
+    let spoilt = replay::spoil(case, turn, 10, at, 2, 5);
+    let taken = holds(case, at, Aim::none(), lent, columns, overlap);
+    replay::flip(case, spoilt.place, spoilt.bit);
+    // Part 1 is the place, part 2 the state, part 3 the covariance.
+    let aim = Aim::of(turn / 3, 1 + turn % 3, 3);
+    let missed = holds(case, at, aim, lent, columns, overlap);
+    tally.counted(right, !taken & !missed)
 }
 
-fn differs(holds: bool) -> u64
-    ensures { λ r. ⌜ r ≤ 1 ⌝ }
-{
-    if holds { 0 } else { 1 }
-}
-
-// The record of a seed, empty where it is not whole.
-fn record(rest: &[u8], i: usize) -> &[u8]
-    requires { ⌜ i < 100 ⌝ }
-{
-    let from = 24 + 56 * i;
-    if rest.len() < from + 56 {
-        return &rest[0..0];
-    }
-    &rest[from..from + 56]
-}
-
-fn own_holds(head: &[u8], img: &[u8], rest: &[u8], seed: &[u8]) -> bool {
-    let answer = saddle_point::refine(
-        img,
-        sizes(head),
-        settings(rest),
-        float(seed, 0),
-        float(seed, 4),
-        words::word(rest, 16) == 1,
-    );
-    answers::same(seed, answer)
-}
-
-fn lent_holds(
-    head: &[u8],
-    img: &[u8],
-    rest: &[u8],
-    seed: &[u8],
+// Whether the answer, with an element of what was written changed, is the stored one.
+fn holds(
+    case: &[u8],
+    at: usize,
+    aim: Aim,
+    lent: bool,
     columns: &[f32; 1125],
     overlap: &[f32; 225],
 ) -> bool {
-    let answer = saddle_point::refine_with(
-        img,
-        sizes(head),
-        settings(rest),
-        float(seed, 0),
-        float(seed, 4),
-        words::word(rest, 16) == 1,
+    let mut place = [0.0f32; 3];
+    let mut covariance = [0.0f32; 3];
+    replay::lend(case, 0, 0, true, &mut place);
+    replay::lend(case, 0, 0, true, &mut covariance);
+    let mut state = [replay::mark(0), replay::mark(1), replay::mark(2)];
+    let number = ask(
+        case,
+        at,
+        lent,
         columns,
         overlap,
+        &mut place,
+        &mut state,
+        &mut covariance,
     );
-    answers::same(seed, answer)
+    let mut found = copied(&place);
+    let mut spread = copied(&covariance);
+    replay::hit(&mut found, aim.within(1));
+    replay::hit(&mut spread, aim.within(3));
+    answers::are(case, at, number, &found, &state, aim.within(2), &spread)
 }
 
-fn sizes(head: &[u8]) -> Sizes {
-    Sizes {
-        width: words::long(head, 0) as usize,
-        height: words::long(head, 8) as usize,
+// The same numbers, of a length that is known.
+fn copied(a: &[f32; 3]) -> [f32; 3]
+    ensures { λ r. ⌜ 3 ≡ length r ⌝ }
+{
+    [a[0], a[1], a[2]]
+}
+
+fn ask(
+    case: &[u8],
+    at: usize,
+    lent: bool,
+    columns: &[f32; 1125],
+    overlap: &[f32; 225],
+    place: &mut [f32; 3],
+    state: &mut [u32; 3],
+    covariance: &mut [f32; 3],
+) -> u32 {
+    if lent {
+        return ask_with(case, at, columns, overlap, place, state, covariance);
     }
+    ask_alone(case, at, place, state, covariance)
 }
 
-// A radius below zero becomes one above every limit.
-fn settings(rest: &[u8]) -> SaddlePointConfig {
-    SaddlePointConfig {
-        radius: words::word(rest, 0) as usize,
-        det_margin: float(rest, 4),
-        max_offset: float(rest, 8),
-        min_abs_det: float(rest, 12),
-    }
+// The calls, with the image, the settings and the seed of the case. A radius below zero becomes one above every limit.
+fn ask_alone(
+    case: &[u8],
+    at: usize,
+    place: &mut [f32; 3],
+    state: &mut [u32; 3],
+    covariance: &mut [f32; 3],
+) -> u32 {
+    let settings = replay::behind_image(case);
+    chess_corners::chess_corners_refine(
+        replay::image(case),
+        words::long(case, 0) as usize,
+        words::long(case, 8) as usize,
+        replay::word_from(case, settings, 0) as usize,
+        replay::float_from(case, settings, 1),
+        replay::float_from(case, settings, 2),
+        replay::float_from(case, settings, 3),
+        replay::float_from(case, at, 0),
+        replay::float_from(case, at, 1),
+        replay::word_from(case, settings, 4),
+        place,
+        state,
+        covariance,
+    )
 }
 
-fn float(bytes: &[u8], at: usize) -> f32 {
-    floats::f32_from_bits(words::word(bytes, at))
+fn ask_with(
+    case: &[u8],
+    at: usize,
+    columns: &[f32; 1125],
+    overlap: &[f32; 225],
+    place: &mut [f32; 3],
+    state: &mut [u32; 3],
+    covariance: &mut [f32; 3],
+) -> u32 {
+    let settings = replay::behind_image(case);
+    chess_corners::chess_corners_refine_with(
+        replay::image(case),
+        words::long(case, 0) as usize,
+        words::long(case, 8) as usize,
+        replay::word_from(case, settings, 0) as usize,
+        replay::float_from(case, settings, 1),
+        replay::float_from(case, settings, 2),
+        replay::float_from(case, settings, 3),
+        replay::float_from(case, at, 0),
+        replay::float_from(case, at, 1),
+        replay::word_from(case, settings, 4),
+        columns,
+        overlap,
+        place,
+        state,
+        covariance,
+    )
 }

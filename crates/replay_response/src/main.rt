@@ -1,15 +1,12 @@
-// Replays the oracle's list of response patches (data/response.bin): the number, the size, every value written, and a painted buffer that a
-// refusal must leave. A line: cases run, and how many differ.
-use imageview::Sizes;
-use response::Response;
-use response::Roi;
-
-mod paint;
-
+// Replays the oracle's list of response patches (data/response.bin) through the exported call: the number, the size, every value written, and the
+// paint that a refusal leaves.
+use replay::Aim;
+use replay::Next;
+use replay::Tally;
 ghost use Prim.Native.Nat.{_≤_};
 
 // More cases than the list has, so that the loop ends.
-const MOST: u64 = 20000;
+const MOST: u32 = 20000;
 
 fn main() {
     let mut case = [0u8; 70000];
@@ -24,88 +21,133 @@ fn replay_list(case: &mut [u8], out: &mut [f32]) {
         os::fail(name);
         return;
     }
-    let mut cases: u64 = 0;
-    let mut wrong: u64 = 0;
+    let mut tally = Tally::new();
     let mut left = MOST;
     while 0 < left {
-        let answer = next(fd, case, out);
-        if answer == 2 {
-            left = 0;
-        } else {
-            left -= 1;
-            cases += 1;
-            wrong += answer;
+        let next = replay::next_case(fd, case);
+        match next {
+            Next::Case(n) => {
+                tally = trial(tally, &mut case[..n], out);
+                left -= 1;
+            }
+            Next::End => {
+                tally = tally.ended();
+                left = 0;
+            }
+            Next::Broken => left = 0,
         }
     }
     libc::close(fd);
-    replay::report(name, cases, wrong);
+    replay::report(name, tally);
 }
 
-// One case: 0 where our answer is the stored one, 1 where it differs, 2 where no case is left.
-fn next(fd: i32, case: &mut [u8], out: &mut [f32]) -> u64
-    ensures { λ r. ⌜ r ≤ 2 ⌝ }
+// One case: as it is stored, with a bit of its answer flipped, and with an element of what was written changed.
+fn trial(tally: Tally, case: &mut [u8], out: &mut [f32]) -> Tally {
+    let turn = tally.cases;
+    let right = holds(case, Aim::none(), out);
+    let taken = spoilt_holds(case, turn, out);
+    let missed = holds(case, aim(case, turn), out);
+    tally.counted(right, !taken & !missed)
+}
+
+fn spoilt_holds(case: &mut [u8], turn: u32, out: &mut [f32]) -> bool {
+    let at = replay::behind_image(case);
+    let number = replay::word_from(case, at, 42);
+    let judged = 3 + values(number, replay::word_from(case, at, 41) as usize);
+    let spoilt = replay::spoil(case, turn, judged, at, 42, 45);
+    let taken = holds(case, Aim::none(), out);
+    replay::flip(case, spoilt.place, spoilt.bit);
+    taken
+}
+
+// How many values an answer with a number has: as many as the buffer takes, or none.
+fn values(number: u32, room: usize) -> usize
+    ensures { λ r. ⌜ r ≤ room ⌝ }
 {
-    if replay::next_case(fd, case) == 0 {
-        return 2;
-    }
-    if holds(case, out) { 0 } else { 1 }
+    if number == 0 { room } else { 0 }
 }
 
-// The image's bytes stand from the sixth word on; what follows them begins at a whole word.
-fn holds(case: &[u8], out: &mut [f32]) -> bool {
-    let n = words::word(case, 16) as usize;
-    let end = 20 + n;
-    let at = 20 + (n + 3) / 4 * 4;
-    if case.len() < end {
-        return false;
+// Part 1 is the width, part 2 the height, part 3 the buffer.
+fn aim(case: &[u8], turn: u32) -> Aim {
+    if turn % 3 < 2 {
+        return Aim::of(turn, 1 + turn % 3, 1);
     }
-    let room = words::word(case, at + 164) as usize;
+    let room = replay::word_from(case, replay::behind_image(case), 41) as usize;
+    Aim::of(turn / 3, 3, room)
+}
+
+// Whether the answer, with an element of what was written changed, is the stored one.
+fn holds(case: &[u8], aim: Aim, out: &mut [f32]) -> bool {
+    let at = replay::behind_image(case);
+    let room = replay::word_from(case, at, 41) as usize;
     if out.len() < room {
         return false;
     }
-    one(case, at, &case[20..end], &mut out[..room])
+    one(case, at, aim, &mut out[..room])
 }
 
-fn one(case: &[u8], at: usize, img: &[u8], out: &mut [f32]) -> bool {
-    paint::paint(out);
-    let width = words::long(case, 0) as usize;
-    let height = words::long(case, 8) as usize;
+fn one(case: &[u8], at: usize, aim: Aim, out: &mut [f32]) -> bool {
+    replay::lend(case, 0, 0, true, out);
+    let mut width = replay::mark(0) as usize;
+    let mut height = replay::mark(0) as usize;
+    let number = ask(case, at, out, &mut width, &mut height);
+    replay::hit(out, aim.within(3));
+    let w = replay::hit_number(width, aim.within(1));
+    let h = replay::hit_number(height, aim.within(2));
+    is_right(case, at, number, w, h, out)
+}
+
+// The call, with the ring, the region and the rest of the case.
+fn ask(
+    case: &[u8],
+    at: usize,
+    out: &mut [f32],
+    out_width: &mut usize,
+    out_height: &mut usize,
+) -> u32 {
     let mut ring = [0i32; 32];
-    paint::load_ring(case, at, &mut ring);
-    let answer = response::chess_response_u8_patch(
-        img,
-        Sizes { width, height },
+    load_ring(case, at, &mut ring);
+    chess_corners::chess_corners_response(
+        replay::image(case),
+        words::long(case, 0) as usize,
+        words::long(case, 8) as usize,
         &ring,
         replay::word_from(case, at, 0) as usize,
-        region(case, at),
+        replay::long_from(case, at, 33),
+        replay::long_from(case, at, 35),
+        replay::long_from(case, at, 37),
+        replay::long_from(case, at, 39),
         out,
-    );
-    let want = replay::word_from(case, at, 42);
-    match answer {
-        Response::Written { width, height } => want == 0 && written(case, at, width, height, out),
-        Response::BadImage => want == 10 && paint::painted(out),
-        Response::BadRadius => want == 11 && paint::painted(out),
-        Response::BadRing => want == 13 && paint::painted(out),
-        Response::EmptyRoi => want == 14 && paint::painted(out),
-        Response::BadOut => want == 15 && paint::painted(out),
+        out_width,
+        out_height,
+    )
+}
+
+// The sixteen pairs, which follow the radius.
+fn load_ring(case: &[u8], at: usize, ring: &mut [i32; 32]) {
+    let mut i = 0;
+    while i < 32 {
+        ring[i] = words::int(case, replay::place(at, i + 1));
+        i += 1;
     }
 }
 
-fn region(case: &[u8], at: usize) -> Roi {
-    Roi {
-        x0: replay::long_from(case, at, 33),
-        y0: replay::long_from(case, at, 35),
-        x1: replay::long_from(case, at, 37),
-        y1: replay::long_from(case, at, 39),
-    }
-}
-
-fn written(case: &[u8], at: usize, width: usize, height: usize, out: &[f32]) -> bool {
-    if width != replay::word_from(case, at, 45) as usize {
+// The number, the size, the values, and paint where there are none.
+fn is_right(case: &[u8], at: usize, number: u32, width: usize, height: usize, out: &[f32]) -> bool {
+    if number != replay::word_from(case, at, 42) {
         return false;
     }
-    if height != replay::word_from(case, at, 46) as usize {
+    if !replay::counts(number, replay::word_from(case, at, 45), width) {
         return false;
     }
-    paint::same(case, at, 47, out)
+    if !replay::counts(number, replay::word_from(case, at, 46), height) {
+        return false;
+    }
+    replay::stands(
+        case,
+        replay::place(at, 47),
+        values(number, out.len()),
+        true,
+        out,
+    )
 }

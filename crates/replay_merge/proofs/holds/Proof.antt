@@ -7,38 +7,23 @@ use borrow.Author.Needs.{needs}
 use Rattle.replay_merge.proofs.holds.Statement.{statement}
 use Rattle.replay_merge.proofs.holds.Tie as tie
 
+settings-requires : tie.Need-settings-requires
+settings-requires c κs = search needs
+
 word-requires : tie.Need-word-requires
 word-requires c κs = search needs
 
 cast-n : tie.Need-cast-n
 cast-n c = search needs
 
-word-requires-2 : tie.Need-word-requires-2
-word-requires-2 c κs = search needs
-
-cast-given : tie.Need-cast-given
-cast-given c = search needs
-
-mul-at : tie.Need-mul-at
-mul-at c = search needs
-
-add-at : tie.Need-add-at
-add-at c = search needs
-
-add-word : tie.Need-add-word
-add-word c = search needs
-
-word-requires-3 : tie.Need-word-requires-3
-word-requires-3 c κs = search needs
+word-from-requires : tie.Need-word-from-requires
+word-from-requires c κs = search needs
 
 cast-h : tie.Need-cast-h
 cast-h c = search needs
 
-add-word-2 : tie.Need-add-word-2
-add-word-2 c = search needs
-
-word-requires-4 : tie.Need-word-requires-4
-word-requires-4 c κs = search needs
+word-from-requires-2 : tie.Need-word-from-requires-2
+word-from-requires-2 c κs = search needs
 
 cast-l : tie.Need-cast-l
 cast-l c = search needs
@@ -56,19 +41,19 @@ slice-relend-prefix-one : tie.Need-slice-relend-prefix-one
 slice-relend-prefix-one c = search needs
 
 slice-aggregate-one : tie.Need-slice-aggregate-one
-slice-aggregate-one c = sym (length-take-le (c .before .before .before .before .before .before .before .word .result) (now (c .before .before .before .before .before .before .before .before .before .before .before .before .args .list)) (omega arith))
+slice-aggregate-one c = sym (length-take-le (c .before .before .before .before .before .before .word .result) (now (c .before .before .before .before .before .before .before .before .before .before .before .before .args .list)) (omega arith))
 
 slice-relend-prefix-one-2 : tie.Need-slice-relend-prefix-one-2
 slice-relend-prefix-one-2 c = search needs
 
 slice-aggregate-one-2 : tie.Need-slice-aggregate-one-2
-slice-aggregate-one-2 c = sym (length-take-le (c .before .before .before .before .before .before .word3 .result) (now (c .before .before .before .before .before .before .before .before .before .before .before .before .before .args .heads)) (omega arith))
+slice-aggregate-one-2 c = sym (length-take-le (c .before .before .before .before .before .before .word-from .result) (now (c .before .before .before .before .before .before .before .before .before .before .before .before .before .args .heads)) (omega arith))
 
 slice-relend-prefix-one-3 : tie.Need-slice-relend-prefix-one-3
 slice-relend-prefix-one-3 c = search needs
 
 slice-aggregate-one-3 : tie.Need-slice-aggregate-one-3
-slice-aggregate-one-3 c = sym (length-take-le (c .before .before .before .before .before .before .word4 .result) (now (c .before .before .before .before .before .before .before .before .before .before .before .before .before .before .args .links)) (omega arith))
+slice-aggregate-one-3 c = sym (length-take-le (c .before .before .before .before .before .before .word-from2 .result) (now (c .before .before .before .before .before .before .before .before .before .before .before .before .before .before .args .links)) (omega arith))
 
 one-requires : tie.Need-one-requires
 one-requires c κs = search needs
@@ -89,17 +74,12 @@ pub holds-spec : {M : Type 1} → statement M
 holds-spec =
     tie.close
     (tie.spec
+    settings-requires
     word-requires
     cast-n
-    word-requires-2
-    cast-given
-    mul-at
-    add-at
-    add-word
-    word-requires-3
+    word-from-requires
     cast-h
-    add-word-2
-    word-requires-4
+    word-from-requires-2
     cast-l
     returns
     returns-2

@@ -1,4 +1,4 @@
--- `replay_merge_print::holds` is proved safe: the lent part of the list is as long as the file's numbers.
+-- `replay_merge_print::holds` is proved safe: the lent part is as long as the file says.
 use mathlib.Core.Path.{sym}
 use Prim.Native.Nat.{_/_}
 use native.Mathlib.Omega.{arith}
@@ -14,23 +14,11 @@ word-requires c κs = search needs
 cast-size : tie.Need-cast-size
 cast-size c = search needs
 
-word-requires-2 : tie.Need-word-requires-2
-word-requires-2 c κs = search needs
-
-cast-given : tie.Need-cast-given
-cast-given c = search needs
-
-add-start : tie.Need-add-start
-add-start c = search needs
-
-mul-start : tie.Need-mul-start
-mul-start c = search needs
-
-add-start-2 : tie.Need-add-start-2
-add-start-2 c = search needs
-
 refused-requires : tie.Need-refused-requires
 refused-requires c κs = search needs
+
+start-requires : tie.Need-start-requires
+start-requires c κs = search needs
 
 refusal-stands-requires : tie.Need-refusal-stands-requires
 refusal-stands-requires c κs = search needs
@@ -41,16 +29,23 @@ returns c = search needs
 returns-2 : tie.Need-returns-2
 returns-2 c = search needs
 
+word-requires-2 : tie.Need-word-requires-2
+word-requires-2 c κs = search needs
+
+cast-load : tie.Need-cast-load
+cast-load c = search needs
+
 load-requires : tie.Need-load-requires
 load-requires c κs = search needs
+
+start-requires-2 : tie.Need-start-requires-2
+start-requires-2 c κs = search needs
 
 slice-relend-prefix-merged-stands : tie.Need-slice-relend-prefix-merged-stands
 slice-relend-prefix-merged-stands c = search needs
 
 slice-aggregate-merged-stands : tie.Need-slice-aggregate-merged-stands
-slice-aggregate-merged-stands c =
-    let w = c .before .before .before .before .before .before .before .before .before .before in
-    sym (length-take-le (w .word .result / 4) (now (w .before .before .before .before .before .before .args .list)) (omega arith))
+slice-aggregate-merged-stands c = sym (length-take-le (c .before .before .before .before .before .before .before .before .before .before .before .word .result / 4) (now (c .before .before .before .before .before .before .before .before .before .before .before .before .before .before .before .before .before .args .list)) (omega arith))
 
 merged-stands-requires : tie.Need-merged-stands-requires
 merged-stands-requires c κs = search needs
@@ -76,16 +71,15 @@ holds-spec =
     (tie.spec
     word-requires
     cast-size
-    word-requires-2
-    cast-given
-    add-start
-    mul-start
-    add-start-2
     refused-requires
+    start-requires
     refusal-stands-requires
     returns
     returns-2
+    word-requires-2
+    cast-load
     load-requires
+    start-requires-2
     slice-relend-prefix-merged-stands
     slice-aggregate-merged-stands
     merged-stands-requires

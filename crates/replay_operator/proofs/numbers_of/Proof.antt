@@ -1,21 +1,21 @@
--- `replay_operator::numbers_of` meets its contract: at most five times 15 times 15.
-use Prim.Native.Nat.{_*_, _≤_}
+-- `replay_operator::numbers_of` meets its contract: a side is at most 15.
 use native.Mathlib.Nat.{mul-le-mul}
 use native.Mathlib.Omega.{arith}
+use borrow.Author.Needs.{needs}
 use Rattle.replay_operator.proofs.numbers_of.Statement.{statement}
 use Rattle.replay_operator.proofs.numbers_of.Tie as tie
 
-square : (c : tie.Start) → c .args .side * c .args .side ≤ 15 * 15
-square c = mul-le-mul (c .pre) (c .pre)
+returns : tie.Need-returns
+returns c = search needs
 
 mul-result : tie.Need-mul-result
-mul-result c = omega (arith, square c)
+mul-result c = omega (arith, mul-le-mul (c .if1 .left) (c .if1 .left))
 
 mul-result-2 : tie.Need-mul-result-2
-mul-result-2 c = omega (arith, square c)
+mul-result-2 c = omega (arith, mul-le-mul (c .if1 .left) (c .if1 .left))
 
-returns : tie.Need-returns
-returns c = omega (arith, square c)
+returns-2 : tie.Need-returns-2
+returns-2 c = omega (arith, mul-le-mul (c .if1 .left) (c .if1 .left))
 
 pub numbers-of-spec : {M : Type 1} → statement M
-numbers-of-spec = tie.close (tie.spec mul-result mul-result-2 returns)
+numbers-of-spec = tie.close (tie.spec returns mul-result mul-result-2 returns-2)

@@ -13,17 +13,11 @@ word-requires c κs = search needs
 cast-n : tie.Need-cast-n
 cast-n c = search needs
 
-mul-at : tie.Need-mul-at
-mul-at c = search needs
+settings-requires : tie.Need-settings-requires
+settings-requires c κs = search needs
 
-add-at : tie.Need-add-at
-add-at c = search needs
-
-add-word : tie.Need-add-word
-add-word c = search needs
-
-word-requires-2 : tie.Need-word-requires-2
-word-requires-2 c κs = search needs
+word-from-requires : tie.Need-word-from-requires
+word-from-requires c κs = search needs
 
 cast-room : tie.Need-cast-room
 cast-room c = search needs
@@ -38,13 +32,13 @@ slice-relend-prefix-one : tie.Need-slice-relend-prefix-one
 slice-relend-prefix-one c = search needs
 
 slice-aggregate-one : tie.Need-slice-aggregate-one
-slice-aggregate-one c = sym (length-take-le (c .before .before .before .before .word .result) (now (c .before .before .before .before .before .before .before .before .args .values)) (omega arith))
+slice-aggregate-one c = sym (length-take-le (c .before .before .before .before .before .word .result) (now (c .before .before .before .before .before .before .before .before .before .args .values)) (omega arith))
 
 slice-relend-prefix-one-2 : tie.Need-slice-relend-prefix-one-2
 slice-relend-prefix-one-2 c = search needs
 
 slice-aggregate-one-2 : tie.Need-slice-aggregate-one-2
-slice-aggregate-one-2 c = sym (length-take-le (c .before .before .before .before .word2 .result) (now (c .before .before .before .before .before .before .before .before .before .args .out)) (omega arith))
+slice-aggregate-one-2 c = sym (length-take-le (c .before .before .before .before .word-from .result) (now (c .before .before .before .before .before .before .before .before .before .before .args .out)) (omega arith))
 
 one-requires : tie.Need-one-requires
 one-requires c κs = search needs
@@ -64,10 +58,8 @@ holds-spec =
     (tie.spec
     word-requires
     cast-n
-    mul-at
-    add-at
-    add-word
-    word-requires-2
+    settings-requires
+    word-from-requires
     cast-room
     returns
     returns-2

@@ -7,53 +7,23 @@ use borrow.Author.Needs.{needs}
 use Rattle.replay_response.proofs.holds.Statement.{statement}
 use Rattle.replay_response.proofs.holds.Tie as tie
 
-word-requires : tie.Need-word-requires
-word-requires c κs = search needs
+behind-image-requires : tie.Need-behind-image-requires
+behind-image-requires c κs = search needs
 
-cast-n : tie.Need-cast-n
-cast-n c = search needs
-
-add-end : tie.Need-add-end
-add-end c = search needs
-
-add-at : tie.Need-add-at
-add-at c = search needs
-
-mul-at : tie.Need-mul-at
-mul-at c = search needs
-
-add-at-2 : tie.Need-add-at-2
-add-at-2 c = search needs
-
-returns : tie.Need-returns
-returns c = search needs
-
-add-word : tie.Need-add-word
-add-word c = search needs
-
-word-requires-2 : tie.Need-word-requires-2
-word-requires-2 c κs = search needs
+word-from-requires : tie.Need-word-from-requires
+word-from-requires c κs = search needs
 
 cast-room : tie.Need-cast-room
 cast-room c = search needs
 
-returns-2 : tie.Need-returns-2
-returns-2 c = search needs
-
-sub-one : tie.Need-sub-one
-sub-one c = search needs
-
-part-one-start : tie.Need-part-one-start
-part-one-start c = search needs
-
-part-one-end : tie.Need-part-one-end
-part-one-end c = search needs
+returns : tie.Need-returns
+returns c = search needs
 
 slice-relend-prefix-one : tie.Need-slice-relend-prefix-one
 slice-relend-prefix-one c = search needs
 
 slice-aggregate-one : tie.Need-slice-aggregate-one
-slice-aggregate-one c = sym (length-take-le (c .before .before .before .word2 .result) (now (c .before .before .before .before .before .before .before .before .args .out)) (omega arith))
+slice-aggregate-one c = sym (length-take-le (c .before .before .word-from .result) (now (c .before .before .before .before .before .before .args .out)) (omega arith))
 
 one-requires : tie.Need-one-requires
 one-requires c κs = search needs
@@ -61,29 +31,19 @@ one-requires c κs = search needs
 same-length : tie.Need-same-length
 same-length c = search needs
 
-returns-3 : tie.Need-returns-3
-returns-3 c = search needs
+returns-2 : tie.Need-returns-2
+returns-2 c = search needs
 
 pub holds-spec : {M : Type 1} → statement M
 holds-spec =
     tie.close
     (tie.spec
-    word-requires
-    cast-n
-    add-end
-    add-at
-    mul-at
-    add-at-2
-    returns
-    add-word
-    word-requires-2
+    behind-image-requires
+    word-from-requires
     cast-room
-    returns-2
-    sub-one
-    part-one-start
-    part-one-end
+    returns
     slice-relend-prefix-one
     slice-aggregate-one
     one-requires
     same-length
-    returns-3)
+    returns-2)

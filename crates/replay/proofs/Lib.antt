@@ -1,0 +1,4 @@
+-- Laws of the harness.
+pub mod BufferLaws
+pub mod SpoilLaws
+pub mod CaseLaws
