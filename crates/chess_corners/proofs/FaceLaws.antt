@@ -10,9 +10,9 @@ use Rattle.response.specs.Region.{Region}
 use Rattle.response.specs.Call as R
 use Rattle.merge.specs.declared.Merge.{Merge}
 use Rattle.merge.specs.Call as M
-use Rattle.saddle_fit.specs.declared.SaddlePointConfig.{SaddlePointConfig}
-use Rattle.detect.specs.declared.Refinements.{Refinements}
-use Rattle.detect.specs.Refining as L
+use Rattle.refine_formulas.specs.declared.SaddlePointConfig.{SaddlePointConfig}
+use Rattle.refine_list.specs.declared.Refinements.{Refinements}
+use Rattle.refine_list.specs.Refining as L
 use Rattle.peaks.specs.declared.Peaks.{Peaks}
 use Rattle.peaks.specs.Peak.{Scan}
 use Rattle.peaks.specs.Call as P

@@ -4,13 +4,13 @@ use mathlib.Core.Bool.{Bool}
 use mathlib.Core.List.{List, [], _∷_}
 use Prim.Native.Nat.{ℕ}
 use lib.Ieee.{Float}
-use Rattle.fit_operator.specs.declared.Operator.{Operator}
-use Rattle.fit_operator.specs.Call as Operator
-use Rattle.saddle_fit.specs.declared.Covariance.{Covariance}
-use Rattle.saddle_point.specs.declared.Estimate.{Estimate}
-use Rattle.saddle_point.specs.declared.Refined.{Refined}
-use Rattle.saddle_point.specs.declared.Refined.the-variants.{Accepted}
-use Rattle.saddle_point.specs.Refine.{numberOf, valuesOf}
+use Rattle.refine_operator.specs.declared.Operator.{Operator}
+use Rattle.refine_operator.specs.Call as Operator
+use Rattle.refine_formulas.specs.declared.Covariance.{Covariance}
+use Rattle.refine_seed.specs.declared.Estimate.{Estimate}
+use Rattle.refine_seed.specs.declared.Refined.{Refined}
+use Rattle.refine_seed.specs.declared.Refined.the-variants.{Accepted}
+use Rattle.refine_seed.specs.Refine.{numberOf, valuesOf}
 use Rattle.chess_corners.specs.Seed.{flag, placeAfter, given, stateAfter, entriesAfter, covarianceAfter, Told, Operating}
 
 module _ (x y : Float) (place : List Float) (state : List ℕ) (covariance : List Float) where

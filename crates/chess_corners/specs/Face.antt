@@ -16,11 +16,11 @@ use Rattle.merge.specs.declared.Merge.{Merge}
 use Rattle.merge.specs.declared.Merge.the-variants as Merge
 use Rattle.merge.specs.declared.Merge.the-variants.{Merged}
 use Rattle.merge.specs.Call as M
-use Rattle.saddle_fit.specs.declared.SaddlePointConfig.{SaddlePointConfig}
-use Rattle.detect.specs.declared.Refinements.{Refinements}
-use Rattle.detect.specs.declared.Refinements.the-variants as Refinements
-use Rattle.detect.specs.declared.Refinements.the-variants.{Refined}
-use Rattle.detect.specs.Refining as L
+use Rattle.refine_formulas.specs.declared.SaddlePointConfig.{SaddlePointConfig}
+use Rattle.refine_list.specs.declared.Refinements.{Refinements}
+use Rattle.refine_list.specs.declared.Refinements.the-variants as Refinements
+use Rattle.refine_list.specs.declared.Refinements.the-variants.{Refined}
+use Rattle.refine_list.specs.Refining as L
 use Rattle.peaks.specs.declared.Peaks.{Peaks}
 use Rattle.peaks.specs.declared.Peaks.the-variants as Peaks
 use Rattle.peaks.specs.declared.Peaks.the-variants.{Found}

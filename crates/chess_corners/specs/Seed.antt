@@ -6,14 +6,14 @@ use mathlib.Core.List.{List, [], _∷_}
 use Prim.Native.Nat.{ℕ}
 use lib.Dec.{eqb}
 use lib.Ieee.{Float}
-use Rattle.fit_operator.specs.Call as Operator
-use Rattle.saddle_fit.specs.declared.SaddlePointConfig.{SaddlePointConfig}
-use Rattle.saddle_fit.specs.declared.Covariance.{Covariance}
-use Rattle.saddle_fit.specs.declared.Covariance.the-variants.{Known, Unknown}
-use Rattle.saddle_point.specs.declared.Estimate.{Estimate}
-use Rattle.saddle_point.specs.declared.Refined.{Refined}
-use Rattle.saddle_point.specs.declared.Refined.the-variants.{Accepted, Unmoved, Refused}
-use Rattle.saddle_point.specs.Refine.{numberOf, Values, nothing, values, valuesOf}
+use Rattle.refine_operator.specs.Call as Operator
+use Rattle.refine_formulas.specs.declared.SaddlePointConfig.{SaddlePointConfig}
+use Rattle.refine_formulas.specs.declared.Covariance.{Covariance}
+use Rattle.refine_formulas.specs.declared.Covariance.the-variants.{Known, Unknown}
+use Rattle.refine_seed.specs.declared.Estimate.{Estimate}
+use Rattle.refine_seed.specs.declared.Refined.{Refined}
+use Rattle.refine_seed.specs.declared.Refined.the-variants.{Accepted, Unmoved, Refused}
+use Rattle.refine_seed.specs.Refine.{numberOf, Values, nothing, values, valuesOf}
 
 abbrev pub settings : ℕ → Float → Float → Float → SaddlePointConfig
 settings radius margin offset least = record { radius = radius; «det_margin» = margin; «max_offset» = offset; «min_abs_det» = least }

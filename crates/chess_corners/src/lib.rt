@@ -2,13 +2,13 @@
 // done. Further answers are written where the number is 0; one seed's place and score with 1 to 3 too.
 mod seed;
 
-use detect::Refinements;
 use imageview::Sizes;
 use merge::Merge;
 use peaks::Peaks;
+use refine_formulas::SaddlePointConfig;
+use refine_list::Refinements;
 use response::Response;
 use response::Roi;
-use saddle_fit::SaddlePointConfig;
 pub use seed::chess_corners_fit_operator;
 pub use seed::chess_corners_refine;
 pub use seed::chess_corners_refine_with;
@@ -132,7 +132,13 @@ pub extern "C" fn chess_corners_refine_list(
         max_offset,
         min_abs_det,
     };
-    let answer = detect::refine_corners_on_image(img, Sizes { width, height }, cfg, corners, out);
+    let answer = refine_list::refine_corners_on_image(
+        img,
+        Sizes { width, height },
+        cfg,
+        corners,
+        out,
+    );
     match answer {
         Refinements::Refined(accepted) => {
             *count = accepted;

@@ -1,14 +1,14 @@
 // The refiner of one seed, and the operator that serves many.
-use fit_operator::Operator;
 use imageview::Sizes;
-use saddle_fit::Covariance;
-use saddle_fit::SaddlePointConfig;
-use saddle_point::Estimate;
-use saddle_point::Refined;
+use refine_formulas::Covariance;
+use refine_formulas::SaddlePointConfig;
+use refine_operator::Operator;
+use refine_seed::Estimate;
+use refine_seed::Refined;
 ghost use mathlib.Core.Path.{_≡_};
 ghost use Rattle.imageview.specs.Image.{imageOf, sizesOf};
-ghost use Rattle.saddle_point.specs.Refine.{refineLent, refineOf};
-ghost use Rattle.saddle_point.specs.declared.Refined.the-variants.{Accepted};
+ghost use Rattle.refine_seed.specs.Refine.{refineLent, refineOf};
+ghost use Rattle.refine_seed.specs.declared.Refined.the-variants.{Accepted};
 ghost use Rattle.chess_corners.specs.Seed.{settings, asked, flag, Told, Operating};
 
 // Refines one seed; 0 to 3, 10, 11 or 12. `place` takes x, y and score, `state` whether it converged, the tries and whether there is a covariance.
@@ -36,7 +36,7 @@ pub extern "C" fn chess_corners_refine(
         max_offset,
         min_abs_det,
     };
-    let answer = saddle_point::refine(img, Sizes { width, height }, cfg, x, y, wanted != 0);
+    let answer = refine_seed::refine(img, Sizes { width, height }, cfg, x, y, wanted != 0);
     tell(answer, x, y, place, state, covariance)
 }
 
@@ -67,7 +67,7 @@ pub extern "C" fn chess_corners_refine_with(
         max_offset,
         min_abs_det,
     };
-    let answer = saddle_point::refine_with(
+    let answer = refine_seed::refine_with(
         img,
         Sizes { width, height },
         cfg,
@@ -89,7 +89,7 @@ pub extern "C" fn chess_corners_fit_operator(
 ) -> u32
     ensures { λ r. ⌜ Operating radius (now (columns .entry)) (now (overlap .entry)) r (now (columns .exit)) (now (overlap .exit)) ⌝ }
 {
-    let answer = fit_operator::fit_operator(radius, columns, overlap);
+    let answer = refine_operator::fit_operator(radius, columns, overlap);
     match answer {
         Operator::Built => 0,
         Operator::Singular => 3,
@@ -111,7 +111,7 @@ fn tell(
         Refined::Accepted(e) => tell_estimate(e, x, y, place, state, covariance),
         Refined::Unmoved(why, score) => {
             *place = [x, y, score];
-            saddle_point::why_number(why)
+            refine_seed::why_number(why)
         }
         Refined::Refused(refusal) => refusals::number(refusal),
     }

@@ -8,7 +8,6 @@ mod scan;
 mod seek;
 
 use refusals::Refusal;
-
 ghost use mathlib.Core.Path.{_≡_};
 ghost use lib.Dec.{ltb};
 ghost use Prim.Native.Nat.{_+_, _*_, _<_};

@@ -1,11 +1,11 @@
 // What asks for the operator of a radius: the covariance of a place, and the fit on a patch.
 use crate::moving;
 use crate::numbers;
-use fit_cache::fits;
 use imageview::Sizes;
-use saddle_fit::Covariance;
-use saddle_fit::Jacobian;
-use saddle_fit::noise;
+use refine_fits::fits;
+use refine_formulas::Covariance;
+use refine_formulas::Jacobian;
+use refine_formulas::noise;
 ghost use mathlib.Core.Path.{_≡_};
 ghost use Prim.Native.Nat.{_+_, _*_, _≤_};
 ghost use lib.ListN.{length};
@@ -14,7 +14,7 @@ ghost use lib.ListN.{length};
 pub fn covariance_holds(case: &[u8]) -> bool {
     let mut columns = [0.0f32; 1125];
     let mut overlap = [0.0f32; 225];
-    fit_operator::fit_operator(words::word(case, 0) as usize, &mut columns, &mut overlap);
+    refine_operator::fit_operator(words::word(case, 0) as usize, &mut columns, &mut overlap);
     let first = numbers::five(case, 12);
     let second = numbers::five(case, 32);
     spread_is(case, &overlap, Jacobian { first, second })
@@ -70,7 +70,7 @@ fn fit_is(case: &[u8], patch: &[u8], radius: usize) -> bool
 {
     let mut columns = [0.0f32; 1125];
     let mut overlap = [0.0f32; 225];
-    fit_operator::fit_operator(radius, &mut columns, &mut overlap);
+    refine_operator::fit_operator(radius, &mut columns, &mut overlap);
     let side = 2 * radius + 1;
     let sizes = Sizes {
         width: side,

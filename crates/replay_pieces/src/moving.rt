@@ -1,14 +1,14 @@
 // How a window's fit changes with it: the blend of four fits and its slope, the saddle's sensitivity, the step.
 use crate::numbers;
+use refine_formulas::Corners;
+use refine_formulas::Jacobian;
+use refine_formulas::Matrix;
+use refine_formulas::Move;
+use refine_formulas::PatchSaddle;
+use refine_formulas::Slope;
+use refine_formulas::between;
+use refine_formulas::sensitivity;
 use replay::Spoilt;
-use saddle_fit::Corners;
-use saddle_fit::Jacobian;
-use saddle_fit::Matrix;
-use saddle_fit::Move;
-use saddle_fit::PatchSaddle;
-use saddle_fit::Slope;
-use saddle_fit::between;
-use saddle_fit::sensitivity;
 
 // Four fits and the fractions; the blend and the two slopes.
 pub fn blend_holds(case: &[u8]) -> bool {

@@ -1,10 +1,10 @@
 // Solving a fit: five coefficients, the margin and the least determinant; the outcome, u, the determinant and the score.
 use crate::numbers;
+use refine_formulas::PatchSaddle;
+use refine_formulas::SaddlePointConfig;
+use refine_formulas::Solved;
+use refine_formulas::solve;
 use replay::Spoilt;
-use saddle_fit::PatchSaddle;
-use saddle_fit::SaddlePointConfig;
-use saddle_fit::Solved;
-use saddle_fit::solve;
 
 pub fn solve_holds(case: &[u8]) -> bool {
     let coefs = numbers::five(case, 0);

@@ -24,8 +24,8 @@ use Rattle.refusals.specs.declared.Refusal.the-variants.{BadImage, BadRadius, B
 use Rattle.response.specs.Region.{Region, clamped, isEmpty, widthOf, heightOf, moved, ringSample, crossSample, ringFits, ringWithin, writtenAt, written}
 use Rattle.response.specs.Call.{Way, refused, wrote, wayOf, answerOf, outAfter, Done}
 use Rattle.pixel_response.specs.Steps.{Wrote}
-use Rattle.response.specs.Starts.{Offsets, startOf, startedAt}
-use Rattle.response.specs.Frame.{shiftedAt, sizeFits, Clamped}
+use Rattle.response.specs.StepsStarts.{Offsets, startOf, startedAt}
+use Rattle.response.specs.StepsFrame.{shiftedAt, sizeFits, Clamped}
 use Rattle.pixel_response.proofs.PixelLaws.{response-cong}
 use Rattle.response.proofs.RingLaws.{inside, all-within}
 

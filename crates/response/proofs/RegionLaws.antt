@@ -17,8 +17,8 @@ use Rattle.imageview.specs.Image.{Image}
 use Rattle.imageview.proofs.ImageLaws.{index}
 use Rattle.response.specs.Region.{ringFits}
 use Rattle.pixel_response.specs.Steps.{Wrote}
-use Rattle.response.specs.Starts.{sampleOf, valueAt, Reach, startOf, Startable, startedAt, Started}
-use Rattle.response.specs.Frame.{insideAt, shiftedAt, From, To, Framed}
+use Rattle.response.specs.StepsStarts.{sampleOf, valueAt, Reach, startOf, Startable, startedAt, Started}
+use Rattle.response.specs.StepsFrame.{insideAt, shiftedAt, From, To, Framed}
 use Rattle.pixel_response.proofs.PixelLaws.{response-cong}
 use Rattle.response.proofs.PassLaws.{lt-or-le, wrote-none, wrote-cong, wrote-next, part-count}
 

@@ -17,7 +17,7 @@ use mir.ValLaws.{toZ-ofZ}
 use borrow.Author.Tests.{ltb-true, ltb-false, le-leb, lt-leb, le-ltb, leb-true, leb-false}
 use Rattle.response.specs.Region.{moved, ringWithin}
 use Rattle.pixel_response.specs.Steps.{Decides}
-use Rattle.response.specs.Starts.{offsetOf, Offsets, Around, crossPairs}
+use Rattle.response.specs.StepsStarts.{offsetOf, Offsets, Around, crossPairs}
 use Rattle.response.proofs.PassLaws.{lt-or-le}
 
 no : {A : Type 0} → false ≡ true → A

@@ -8,7 +8,7 @@ use lib.ListN.{length, getD, take, drop, replicate, length-drop, getD-replicate}
 use lib.Seq.{getD-take, getD-drop, length-take-le}
 use Rattle.pixel_response.specs.Samples.{valueOf}
 use Rattle.pixel_response.specs.Steps.{listed, squareOf, edgesOf, sumOf, crossOf, Added, AddedQuarter, Spare, Wrote}
-use Rattle.response.specs.Starts.{Part, SampledQuarter, SampledCross, sampleOf, valueAt}
+use Rattle.response.specs.StepsStarts.{Part, SampledQuarter, SampledCross, sampleOf, valueAt}
 use Rattle.pixel_response.proofs.PixelLaws.{four, Quarters, none, more, all}
 use Rattle.response.proofs.PassLaws.{added-cong, wrote-cong}
 

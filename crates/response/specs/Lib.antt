@@ -3,5 +3,5 @@ pub mod Demand
 pub mod Region
 pub mod Call
 pub mod Alone
-pub mod Starts
-pub mod Frame
+pub mod StepsStarts
+pub mod StepsFrame

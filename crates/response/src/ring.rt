@@ -3,7 +3,7 @@ ghost use mathlib.Core.Path.{_≡_};
 ghost use Prim.Native.Nat.{_+_, _-_, _*_, _≤_, _<_};
 ghost use lib.ListN.{length, replicate};
 ghost use Rattle.pixel_response.specs.Steps.{Decides, Wrote};
-ghost use Rattle.response.specs.Starts.{offsetOf, Offsets, Around, startOf, Startable};
+ghost use Rattle.response.specs.StepsStarts.{offsetOf, Offsets, Around, startOf, Startable};
 
 // A component plus 10, or 255 where it is outside -10..=10.
 fn offset_of(z: i32) -> u8

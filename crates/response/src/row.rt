@@ -5,7 +5,7 @@ ghost use lib.ListN.{length};
 ghost use Rattle.shapes.specs.Numbers.{plusZero};
 ghost use Rattle.pixel_response.specs.Samples.{valueOf};
 ghost use Rattle.pixel_response.specs.Steps.{listed, crossOf, AddedQuarter, Spare, Abreast, Wrote};
-ghost use Rattle.response.specs.Starts.{Reach, Part, SampledQuarter, SampledCross, valueAt};
+ghost use Rattle.response.specs.StepsStarts.{Reach, Part, SampledQuarter, SampledCross, valueAt};
 use pixel_response::pixel;
 
 // Adds one quarter of the ring, its square, its edges and its sum.

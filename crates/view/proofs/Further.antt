@@ -20,9 +20,9 @@ use denote.Floats.{float-makes}
 use denote.Builtin.{f32, bool}
 use denote.Steps.{owned}
 use denote.Struct.Laws as LL
-use Rattle.saddle_fit.specs.declared.SaddlePointConfig.{SaddlePointConfig}
-use Rattle.saddle_fit.proofs.SaddlePointConfig as G
-use Rattle.saddle_fit.proofs.SaddlePointConfig.Laws as G′
+use Rattle.refine_formulas.specs.declared.SaddlePointConfig.{SaddlePointConfig}
+use Rattle.refine_formulas.proofs.SaddlePointConfig as G
+use Rattle.refine_formulas.proofs.SaddlePointConfig.Laws as G′
 
 abbrev pub Further : Type 0
 Further = SaddlePointConfig × (Float × (Float × (Bool × Unit {0})))

@@ -3,16 +3,16 @@
 // proved by a walk by hand.
 mod plain;
 
+use refine_formulas::SaddlePointConfig;
+use refine_seed::Refined;
 use response::Response;
 use response::Roi;
-use saddle_fit::SaddlePointConfig;
-use saddle_point::Refined;
 ghost use mathlib.Core.Path.{_≡_};
 ghost use Prim.Native.Nat.{_+_, _*_, _≤_};
 ghost use lib.ListN.{length, take, drop};
 ghost use Rattle.imageview.specs.Image.{imageOf, sizesOf, isImage};
 ghost use Rattle.response.specs.Call.{Done, regionOf};
-ghost use Rattle.saddle_point.specs.Refine.{refineOf};
+ghost use Rattle.refine_seed.specs.Refine.{refineOf};
 ghost use Rattle.view.specs.Seen.{imageIn};
 
 pub struct ImageView<'a> {

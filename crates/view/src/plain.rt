@@ -1,13 +1,13 @@
 // What a view is taken apart for: the calls on bytes and plain numbers. The sizes are put together here, since a walk by hand would go through that too.
 use imageview::Sizes;
+use refine_formulas::SaddlePointConfig;
+use refine_seed::Refined;
 use response::Response;
 use response::Roi;
-use saddle_fit::SaddlePointConfig;
-use saddle_point::Refined;
 ghost use mathlib.Core.Path.{_≡_};
 ghost use Rattle.imageview.specs.Image.{imageOf, sizesOf, isImage};
 ghost use Rattle.response.specs.Call.{Done, regionOf};
-ghost use Rattle.saddle_point.specs.Refine.{refineOf};
+ghost use Rattle.refine_seed.specs.Refine.{refineOf};
 
 pub fn is_image(img: &[u8], width: usize, height: usize) -> bool
     ensures { λ r. ⌜ r ≡ isImage (imageOf (now (img .entry)) (sizesOf width height)) ⌝ }
@@ -40,5 +40,5 @@ pub fn refine(
 ) -> Refined
     ensures { λ r. ⌜ r ≡ refineOf (imageOf (now (img .entry)) (sizesOf width height)) cfg x y wanted ⌝ }
 {
-    saddle_point::refine(img, Sizes { width, height }, cfg, x, y, wanted)
+    refine_seed::refine(img, Sizes { width, height }, cfg, x, y, wanted)
 }

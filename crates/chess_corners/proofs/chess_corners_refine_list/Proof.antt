@@ -2,7 +2,7 @@
 use mathlib.Core.Path.{refl}
 use denote.Ref.{now}
 use borrow.Author.Needs.{needs}
-use Rattle.detect.specs.declared.Refinements.the-variants.{Refined, Refused}
+use Rattle.refine_list.specs.declared.Refinements.the-variants.{Refined, Refused}
 use Rattle.chess_corners.proofs.FaceLaws.{refining}
 use Rattle.chess_corners.proofs.chess_corners_refine_list.Statement.{statement}
 use Rattle.chess_corners.proofs.chess_corners_refine_list.Tie as tie

@@ -42,13 +42,13 @@ use denote.Triple.Spec.{Meets, tripleOf}
 use denote.Triple.Table.{entered, cited}
 use denote.Triple.Walked.{says, Stays, stay-none, walkOf, goes-none, Walks, ends-at, walked, walk-meets}
 use denote.Exit.{yes}
-use Rattle.saddle_fit.specs.declared.SaddlePointConfig.{SaddlePointConfig}
-use Rattle.saddle_fit.proofs.SaddlePointConfig as G
-use Rattle.saddle_fit.proofs.SaddlePointConfig.Laws as G′
-use Rattle.saddle_point.specs.Refine.{refineOf}
-use Rattle.saddle_point.specs.declared.Refined.{Refined}
-use Rattle.saddle_point.proofs.Refined as S
-use Rattle.saddle_point.proofs.Refined.Laws as S′
+use Rattle.refine_formulas.specs.declared.SaddlePointConfig.{SaddlePointConfig}
+use Rattle.refine_formulas.proofs.SaddlePointConfig as G
+use Rattle.refine_formulas.proofs.SaddlePointConfig.Laws as G′
+use Rattle.refine_seed.specs.Refine.{refineOf}
+use Rattle.refine_seed.specs.declared.Refined.{Refined}
+use Rattle.refine_seed.proofs.Refined as S
+use Rattle.refine_seed.proofs.Refined.Laws as S′
 use Rattle.view.proofs.plain.refine as plain
 use Rattle.view.proofs.plain.refine.Symbol as plain-def
 use Rattle.view.proofs.plain.refine.Symbol.{name as #view·plain·refine}

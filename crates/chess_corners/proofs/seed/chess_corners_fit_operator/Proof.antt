@@ -1,7 +1,7 @@
 -- `chess_corners::seed::chess_corners_fit_operator` meets its contract: each arm is the wrapped call's promise at the answer it knows.
 use mathlib.Core.Path.{refl}
 use borrow.Author.Needs.{needs}
-use Rattle.fit_operator.specs.declared.Operator.the-variants.{Built, Singular, Refused}
+use Rattle.refine_operator.specs.declared.Operator.the-variants.{Built, Singular, Refused}
 use Rattle.chess_corners.proofs.SeedLaws.{operating}
 use Rattle.chess_corners.proofs.seed.chess_corners_fit_operator.Statement.{statement}
 use Rattle.chess_corners.proofs.seed.chess_corners_fit_operator.Tie as tie

@@ -1,7 +1,7 @@
 -- `chess_corners::seed::tell` meets its contract: each arm is the answer that it knows.
 use mathlib.Core.Path.{sym}
 use borrow.Author.Needs.{needs}
-use Rattle.saddle_point.specs.declared.Refined.the-variants.{Unmoved, Refused}
+use Rattle.refine_seed.specs.declared.Refined.the-variants.{Unmoved, Refused}
 use Rattle.chess_corners.proofs.SeedLaws.{told, told-of}
 use Rattle.chess_corners.proofs.seed.tell.Statement.{statement}
 use Rattle.chess_corners.proofs.seed.tell.Tie as tie

@@ -3,7 +3,7 @@ use Prim.Native.Nat.{_+_}
 use lib.ListN.{length}
 use Rattle.shapes.specs.Numbers.{plusZero}
 use Rattle.imageview.specs.Image.{imageOf}
-use Rattle.response.specs.Frame.{shiftedAt}
+use Rattle.response.specs.StepsFrame.{shiftedAt}
 use Rattle.response.proofs.PassLaws.{wrote-cong}
 use Rattle.response.proofs.RegionLaws.{row-above, row-below, row-narrow, row-is, startable, started-all}
 use borrow.Author.Needs.{needs}

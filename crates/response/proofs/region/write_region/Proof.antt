@@ -6,7 +6,7 @@ use Rattle.shapes.specs.Numbers.{plusZero}
 use Rattle.shapes.specs.Turns.{turns}
 use Rattle.imageview.specs.Image.{imageOf}
 use Rattle.pixel_response.specs.Steps.{Wrote}
-use Rattle.response.specs.Frame.{Framed, From, To, shiftedAt}
+use Rattle.response.specs.StepsFrame.{Framed, From, To, shiftedAt}
 use Rattle.response.proofs.PassLaws.{part-count}
 use Rattle.response.proofs.RowLaws.{cut}
 use Rattle.response.proofs.RegionLaws.{row-end, row-more, no-rows, all-rows}

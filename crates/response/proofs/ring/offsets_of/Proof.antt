@@ -10,7 +10,7 @@ use mathlib.Core.List.{_++_}
 use mir.Syntax.{w32}
 use mir.ValLaws.{toZ-ofZ}
 use Rattle.pixel_response.specs.Steps.{Wrote}
-use Rattle.response.specs.Starts.{offsetOf, crossPairs}
+use Rattle.response.specs.StepsStarts.{offsetOf, crossPairs}
 use Rattle.response.proofs.PassLaws.{wrote-none, wrote-more}
 use native.Mathlib.Omega.{arith}
 use Rattle.response.proofs.ring.offsets_of.Statement.{statement}

@@ -3,7 +3,7 @@ use mathlib.Core.Path.{_≡_, _∙_, ap, subst}
 use Prim.Native.Nat.{ℕ, _+_, _-_, _*_, _≤_}
 use lib.ListN.{getD, replicate}
 use Rattle.pixel_response.specs.Steps.{Wrote}
-use Rattle.response.specs.Starts.{startOf}
+use Rattle.response.specs.StepsStarts.{startOf}
 use Rattle.response.proofs.PassLaws.{wrote-none, wrote-more}
 use native.Mathlib.Omega.{arith}
 use Rattle.response.proofs.ring.starts_of.Statement.{statement}

@@ -2,7 +2,7 @@
 use Prim.Native.Nat.{_+_, _-_, _≤_}
 use lib.ListN.{length}
 use Rattle.shapes.specs.Numbers.{plusZero}
-use Rattle.response.specs.Starts.{valueAt}
+use Rattle.response.specs.StepsStarts.{valueAt}
 use Rattle.response.proofs.PassLaws.{wrote-cong}
 use Rattle.response.proofs.RowLaws.{Sums, sums-none, sums-more, sums-all, spare}
 use native.Mathlib.Omega.{arith}

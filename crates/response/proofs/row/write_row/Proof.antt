@@ -4,7 +4,7 @@ use Prim.Native.Nat.{ℕ, _-_, _≤_}
 use lib.ListN.{length}
 use Rattle.shapes.specs.Numbers.{plusZero}
 use Rattle.pixel_response.specs.Steps.{Wrote}
-use Rattle.response.specs.Starts.{valueAt}
+use Rattle.response.specs.StepsStarts.{valueAt}
 use Rattle.response.proofs.PassLaws.{wrote-none, wrote-next, part-count}
 use native.Mathlib.Omega.{arith}
 use Rattle.response.proofs.row.write_row.Statement.{statement}

@@ -1,0 +1,130 @@
+-- Laws of a fit: a row adds its samples to the sums, the patch's sample k is element k % side of row k / side, and the sums of all samples are the coefficients.
+use mathlib.Core.Path.{_≡_, refl, sym, ap, _∙_, subst}
+use mathlib.Core.List.{List, [], _∷_}
+use Prim.Native.Nat.{ℕ, zero, suc, _+_, _-_, _*_, _/_, _%_, _≤_, _<_}
+use native.Mathlib.Nat.{add-assoc, add-zero, add-suc, sub-add-cancel, mul-comm, mul-add, add-mul, mul-assoc, one-mul, mul-one, le-trans, mul-le-mul-right, lt-of-lt-of-le, lt-of-le-of-lt, suc-mul, mul-suc, zero-mul, le-refl, mul-le-mul}
+use native.Mathlib.Numerals.{add-one}
+use native.Mathlib.Omega.{arith}
+use lib.Arith.{digits-div, digits-mod, digits-lt}
+use lib.IntN.{pos}
+use lib.ListN.{length, getD, take, drop, length-drop}
+use lib.Seq.{getD-take, getD-drop, length-take-le}
+use lib.Ieee.{Float, binary32, ofInt}
+use Rattle.shapes.specs.Numbers.{plusZero, entry}
+use Rattle.shapes.specs.Turns.{turns}
+use Rattle.shapes.specs.Lists.{tabulated}
+use Rattle.imageview.specs.Image.{Image, stride, pixel}
+use Rattle.imageview.proofs.ImageLaws.{index}
+use Rattle.refine_operator.specs.Basis.{side, samples}
+use Rattle.refine_fits.specs.declared.Sums.{Sums}
+use Rattle.refine_formulas.specs.Numbers.{_⊕_, _⊖_, _⊗_}
+use Rattle.refine_fits.specs.Fit.{sampleOf, coefficient, coefficients}
+use Rattle.refine_fits.specs.StepsAdding.{added, rowAdded, term, sumsOf, PatchWithin}
+
+-- ---- a row
+pub row-none : (columns : List Float) (row : List ℕ) (centre : Float) (from : ℕ) (s : Sums) → s ≡ rowAdded columns row centre from 0 s
+unfolding rowAdded
+row-none columns row centre from s = refl
+
+pub row-more : (columns : List Float) (row : List ℕ) (centre : Float) (from n : ℕ) (s t u : Sums) → t ≡ rowAdded columns row centre from n s → u ≡ added columns (from + n) (ofInt binary32 (pos (getD row n 0)) ⊖ centre) t → u ≡ rowAdded columns row centre from (n + 1) s
+unfolding rowAdded
+row-more columns row centre from n s t u p q =
+    q ∙ ap (λ (v : Sums). added columns (from + n) (ofInt binary32 (pos (getD row n 0)) ⊖ centre) v) p ∙ ap (λ (k : ℕ). rowAdded columns row centre from k s) (sym (add-one n))
+
+-- ---- the patch's samples
+-- the place of the sample (row, i)
+place : (w x0 y0 row i : ℕ) → (y0 + row) * w + x0 + i ≡ (y0 + row) * w + (x0 + i)
+place w x0 y0 row i = add-assoc ((y0 + row) * w) x0 i
+
+pub row-sample : (img : Image) (radius x y row i : ℕ) → i < side radius → getD (take (side radius) (drop ((y - radius + row) * stride img + (x - radius)) (img .samples))) i 0 ≡ pixel img (x - radius + (row * side radius + i) % side radius) (y - radius + (row * side radius + i) / side radius)
+unfolding pixel
+row-sample img radius x y row i h =
+    getD-take (side radius) (drop ((y - radius + row) * stride img + (x - radius)) (img .samples)) i 0 h
+    ∙ getD-drop ((y - radius + row) * stride img + (x - radius)) (img .samples) i 0
+    ∙ ap (λ (k : ℕ). getD (img .samples) k 0) (place (stride img) (x - radius) (y - radius) row i)
+    ∙ ap (λ (k : ℕ). getD (img .samples) ((y - radius + k) * stride img + (x - radius + i)) 0) (sym (digits-div row h))
+    ∙ ap (λ (k : ℕ). getD (img .samples) ((y - radius + (row * side radius + i) / side radius) * stride img + (x - radius + k)) 0) (sym (digits-mod row h))
+
+-- the middle sample is the centre
+twice : (r p : ℕ) → (2 * p + (2 * r + 1)) / 2 ≡ p + r
+twice r p = omega arith
+
+middle : (r : ℕ) → samples r / 2 ≡ r * side r + r
+middle r = ap (λ (n : ℕ). n / 2) (add-mul (2 * r) 1 (side r) ∙ ap (λ (n : ℕ). n + 1 * side r) (mul-assoc 2 r (side r)) ∙ ap (λ (n : ℕ). 2 * (r * side r) + n) (one-mul (side r))) ∙ twice r (r * side r)
+
+-- the sample entry column u of row v
+abbrev sampleAt : Image → ℕ → ℕ → Float
+sampleAt img u v = ofInt binary32 (pos (getD (img .samples) (v * stride img + u) 0))
+
+pub centre-sample : (img : Image) (radius x y : ℕ) → radius ≤ x → radius ≤ y → ofInt binary32 (pos (pixel img x y)) ≡ sampleOf img radius x y (samples radius / 2)
+unfolding sampleOf pixel
+centre-sample img radius x y hx hy =
+    let small : radius < side radius = omega arith in
+    ap (λ (u : ℕ). sampleAt img u y) (sym (sub-add-cancel hx))
+    ∙ ap (λ (v : ℕ). sampleAt img (x - radius + radius) v) (sym (sub-add-cancel hy))
+    ∙ ap (λ (u : ℕ). sampleAt img (x - radius + u) (y - radius + radius)) (sym (digits-mod radius small))
+    ∙ ap (λ (v : ℕ). sampleAt img (x - radius + (radius * side radius + radius) % side radius) (y - radius + v)) (sym (digits-div radius small))
+    ∙ ap (λ (k : ℕ). sampleAt img (x - radius + k % side radius) (y - radius + k / side radius)) (sym (middle radius))
+
+-- ---- the sums over the patch
+sums-more : (img : Image) (columns : List Float) (radius x y k : ℕ) (z : Float) → z ≡ sampleOf img radius x y k ⊖ sampleOf img radius x y (samples radius / 2) → added columns k z (sumsOf img columns radius x y k) ≡ sumsOf img columns radius x y (suc k)
+unfolding turns
+sums-more img columns radius x y k z e =
+    ap (λ (v : Float). added columns k v (sumsOf img columns radius x y k)) e
+    ∙ ap
+    (λ (n : ℕ).
+    let v = sampleOf img radius x y k ⊖ sampleOf img radius x y (samples radius / 2) in
+    let s = sumsOf img columns radius x y k in
+    record { a = s .a ⊕ entry columns n ⊗ v; b = s .b ⊕ entry columns (5 * k + 1) ⊗ v; c = s .c ⊕ entry columns (5 * k + 2) ⊗ v; d = s .d ⊕ entry columns (5 * k + 3) ⊗ v; e = s .e ⊕ entry columns (5 * k + 4) ⊗ v })
+    (sym (add-zero (5 * k)))
+
+along-row : (img : Image) (columns : List Float) (radius x y row n : ℕ) (part : List ℕ) (centre : Float) → part ≡ take (side radius) (drop ((y - radius + row) * stride img + (x - radius)) (img .samples)) → centre ≡ sampleOf img radius x y (samples radius / 2) → n ≤ side radius → rowAdded columns part centre (row * side radius) n (sumsOf img columns radius x y (row * side radius)) ≡ sumsOf img columns radius x y (row * side radius + n)
+unfolding rowAdded sampleOf
+along-row img columns radius x y row zero part centre p c h = ap (λ (k : ℕ). sumsOf img columns radius x y k) (sym (add-zero (row * side radius)))
+along-row img columns radius x y row (suc n) part centre p c h =
+    let k = row * side radius + n in
+    ap (λ (s : Sums). added columns k (ofInt binary32 (pos (getD part n 0)) ⊖ centre) s) (along-row img columns radius x y row n part centre p c (omega arith))
+    ∙ sums-more img columns radius x y k (ofInt binary32 (pos (getD part n 0)) ⊖ centre)
+    (ap (λ (l : List ℕ). ofInt binary32 (pos (getD l n 0)) ⊖ centre) p
+    ∙ ap (λ (v : ℕ). ofInt binary32 (pos v) ⊖ centre) (row-sample img radius x y row n (omega arith))
+    ∙ ap (λ (v : Float). sampleOf img radius x y k ⊖ v) c)
+    ∙ ap (λ (m : ℕ). sumsOf img columns radius x y m) (sym (add-suc (row * side radius) n))
+
+pub sums-none : (img : Image) (columns : List Float) (radius x y : ℕ) → record { a = plusZero; b = plusZero; c = plusZero; d = plusZero; e = plusZero } ≡ sumsOf img columns radius x y (0 * side radius)
+unfolding turns
+sums-none img columns radius x y = ap (λ (n : ℕ). sumsOf img columns radius x y n) (sym (zero-mul (side radius)))
+
+pub row-done : (img : Image) (columns : List Float) (radius x y row : ℕ) (part : List ℕ) (centre : Float) (s r : Sums) → s ≡ sumsOf img columns radius x y (row * side radius) → part ≡ take (side radius) (drop ((y - radius + row) * stride img + (x - radius)) (img .samples)) → length part ≡ side radius → centre ≡ sampleOf img radius x y (samples radius / 2) → r ≡ rowAdded columns part centre (row * side radius) (length part) s → r ≡ sumsOf img columns radius x y ((row + 1) * side radius)
+row-done img columns radius x y row part centre s r e p l c q =
+    q
+    ∙ ap (λ (n : ℕ). rowAdded columns part centre (row * side radius) n s) l
+    ∙ ap (λ (t : Sums). rowAdded columns part centre (row * side radius) (side radius) t) e
+    ∙ along-row img columns radius x y row (side radius) part centre p c (le-refl (side radius))
+    ∙ ap (λ (n : ℕ). sumsOf img columns radius x y n) (sym (add-mul row 1 (side radius) ∙ ap (λ (n : ℕ). row * side radius + n) (one-mul (side radius))))
+
+pub all-rows : (img : Image) (columns : List Float) (radius x y row : ℕ) (s : Sums) → row ≡ side radius → s ≡ sumsOf img columns radius x y (row * side radius) → s .a ∷ s .b ∷ s .c ∷ s .d ∷ s .e ∷ [] ≡ coefficients img columns radius x y
+unfolding tabulated coefficient coefficients
+all-rows img columns radius x y row s h e =
+    ap (λ (t : Sums). t .a ∷ t .b ∷ t .c ∷ t .d ∷ t .e ∷ []) (e ∙ ap (λ (n : ℕ). sumsOf img columns radius x y (n * side radius)) h)
+
+-- ---- what lies in the image
+pub row-within : (img : Image) (radius x y row : ℕ) → PatchWithin img radius x y → row < side radius → (y - radius + row) * stride img + (x - radius) + side radius ≤ length (img .samples)
+row-within img radius x y row w h =
+    index img (w .sound .image) (x - radius) (y - radius + row) (side radius) (in-width x radius (img .width) (w .left) (w .right)) (in-height y radius row (img .height) (w .above) (w .below) h)
+  where
+    in-height : (y radius row height : ℕ) → radius ≤ y → y + radius < height → row < 2 * radius + 1 → y - radius + row < height
+    in-height y radius row height p q h = omega arith
+
+    in-width : (x radius width : ℕ) → radius ≤ x → x + radius < width → x - radius + (2 * radius + 1) ≤ width
+    in-width x radius width p q = omega arith
+
+pub centre-within : (img : Image) (radius x y : ℕ) → PatchWithin img radius x y → y * stride img + x < length (img .samples)
+centre-within img radius x y w = omega (arith, index img (w .sound .image) x y 1 (omega (arith, w .right)) (omega (arith, w .below)))
+
+-- a row of the patch is whole, and its samples are numbered below 225
+pub part-length : (img : Image) (from count : ℕ) (part : List ℕ) → from + count ≤ length (img .samples) → part ≡ take count (drop from (img .samples)) → length part ≡ count
+part-length img from count part h e = ap length e ∙ length-take-le count (drop from (img .samples)) (subst (λ (n : ℕ). count ≤ n) (sym (length-drop from (img .samples))) (omega arith))
+
+pub numbered : (radius row : ℕ) → radius ≤ 7 → row < side radius → row * side radius + side radius ≤ 225
+numbered radius row h g =
+    subst (λ (n : ℕ). n ≤ 225) (suc-mul row (side radius)) (le-trans (mul-le-mul-right (side radius) g) (mul-le-mul {n₁ = side radius} {m₁ = side radius} {n₂ = 15} {m₂ = 15} (omega arith) (omega arith)))

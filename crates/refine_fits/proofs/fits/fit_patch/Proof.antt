@@ -1,0 +1,119 @@
+-- `refine_fits::fits::fit_patch` meets its contract. After some rows the sums have these rows' samples.
+use mathlib.Core.Path.{_≡_, refl, sym, ap, _∙_, subst}
+use Prim.Native.Nat.{ℕ, _+_, _-_, _*_, _≤_, _<_}
+use native.Mathlib.Nat.{le-trans}
+use native.Mathlib.Omega.{arith}
+use lib.ListN.{length}
+use lib.IntN.{pos}
+use lib.Ieee.{ofBits, ofInt, binary32}
+use mir.Facts.{fits-le, fits-lit}
+use Rattle.imageview.specs.Image.{imageOf}
+use Rattle.refine_operator.specs.Basis as Basis
+use Rattle.refine_fits.specs.StepsAdding.{sumsOf, PatchWithin}
+use Rattle.refine_fits.proofs.FitLaws.{sums-none, row-done, all-rows, centre-sample, row-within, centre-within, part-length, numbered}
+use Rattle.refine_fits.proofs.fits.fit_patch.Statement.{statement}
+use Rattle.refine_fits.proofs.fits.fit_patch.Tie as tie
+
+abbrev Inv-loop : tie.InvT-loop
+Inv-loop img sizes x y radius columns side centre sums₀ row₀ sums row =
+    (row ≤ 2 * radius + 1) × (sums ≡ sumsOf (imageOf img sizes) columns radius x y (row * Basis.side radius))
+
+abbrev μ-loop : tie.MeasureT-loop
+μ-loop img sizes x y radius columns side centre sums₀ row₀ sums row = side - row
+
+mul-side : tie.Need-mul-side Inv-loop μ-loop
+mul-side c = omega arith
+
+add-side : tie.Need-add-side Inv-loop μ-loop
+add-side c = omega arith
+
+sample-requires : tie.Need-sample-requires Inv-loop μ-loop
+sample-requires c κs =
+    let a = c .before .args in
+    centre-within (imageOf (a .img .now) (a .sizes)) (a .radius) (a .x) (a .y) (c .before .pre)
+
+int-to-float-centre : tie.Need-int-to-float-centre Inv-loop μ-loop
+int-to-float-centre c = tt
+
+loop-holds : tie.Need-loop-holds Inv-loop μ-loop
+unfolding ofBits
+loop-holds c =
+    let a = c .before .before .before .args in
+    (omega arith, sums-none (imageOf (a .img .now) (a .sizes)) (a .columns .now) (a .radius) (a .x) (a .y))
+
+sub-patch-row : tie.Need-sub-patch-row Inv-loop μ-loop
+sub-patch-row c = c .before .before .before .before .before .pre .left
+
+sub-patch-row-2 : tie.Need-sub-patch-row-2 Inv-loop μ-loop
+sub-patch-row-2 c = c .before .before .before .before .before .pre .above
+
+add-patch-row : tie.Need-add-patch-row Inv-loop μ-loop
+add-patch-row c = omega (arith, c .before .before .before .before .before .fits .y, c .before .before .before .before .before .pre)
+
+patch-row-requires : tie.Need-patch-row-requires Inv-loop μ-loop
+patch-row-requires c κs =
+    let s = c .before .before .before .before .before in
+    let a = s .args in
+    row-within (imageOf (a .img .now) (a .sizes)) (a .radius) (a .x) (a .y) (c .before .loop .row) (s .pre) (c .loop-test .taken)
+
+mul-add-row : tie.Need-mul-add-row Inv-loop μ-loop
+mul-add-row c =
+    let s = c .before .before .before .before .before .before in
+    omega (arith, numbered (s .args .radius) (c .before .before .loop .row) (s .pre .sound .small) (c .before .loop-test .taken))
+
+-- the part has as many samples as the patch has columns
+whole : (c : tie.After-patch-row Inv-loop μ-loop) → length (c .patch-row .result .now) ≡ Basis.side (c .before .before .before .before .before .before .args .radius)
+whole c =
+    let s = c .before .before .before .before .before .before in
+    let a = s .args in
+    let img = imageOf (a .img .now) (a .sizes) in
+    part-length img ((a .y - a .radius + c .before .before .loop .row) * a .sizes .width + (a .x - a .radius)) (Basis.side (a .radius)) (c .patch-row .result .now) (row-within img (a .radius) (a .x) (a .y) (c .before .before .loop .row) (s .pre) (c .before .loop-test .taken)) (c .patch-row .ensures)
+
+add-row-requires : tie.Need-add-row-requires Inv-loop μ-loop
+add-row-requires c κs =
+    let s = c .before .before .before .before .before .before in
+    let row = c .before .before .loop .row in
+    subst (λ (n : ℕ). row * Basis.side (s .args .radius) + n ≤ 225) (sym (whole c)) (numbered (s .args .radius) row (s .pre .sound .small) (c .before .loop-test .taken))
+
+add-row : tie.Need-add-row Inv-loop μ-loop
+add-row c = omega (arith, c .before .before .before .before .before .before .before .pre .sound .small)
+
+loop-less : tie.Need-loop-less Inv-loop μ-loop
+loop-less c = omega arith
+
+loop-again : tie.Need-loop-again Inv-loop μ-loop
+loop-again c =
+    let s = c .before .before .before .before .before .before .before in
+    let a = s .args in
+    let l = c .before .before .before .loop in
+    let img = imageOf (a .img .now) (a .sizes) in
+    (omega arith, row-done img (a .columns .now) (a .radius) (a .x) (a .y) (l .row) (c .before .patch-row .result .now) _ (l .sums) (c .add-row .result) (l .inv .1) (c .before .patch-row .ensures) (whole (c .before)) (ap (λ (v : ℕ). ofInt binary32 (pos v)) (c .before .before .before .before .before .sample .ensures) ∙ centre-sample img (a .radius) (a .x) (a .y) (s .pre .left) (s .pre .above)) (c .add-row .ensures))
+
+returns : tie.Need-returns Inv-loop μ-loop
+returns c =
+    let s = c .before .before .before .before .before in
+    let a = s .args in
+    let l = c .before .loop in
+    all-rows (imageOf (a .img .now) (a .sizes)) (a .columns .now) (a .radius) (a .x) (a .y) (l .row) (l .sums) (let e : l .row ≡ 2 * a .radius + 1 = omega arith in e) (l .inv .1)
+
+pub fit-patch-spec : {M : Type 1} → statement M
+fit-patch-spec =
+    tie.close
+    (tie.spec
+    Inv-loop
+    μ-loop
+    mul-side
+    add-side
+    sample-requires
+    int-to-float-centre
+    loop-holds
+    sub-patch-row
+    sub-patch-row-2
+    add-patch-row
+    patch-row-requires
+    mul-add-row
+    add-row-requires
+    add-row
+    loop-less
+    loop-again
+    returns)

@@ -1,0 +1,68 @@
+// The fit on the patch about a pixel: rows one after the other, each a part of the image.
+use super::Sums;
+use imageview::Sizes;
+ghost use mathlib.Core.Path.{_≡_};
+ghost use Prim.Native.Nat.{_+_, _*_, _<_, _≤_};
+ghost use lib.ListN.{length};
+ghost use Rattle.imageview.specs.Image.{imageOf};
+ghost use Rattle.refine_fits.specs.Fit.{coefficients};
+ghost use Rattle.refine_fits.specs.StepsAdding.{added, rowAdded, PatchWithin};
+
+// The sums with the sample k, which is z above the centre's.
+fn add_sample(s: Sums, columns: &[f32; 1125], k: usize, z: f32) -> Sums
+    requires { ⌜ k < 225 ⌝ }
+    ensures { λ r. ⌜ r ≡ added (now (columns .entry)) k z s ⌝ }
+{
+    let i = 5 * k;
+    Sums {
+        a: s.a + columns[i] * z,
+        b: s.b + columns[i + 1] * z,
+        c: s.c + columns[i + 2] * z,
+        d: s.d + columns[i + 3] * z,
+        e: s.e + columns[i + 4] * z,
+    }
+}
+
+// The sums with a row of samples, the first of which is the sample `from`.
+fn add_row(s: Sums, columns: &[f32; 1125], row: &[u8], centre: f32, from: usize) -> Sums
+    requires { ⌜ from + length (now row) ≤ 225 ⌝ }
+    ensures { λ r. ⌜ r ≡ rowAdded (now (columns .entry)) (now (row .entry)) centre from (length (now (row .entry))) s ⌝ }
+{
+    let mut sums = s;
+    let mut i: usize = 0;
+    while i < row.len() {
+        sums = add_sample(sums, columns, from + i, row[i] as f32 - centre);
+        i += 1;
+    }
+    sums
+}
+
+// The coefficients a to e of the fit about the pixel (x, y).
+pub fn fit_patch(
+    img: &[u8],
+    sizes: Sizes,
+    x: usize,
+    y: usize,
+    radius: usize,
+    columns: &[f32; 1125],
+) -> [f32; 5]
+    requires { ⌜ PatchWithin (imageOf (now img) sizes) radius x y ⌝ }
+    ensures { λ r. ⌜ r ≡ coefficients (imageOf (now (img .entry)) sizes) (now (columns .entry)) radius x y ⌝ }
+{
+    let side = 2 * radius + 1;
+    let centre = imageview::sample(img, sizes, x, y) as f32;
+    let mut sums = Sums {
+        a: 0.0,
+        b: 0.0,
+        c: 0.0,
+        d: 0.0,
+        e: 0.0,
+    };
+    let mut row: usize = 0;
+    while row < side {
+        let part = imageview::patch_row(img, sizes.width, x - radius, y - radius + row, side);
+        sums = add_row(sums, columns, part, centre, row * side);
+        row += 1;
+    }
+    [sums.a, sums.b, sums.c, sums.d, sums.e]
+}

@@ -1,0 +1,130 @@
+// One candidate window: its fit, and whether it is taken.
+use super::Candidate;
+use super::IntegerFits;
+use super::Seed;
+use super::Weighed;
+use crate::place;
+use imageview::Sizes;
+use refine_formulas::Corners;
+use refine_formulas::PatchSaddle;
+use refine_formulas::SaddlePointConfig;
+use refine_formulas::Solved;
+use refine_formulas::between;
+use refine_formulas::solve;
+ghost use mathlib.Core.Path.{_≡_};
+ghost use mathlib.Core.Bool.{_&&_};
+ghost use Prim.Native.Nat.{_<_, _≤_};
+ghost use lib.IntN.{pos};
+ghost use Rattle.imageview.specs.Image.{imageOf};
+ghost use Rattle.refine_fits.specs.Candidate.{halfSide, nearAlong, taskAt};
+ghost use Rattle.refine_fits.specs.StepsTries.{Weighs, Tries};
+ghost use Rattle.refine_fits.specs.StepsAdding.{Sound};
+ghost use Rattle.refine_fits.specs.StepsCache.{Kept};
+
+// Half the side of the box about the seed.
+fn half_side(cfg: SaddlePointConfig) -> f32
+    requires { ⌜ cfg .radius ≤ 7 ⌝ }
+    ensures { λ r. ⌜ r ≡ halfSide cfg ⌝ }
+{
+    let edge = cfg.radius as u16 as f32 + 0.5;
+    if cfg.max_offset < edge {
+        return cfg.max_offset;
+    }
+    edge
+}
+
+// Whether a place, from the centre pixel, lies in the box about the seed along one axis.
+fn near_along(cfg: SaddlePointConfig, centre: usize, est: f32, seed: f32) -> bool
+    requires { ⌜ (cfg .radius ≤ 7) × (centre < 4096) ⌝ }
+    ensures { λ r. ⌜ r ≡ nearAlong cfg (pos centre) est seed ⌝ }
+{
+    let away = floats::magnitude_f32(centre as u16 as f32 + est - seed);
+    away <= half_side(cfg)
+}
+
+pub fn near_seed(cfg: SaddlePointConfig, seed: Seed, x: f32, y: f32) -> bool
+    requires { ⌜ (cfg .radius ≤ 7) × (seed .«centre_x» < 4096) × (seed .«centre_y» < 4096) ⌝ }
+    ensures { λ r. ⌜ r ≡ (nearAlong cfg (pos (seed .«centre_x»)) x (seed .x) && nearAlong cfg (pos (seed .«centre_y»)) y (seed .y)) ⌝ }
+{
+    if near_along(cfg, seed.centre_x, x, seed.x) {
+        return near_along(cfg, seed.centre_y, y, seed.y);
+    }
+    false
+}
+
+// The blend of four fits, against the saddle f that it has to better.
+fn weigh(
+    cfg: SaddlePointConfig,
+    seed: Seed,
+    f: PatchSaddle,
+    ox: f32,
+    oy: f32,
+    corners: Corners,
+    tx: f32,
+    ty: f32,
+) -> Weighed
+    requires { ⌜ (cfg .radius ≤ 7) × (seed .«centre_x» < 4096) × (seed .«centre_y» < 4096) ⌝ }
+    ensures { λ r. ⌜ Weighs cfg seed f ox oy corners tx ty r ⌝ }
+{
+    let solved = solve::solve(cfg, between::blend(corners, tx, ty));
+    match solved {
+        Solved::Refused(_) => Weighed {
+            taken: false,
+            fit: f,
+        },
+        Solved::Saddle(g) => {
+            if solve::norm2(g) < solve::norm2(f) {
+                if near_seed(cfg, seed, ox + g.ux, oy + g.uy) {
+                    return Weighed {
+                        taken: true,
+                        fit: g,
+                    };
+                }
+            }
+            Weighed {
+                taken: false,
+                fit: f,
+            }
+        }
+    }
+}
+
+// The window at an offset from the centre.
+pub fn candidate(
+    fits: IntegerFits,
+    img: &[u8],
+    sizes: Sizes,
+    columns: &[f32; 1125],
+    cfg: SaddlePointConfig,
+    seed: Seed,
+    f: PatchSaddle,
+    ox: f32,
+    oy: f32,
+) -> Candidate
+    requires { ⌜ Sound (imageOf (now img) sizes) (cfg .radius) ⌝ ∗ ⌜ (seed .«centre_x» < 4096) × (seed .«centre_y» < 4096) ⌝ ∗ ⌜ Kept (imageOf (now img) sizes) (now columns) (cfg .radius) fits ⌝ }
+    ensures { λ r. ⌜ Tries (taskAt (imageOf (now (img .entry)) sizes) (now (columns .entry)) cfg seed) f ox oy r ⌝ }
+{
+    let window = place::window_at(seed.centre_x, seed.centre_y, ox, oy);
+    let radius = cfg.radius;
+    let base_x = window.base_x;
+    let base_y = window.base_y;
+    let around = fits.about(img, sizes, base_x, base_y, radius, columns);
+    let next = around.fits;
+    if around.found {
+        let corners = next.corners;
+        let weighed = weigh(cfg, seed, f, ox, oy, corners, window.tx, window.ty);
+        let fit = weighed.fit;
+        return Candidate {
+            taken: weighed.taken,
+            window,
+            fit,
+            fits: next,
+        };
+    }
+    Candidate {
+        taken: false,
+        window,
+        fit: f,
+        fits: next,
+    }
+}

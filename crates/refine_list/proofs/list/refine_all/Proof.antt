@@ -1,0 +1,114 @@
+-- `refine_list::list::refine_all` meets its contract: the records of the seeds so far stand in the front of the output.
+use Prim.Native.Nat.{_-_, _≤_}
+use native.Mathlib.Omega.{arith}
+use Rattle.imageview.specs.Image.{imageOf}
+use Rattle.refine_list.specs.Steps.{Going}
+use Rattle.refine_list.proofs.ListLaws.{begins, room, goes-on, spot-is, as-long, ends}
+use Rattle.refine_list.proofs.list.refine_all.Statement.{statement}
+use Rattle.refine_list.proofs.list.refine_all.Tie as tie
+
+abbrev Inv-loop : tie.InvT-loop
+Inv-loop img sizes cfg columns corners out₀ n written₀ i₀ out written i = Going (imageOf img sizes) cfg corners out₀ i written out × (i ≤ n)
+
+abbrev μ-loop : tie.MeasureT-loop
+μ-loop img sizes cfg columns corners out₀ n written₀ i₀ out written i = n - i
+
+loop-holds : tie.Need-loop-holds Inv-loop μ-loop
+loop-holds c =
+    let a = c .before .before .before .args in
+    (begins (imageOf (a .img .now) (a .sizes)) (a .cfg) (a .corners .now) (a .out .now), omega arith)
+
+mul-spot-with : tie.Need-mul-spot-with Inv-loop μ-loop
+mul-spot-with c = omega arith
+
+mul-spot-with-2 : tie.Need-mul-spot-with-2 Inv-loop μ-loop
+mul-spot-with-2 c = omega arith
+
+shared-slice-read-spot-with : tie.Need-shared-slice-read-spot-with Inv-loop μ-loop
+shared-slice-read-spot-with c = omega arith
+
+mul-spot-with-3 : tie.Need-mul-spot-with-3 Inv-loop μ-loop
+mul-spot-with-3 c = omega arith
+
+add-spot-with : tie.Need-add-spot-with Inv-loop μ-loop
+add-spot-with c = omega arith
+
+mul-spot-with-4 : tie.Need-mul-spot-with-4 Inv-loop μ-loop
+mul-spot-with-4 c = omega arith
+
+shared-slice-read-spot-with-2 : tie.Need-shared-slice-read-spot-with-2 Inv-loop μ-loop
+shared-slice-read-spot-with-2 c = omega arith
+
+spot-with-requires : tie.Need-spot-with-requires Inv-loop μ-loop
+spot-with-requires c κs = tt
+
+mul-put : tie.Need-mul-put Inv-loop μ-loop
+mul-put c = omega arith
+
+add-put : tie.Need-add-put Inv-loop μ-loop
+add-put c = omega arith
+
+mul-put-2 : tie.Need-mul-put-2 Inv-loop μ-loop
+mul-put-2 c = omega arith
+
+shared-slice-read-put : tie.Need-shared-slice-read-put Inv-loop μ-loop
+shared-slice-read-put c = omega arith
+
+put-requires : tie.Need-put-requires Inv-loop μ-loop
+put-requires c κs =
+    let a = c .before .before .before .before .before .before .before .before .before .before .args in
+    let l = c .before .before .before .before .before .before .loop in
+    room (imageOf (a .img .now) (a .sizes)) (a .cfg) (a .corners .now) (a .out .now) (l .i) (l .written) (l .out) (l .inv .0) (c .before .before .before .before .before .loop-test .taken) (c .before .before .before .before .before .before .before .before .before .before .pre .0)
+
+add-i : tie.Need-add-i Inv-loop μ-loop
+add-i c = omega arith
+
+loop-less : tie.Need-loop-less Inv-loop μ-loop
+loop-less c = omega arith
+
+loop-again : tie.Need-loop-again Inv-loop μ-loop
+loop-again c =
+    let a = c .before .before .before .before .before .before .before .before .before .before .before .before .before .args in
+    let l = c .before .before .before .before .before .before .before .before .before .loop in
+    let p = c .before .before .put in
+    let s = c .before .before .before .before .before .spot-with in
+    let img = imageOf (a .img .now) (a .sizes) in
+    (goes-on img (a .cfg) (a .corners .now) (a .out .now) (l .i) (l .written) (l .out) (l .inv .0) (s .result) (spot-is img (a .cfg) (a .columns .now) (a .corners .now) (l .i) (s .result) (c .before .before .before .before .before .before .before .before .before .before .before .before .before .pre .1) (s .ensures)) (p .result) (p .last .0) (p .ensures .0) (p .ensures .1), omega arith)
+
+same-length : tie.Need-same-length Inv-loop μ-loop
+same-length c =
+    let a = c .before .before .before .before .before .args in
+    let l = c .before .loop in
+    as-long (imageOf (a .img .now) (a .sizes)) (a .cfg) (a .corners .now) (a .out .now) (l .i) (l .written) (l .out) (l .inv .0) (omega arith)
+
+returns : tie.Need-returns Inv-loop μ-loop
+returns c =
+    let a = c .before .before .before .before .before .args in
+    let l = c .before .loop in
+    ends (imageOf (a .img .now) (a .sizes)) (a .cfg) (a .corners .now) (a .out .now) (l .i) (l .written) (l .out) (l .inv .0) (omega arith)
+
+pub refine-all-spec : {M : Type 1} → statement M
+refine-all-spec =
+    tie.close
+    (tie.spec
+    Inv-loop
+    μ-loop
+    loop-holds
+    mul-spot-with
+    mul-spot-with-2
+    shared-slice-read-spot-with
+    mul-spot-with-3
+    add-spot-with
+    mul-spot-with-4
+    shared-slice-read-spot-with-2
+    spot-with-requires
+    mul-put
+    add-put
+    mul-put-2
+    shared-slice-read-put
+    put-requires
+    add-i
+    loop-less
+    loop-again
+    same-length
+    returns)

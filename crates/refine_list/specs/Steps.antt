@@ -1,0 +1,31 @@
+-- What the list's inner functions do: records written to the front of the output.
+use mathlib.Core.Path.{_≡_}
+use mathlib.Core.Bool.{Bool}
+use mathlib.Core.List.{List, _++_}
+use Prim.Native.Nat.{ℕ, _*_, _/_, _≤_}
+use lib.ListN.{length, drop}
+use lib.Ieee.{Float}
+use Rattle.imageview.specs.Image.{Image}
+use Rattle.refine_formulas.specs.declared.SaddlePointConfig.{SaddlePointConfig}
+use Rattle.refine_seed.specs.Refine.{refineLent, refineOf}
+use Rattle.refine_list.specs.Refining.{recordsOf}
+
+-- so many numbers, those of l, were written to the front
+pub record Front (l out : List Float) (n : ℕ) (out' : List Float) : Type 0 where
+  pub count : n ≡ length l
+  pub leaves : out' ≡ l ++ drop (length l) out
+
+-- the records of all seeds
+abbrev pub AllWritten : Image → SaddlePointConfig → List Float → List Float → ℕ → List Float → Type 0
+AllWritten img cfg corners = Front (recordsOf img cfg corners (length corners / 3))
+
+-- after i seeds, with w numbers written
+pub record Going (img : Image) (cfg : SaddlePointConfig) (corners out : List Float) (i w : ℕ) (now : List Float) : Type 0 where
+  pub count : w ≡ length (recordsOf img cfg corners i)
+  pub leaves : now ≡ recordsOf img cfg corners i ++ drop (length (recordsOf img cfg corners i)) out
+  pub most : length (recordsOf img cfg corners i) ≤ 3 * i
+
+-- columns with which every seed is refined as by the operator of the settings' radius, whatever the overlaps
+pub record Usable (cfg : SaddlePointConfig) (columns : List Float) : Type 0 where
+  pub overlap : List Float
+  pub same : (img : Image) (x y : Float) (wanted : Bool) → refineLent img cfg x y wanted columns overlap ≡ refineOf img cfg x y wanted

@@ -1,0 +1,17 @@
+-- The refiner of one seed depends on the pixels alone: on two images that show the same it answers the same, with its own operator and with whatever is lent.
+use mathlib.Core.Path.{_≡_}
+use mathlib.Core.Bool.{Bool}
+use mathlib.Core.List.{List}
+use lib.Ieee.{Float}
+use Rattle.imageview.specs.Image.{Image}
+use Rattle.imageview.specs.Same.{SamePixels}
+use Rattle.refine_formulas.specs.declared.SaddlePointConfig.{SaddlePointConfig}
+use Rattle.refine_seed.specs.Refine.{refineOf, refineLent}
+
+abbrev pub ByPixels : Type 0
+ByPixels = (a b : Image) → SamePixels a b → (cfg : SaddlePointConfig) (x y : Float) (wanted : Bool) → refineOf a cfg x y wanted ≡ refineOf b cfg x y wanted
+
+abbrev pub LentByPixels : Type 0
+LentByPixels =
+    (a b : Image) → SamePixels a b → (cfg : SaddlePointConfig) (x y : Float) (wanted : Bool) (columns overlap : List Float)
+    → refineLent a cfg x y wanted columns overlap ≡ refineLent b cfg x y wanted columns overlap

@@ -1,0 +1,202 @@
+// One seed: its tests in their order, the first fit, and what follows from it.
+use super::Admitted;
+use super::Refined;
+use super::Why;
+use crate::closing;
+use imageview::Sizes;
+use refine_fits::Seed;
+use refine_fits::fits;
+use refine_fits::tries;
+use refine_formulas::SaddlePointConfig;
+use refine_formulas::Solved;
+use refine_formulas::solve;
+use refine_operator::Operator;
+use refusals::Refusal;
+ghost use mathlib.Core.Path.{_≡_};
+ghost use Rattle.imageview.specs.Image.{imageOf};
+ghost use Rattle.refine_formulas.specs.Solve.{goodLimit};
+ghost use Rattle.refine_seed.specs.Refine.{goodLimits, whyNumber, admitOf, refineWith, withOperator, lentWith, refineLent, refineOf};
+ghost use Rattle.refine_fits.specs.StepsAdding.{PatchWithin};
+ghost use Rattle.refine_operator.specs.Call.{wayOf};
+
+// The refiner of one seed with an operator that is lent.
+pub fn refine_with(
+    img: &[u8],
+    sizes: Sizes,
+    cfg: SaddlePointConfig,
+    x: f32,
+    y: f32,
+    wanted: bool,
+    columns: &[f32; 1125],
+    overlap: &[f32; 225],
+) -> Refined
+    ensures { λ r. ⌜ r ≡ refineLent (imageOf (now (img .entry)) sizes) cfg x y wanted (now (columns .entry)) (now (overlap .entry)) ⌝ }
+{
+    let admitted = admit(img, sizes, cfg, x, y);
+    match admitted {
+        Admitted::Good(seed) => refine_lent(img, sizes, cfg, seed, wanted, columns, overlap),
+        Admitted::Unmoved(why) => Refined::Unmoved(why, 0.0),
+        Admitted::Refused(refusal) => Refined::Refused(refusal),
+    }
+}
+
+// The refiner of one seed; it builds its own operator, after the tests.
+pub fn refine(
+    img: &[u8],
+    sizes: Sizes,
+    cfg: SaddlePointConfig,
+    x: f32,
+    y: f32,
+    wanted: bool,
+) -> Refined
+    ensures { λ r. ⌜ r ≡ refineOf (imageOf (now (img .entry)) sizes) cfg x y wanted ⌝ }
+{
+    let admitted = admit(img, sizes, cfg, x, y);
+    match admitted {
+        Admitted::Good(seed) => refine_fresh(img, sizes, cfg, seed, wanted),
+        Admitted::Unmoved(why) => Refined::Unmoved(why, 0.0),
+        Admitted::Refused(refusal) => Refined::Refused(refusal),
+    }
+}
+
+// A seed that passed the tests, with the operator of the settings' radius; at radius 0 there is none.
+fn refine_fresh(
+    img: &[u8],
+    sizes: Sizes,
+    cfg: SaddlePointConfig,
+    seed: Seed,
+    wanted: bool,
+) -> Refined
+    requires { ⌜ PatchWithin (imageOf (now img) sizes) (cfg .radius) (seed .«centre_x») (seed .«centre_y») ⌝ }
+    ensures { λ r. ⌜ r ≡ withOperator (imageOf (now (img .entry)) sizes) cfg seed wanted (wayOf (cfg .radius)) ⌝ }
+{
+    let mut columns = [0.0f32; 1125];
+    let mut overlap = [0.0f32; 225];
+    let operator = refine_operator::fit_operator(cfg.radius, &mut columns, &mut overlap);
+    match operator {
+        Operator::Built => refine_seed(img, sizes, cfg, seed, wanted, &columns, &overlap),
+        Operator::Singular => Refined::Unmoved(Why::IllConditioned, 0.0),
+        Operator::Refused(refusal) => Refined::Refused(refusal),
+    }
+}
+
+// The number of a reason.
+pub fn why_number(why: Why) -> u32
+    ensures { λ r. ⌜ r ≡ whyNumber why ⌝ }
+{
+    match why {
+        Why::Rejected => 1,
+        Why::OutOfBounds => 2,
+        Why::IllConditioned => 3,
+    }
+}
+
+// A setting that is finite and not below zero.
+fn good_limit(v: f32) -> bool
+    ensures { λ r. ⌜ r ≡ goodLimit v ⌝ }
+{
+    if floats::is_finite_f32(v) {
+        if v < 0.0 {
+            return false;
+        }
+        return true;
+    }
+    false
+}
+
+// The test of the settings.
+pub fn good_limits(cfg: SaddlePointConfig) -> bool
+    ensures { λ r. ⌜ r ≡ goodLimits cfg ⌝ }
+{
+    if good_limit(cfg.det_margin) {
+        if good_limit(cfg.max_offset) {
+            return good_limit(cfg.min_abs_det);
+        }
+        return false;
+    }
+    false
+}
+
+// The tests before the first fit.
+pub fn admit(img: &[u8], sizes: Sizes, cfg: SaddlePointConfig, x: f32, y: f32) -> Admitted
+    ensures { λ r. ⌜ r ≡ admitOf (imageOf (now (img .entry)) sizes) cfg x y ⌝ }
+{
+    if !imageview::is_image(img, sizes) {
+        return Admitted::Refused(Refusal::BadImage);
+    }
+    if 7 < cfg.radius {
+        return Admitted::Refused(Refusal::BadRadius);
+    }
+    if !good_limits(cfg) {
+        return Admitted::Refused(Refusal::BadLimit);
+    }
+    let cx = floats::f32_to_i32(floats::round_f32(x));
+    let cy = floats::f32_to_i32(floats::round_f32(y));
+    if !imageview::supports_patch(sizes, cx, cy, cfg.radius) {
+        return Admitted::Unmoved(Why::OutOfBounds);
+    }
+    Admitted::Good(Seed {
+        x,
+        y,
+        centre_x: cx as usize,
+        centre_y: cy as usize,
+    })
+}
+
+// A seed that passed the tests, with an operator that is lent; at radius 0 there is none, whatever is lent.
+fn refine_lent(
+    img: &[u8],
+    sizes: Sizes,
+    cfg: SaddlePointConfig,
+    seed: Seed,
+    wanted: bool,
+    columns: &[f32; 1125],
+    overlap: &[f32; 225],
+) -> Refined
+    requires { ⌜ PatchWithin (imageOf (now img) sizes) (cfg .radius) (seed .«centre_x») (seed .«centre_y») ⌝ }
+    ensures { λ r. ⌜ r ≡ lentWith cfg (refineWith (imageOf (now (img .entry)) sizes) cfg seed wanted (now (columns .entry)) (now (overlap .entry))) ⌝ }
+{
+    if cfg.radius == 0 {
+        return Refined::Unmoved(Why::IllConditioned, 0.0);
+    }
+    refine_seed(img, sizes, cfg, seed, wanted, columns, overlap)
+}
+
+// A seed that passed the tests: the first fit decides acceptance.
+fn refine_seed(
+    img: &[u8],
+    sizes: Sizes,
+    cfg: SaddlePointConfig,
+    seed: Seed,
+    wanted: bool,
+    columns: &[f32; 1125],
+    overlap: &[f32; 225],
+) -> Refined
+    requires { ⌜ PatchWithin (imageOf (now img) sizes) (cfg .radius) (seed .«centre_x») (seed .«centre_y») ⌝ }
+    ensures { λ r. ⌜ r ≡ refineWith (imageOf (now (img .entry)) sizes) cfg seed wanted (now (columns .entry)) (now (overlap .entry)) ⌝ }
+{
+    let radius = cfg.radius;
+    let cx = seed.centre_x;
+    let cy = seed.centre_y;
+    let here = fits::fit_patch(img, sizes, cx, cy, radius, columns);
+    let solved = solve::solve(cfg, here);
+    match solved {
+        Solved::Refused(det) => Refined::Unmoved(Why::IllConditioned, det),
+        Solved::Saddle(f) => {
+            if tries::near_seed(cfg, seed, f.ux, f.uy) {
+                return Refined::Accepted(closing::estimate(
+                    img,
+                    sizes,
+                    columns,
+                    overlap,
+                    cfg,
+                    seed,
+                    here,
+                    f,
+                    wanted,
+                ));
+            }
+            Refined::Unmoved(Why::Rejected, f.det_h)
+        }
+    }
+}

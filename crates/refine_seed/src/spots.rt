@@ -1,0 +1,131 @@
+// Where a seed is refined to and nothing else: no root, no slope and no covariance is worked out, which a list does not ask for.
+use super::Admitted;
+use super::Spot;
+use crate::entry;
+use crate::steps;
+use imageview::Sizes;
+use refine_fits::Seed;
+use refine_fits::fits;
+use refine_fits::tries;
+use refine_formulas::PatchSaddle;
+use refine_formulas::SaddlePointConfig;
+use refine_formulas::Solved;
+use refine_formulas::solve;
+ghost use mathlib.Core.Path.{_≡_};
+ghost use Prim.Native.Nat.{_<_};
+ghost use lib.IntN.{pos};
+ghost use lib.Ieee.{binary32, ofInt};
+ghost use Rattle.imageview.specs.Image.{imageOf};
+ghost use Rattle.refine_formulas.specs.Numbers.{_⊕_};
+ghost use Rattle.refine_fits.specs.StepsAdding.{PatchWithin};
+ghost use Rattle.refine_fits.specs.Candidate.{taskAt};
+ghost use Rattle.refine_seed.specs.declared.Spot.the-variants.{At};
+ghost use Rattle.refine_seed.specs.Refine.{refineWith, lentWith, refineLent};
+ghost use Rattle.refine_seed.specs.StepsSpot.{Comes, Lands};
+
+// The spot of one seed with an operator that is lent.
+pub fn spot_with(
+    img: &[u8],
+    sizes: Sizes,
+    cfg: SaddlePointConfig,
+    x: f32,
+    y: f32,
+    columns: &[f32; 1125],
+) -> Spot
+    ensures { λ r. ⌜ Lands (λ overlap wanted. refineLent (imageOf (now (img .entry)) sizes) cfg x y wanted (now (columns .entry)) overlap) r ⌝ }
+{
+    let admitted = entry::admit(img, sizes, cfg, x, y);
+    match admitted {
+        Admitted::Good(seed) => spot_lent(img, sizes, cfg, seed, columns),
+        Admitted::Unmoved(_) => Spot::Nowhere,
+        Admitted::Refused(_) => Spot::Nowhere,
+    }
+}
+
+// A seed that passed the tests; at radius 0 there is no operator, whatever is lent.
+fn spot_lent(
+    img: &[u8],
+    sizes: Sizes,
+    cfg: SaddlePointConfig,
+    seed: Seed,
+    columns: &[f32; 1125],
+) -> Spot
+    requires { ⌜ PatchWithin (imageOf (now img) sizes) (cfg .radius) (seed .«centre_x») (seed .«centre_y») ⌝ }
+    ensures { λ r. ⌜ Lands (λ overlap wanted. lentWith cfg (refineWith (imageOf (now (img .entry)) sizes) cfg seed wanted (now (columns .entry)) overlap)) r ⌝ }
+{
+    if cfg.radius == 0 {
+        return Spot::Nowhere;
+    }
+    spot_of_seed(img, sizes, cfg, seed, columns)
+}
+
+// A seed that passed the tests: the first fit decides acceptance.
+fn spot_of_seed(
+    img: &[u8],
+    sizes: Sizes,
+    cfg: SaddlePointConfig,
+    seed: Seed,
+    columns: &[f32; 1125],
+) -> Spot
+    requires { ⌜ PatchWithin (imageOf (now img) sizes) (cfg .radius) (seed .«centre_x») (seed .«centre_y») ⌝ }
+    ensures { λ r. ⌜ Lands (λ overlap wanted. refineWith (imageOf (now (img .entry)) sizes) cfg seed wanted (now (columns .entry)) overlap) r ⌝ }
+{
+    let radius = cfg.radius;
+    let cx = seed.centre_x;
+    let cy = seed.centre_y;
+    let here = fits::fit_patch(img, sizes, cx, cy, radius, columns);
+    let solved = solve::solve(cfg, here);
+    match solved {
+        Solved::Refused(det) => Spot::Nowhere,
+        Solved::Saddle(f) => {
+            if tries::near_seed(cfg, seed, f.ux, f.uy) {
+                return spot_from(img, sizes, columns, cfg, seed, f);
+            }
+            Spot::Nowhere
+        }
+    }
+}
+
+// From the first fit's saddle.
+fn spot_from(
+    img: &[u8],
+    sizes: Sizes,
+    columns: &[f32; 1125],
+    cfg: SaddlePointConfig,
+    seed: Seed,
+    first: PatchSaddle,
+) -> Spot
+    requires { ⌜ PatchWithin (imageOf (now img) sizes) (cfg .radius) (seed .«centre_x») (seed .«centre_y») ⌝ }
+    ensures { λ r. ⌜ Comes (taskAt (imageOf (now (img .entry)) sizes) (now (columns .entry)) cfg seed) first r ⌝ }
+{
+    if solve::settled(first) {
+        return spot_at(seed, 0.0, 0.0, first);
+    }
+    let e = steps::run(img, sizes, columns, cfg, seed, first);
+    if e.settled {
+        let fit = e.fit;
+        return spot_at(seed, e.ox, e.oy, fit);
+    }
+    single_spot(seed, first)
+}
+
+fn spot_at(seed: Seed, ox: f32, oy: f32, f: PatchSaddle) -> Spot
+    requires { ⌜ (seed .«centre_x» < 4096) × (seed .«centre_y» < 4096) ⌝ }
+    ensures { λ r. ⌜ r ≡ At (ofInt binary32 (pos (seed .«centre_x»)) ⊕ ox ⊕ f .ux) (ofInt binary32 (pos (seed .«centre_y»)) ⊕ oy ⊕ f .uy) ⌝ }
+{
+    Spot::At {
+        x: seed.centre_x as u16 as f32 + ox + f.ux,
+        y: seed.centre_y as u16 as f32 + oy + f.uy,
+    }
+}
+
+// The first fit's, where the steps did not settle.
+fn single_spot(seed: Seed, f: PatchSaddle) -> Spot
+    requires { ⌜ (seed .«centre_x» < 4096) × (seed .«centre_y» < 4096) ⌝ }
+    ensures { λ r. ⌜ r ≡ At (ofInt binary32 (pos (seed .«centre_x»)) ⊕ f .ux) (ofInt binary32 (pos (seed .«centre_y»)) ⊕ f .uy) ⌝ }
+{
+    Spot::At {
+        x: seed.centre_x as u16 as f32 + f.ux,
+        y: seed.centre_y as u16 as f32 + f.uy,
+    }
+}
