@@ -65,7 +65,7 @@ pub fn patch_row(img: &[u8], stride: usize, x0: usize, y: usize, side: usize) ->
     &img[start..end]
 }
 
-// The same along one axis of n pixels; the distance to the end is a difference, so that no sum wraps.
+// Whether `radius` pixels lie on both sides of c along an axis of n; the distance to the end is a difference, so that no sum wraps.
 fn within(n: usize, c: i32, radius: usize) -> bool
     ensures { λ r. ⌜ r ≡ inside radius n c ⌝ }
 {

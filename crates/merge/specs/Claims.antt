@@ -1,4 +1,4 @@
--- What whoever relies on merging may claim of it, for any rule of meeting: the words of the theorems in the crate clinics.
+-- What whoever relies on merging may claim of it, for any rule of meeting: the words of the theorems of the crate merge_theorems.
 -- Corners are named by their numbers in the list, from 0; `places` (Fold) gives each the number of the place that it went to.
 use mathlib.Core.Path.{_≡_}
 use mathlib.Core.Logic.{_⊎_}

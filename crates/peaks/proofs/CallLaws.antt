@@ -17,7 +17,7 @@ use Rattle.refusals.specs.declared.Refusal.the-variants.{BadImage, BadRadius, B
 use Rattle.peaks.specs.declared.Peaks.the-variants.{Found, Refused}
 use Rattle.peaks.specs.Peak.{Scan}
 use Rattle.peaks.specs.Call.{Way, refused, found, peaksOf, radiiFit, wayOf, answerOf, outAfter, Done}
-use Rattle.peaks.specs.Steps.{Sound, allRecorded}
+use Rattle.peaks.specs.Steps.{Sound, allRecorded, restOf, Recorded}
 use Rattle.peaks.proofs.CountLaws.{first-of, second-of}
 
 -- ---- the test of the radii
@@ -83,11 +83,8 @@ sound s e f =
 
 -- ---- the ways, test by test
 module _ (s : Scan) (room : ℕ) where
-  abbrev fitting : Way
-  fitting = cond (ltb (room / 3) (length (peaksOf s))) (refused TooMany) (found (peaksOf s))
-
   abbrev shaped : Way
-  shaped = cond (not (whole room)) (refused BadLength) fitting
+  shaped = cond (not (whole room)) (refused BadLength) (restOf s room)
 
   abbrev limited : Way
   limited = cond (not (finite (s .threshold))) (refused BadLimit) shaped
@@ -121,24 +118,30 @@ module _ (s : Scan) (room : ℕ) where
         is-limited = is-ranged ∙ ap (λ (z : Bool). cond (not z) (refused BadLimit) shaped) limit
 
         pub way-length : whole room ≡ false → wayOf s room ≡ refused BadLength
-        way-length e = is-limited ∙ ap (λ (z : Bool). cond (not z) (refused BadLength) fitting) e
+        way-length e = is-limited ∙ ap (λ (z : Bool). cond (not z) (refused BadLength) (restOf s room)) e
 
         module _ (records : whole room ≡ true) where
-          is-whole : wayOf s room ≡ fitting
-          is-whole = is-limited ∙ ap (λ (z : Bool). cond (not z) (refused BadLength) fitting) records
-
-          pub way-many : room / 3 < length (peaksOf s) → wayOf s room ≡ refused TooMany
-          way-many h = is-whole ∙ ap (λ (z : Bool). cond z (refused TooMany) (found (peaksOf s))) (lt-ltb (room / 3) (length (peaksOf s)) h)
-
-          pub way-found : length (peaksOf s) ≤ room / 3 → wayOf s room ≡ found (peaksOf s)
-          way-found h = is-whole ∙ ap (λ (z : Bool). cond z (refused TooMany) (found (peaksOf s))) (le-ltb (room / 3) (length (peaksOf s)) h)
+          pub way-rest : wayOf s room ≡ restOf s room
+          way-rest = is-limited ∙ ap (λ (z : Bool). cond (not z) (refused BadLength) (restOf s room)) records
 
 -- ---- what a way leaves behind
 pub done-refused : {s : Scan} {out : List Float} {r : Refusal} → wayOf s (length out) ≡ refused r → Done s out (Refused r) out
 done-refused {s} {out} e = record { answers = sym (ap answerOf e); leaves = sym (ap (outAfter s out) e) }
 
-pub done-kept : {s : Scan} {out out' : List Float} {r : Refusal} → wayOf s (length out) ≡ refused r → out' ≡ out → Done s out (Refused r) out'
-done-kept {s} {out} e f = record { answers = sym (ap answerOf e); leaves = f ∙ sym (ap (outAfter s out) e) }
+pub done-rest : {s : Scan} {out out' : List Float} {answer : Peaks} → wayOf s (length out) ≡ restOf s (length out) → Recorded s out answer out' → Done s out answer out'
+done-rest {s} {out} e t = record { answers = t .answers ∙ sym (ap answerOf e); leaves = t .leaves ∙ sym (ap (outAfter s out) e) }
 
-pub done-found : {s : Scan} {out out' : List Float} {n : ℕ} → wayOf s (length out) ≡ found (peaksOf s) → n ≡ length (peaksOf s) → out' ≡ allRecorded s out → Done s out (Found n) out'
-done-found {s} {out} e f g = record { answers = ap Found f ∙ sym (ap answerOf e); leaves = g ∙ sym (ap (outAfter s out) e) }
+-- ---- the last test, of the room for the peaks
+module _ (s : Scan) (out : List Float) where
+  abbrev rest : Bool → Way
+  rest b = cond b (refused TooMany) (found (peaksOf s))
+
+  pub recorded-none : length out / 3 < length (peaksOf s) → Recorded s out (Refused TooMany) out
+  recorded-none h =
+      let e = ap rest (lt-ltb (length out / 3) (length (peaksOf s)) h) in
+      record { answers = sym (ap answerOf e); leaves = sym (ap (outAfter s out) e) }
+
+  pub recorded-all : {out' : List Float} {n : ℕ} → n ≤ length out / 3 → n ≡ length (peaksOf s) → out' ≡ allRecorded s out → Recorded s out (Found n) out'
+  recorded-all h f g =
+      let e = ap rest (le-ltb (length out / 3) (length (peaksOf s)) (subst (λ (m : ℕ). m ≤ length out / 3) f h)) in
+      record { answers = ap Found f ∙ sym (ap answerOf e); leaves = g ∙ sym (ap (outAfter s out) e) }

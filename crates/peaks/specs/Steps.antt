@@ -1,14 +1,17 @@
 -- What the steps below the public call promise each other.
 use mathlib.Core.Path.{_≡_}
-use mathlib.Core.Bool.{true, false}
+use mathlib.Core.Bool.{true, false, cond}
 use mathlib.Core.List.{List, _++_}
 use Prim.Native.Nat.{ℕ, _+_, _*_, _/_, _%_, _≤_, _<_}
+use lib.Dec.{ltb}
 use lib.ListN.{length, getD, take, drop}
 use lib.Ieee.{Float, lt}
 use Rattle.shapes.specs.Numbers.{entry}
+use Rattle.refusals.specs.declared.Refusal.the-variants.{TooMany}
+use Rattle.peaks.specs.declared.Peaks.{Peaks}
 use Rattle.peaks.specs.declared.Rule.{Rule}
 use Rattle.peaks.specs.Peak.{Scan, border, every, floorOf, inside, isPeak}
-use Rattle.peaks.specs.Call.{chosen, peakAt, peaksOf, recordsOf}
+use Rattle.peaks.specs.Call.{chosen, peakAt, peaksOf, recordsOf, Way, refused, found, answerOf, outAfter}
 
 -- a response and the rule by which it is scanned
 abbrev pub scanOf : List Float → Rule → Scan
@@ -138,8 +141,10 @@ Written s out n k out' = out' ≡ recordsOf s (chosen k (peakAt s)) ++ drop (3 *
 abbrev pub allRecorded : Scan → List Float → List Float
 allRecorded s out = recordsOf s (peaksOf s) ++ drop (3 * length (peaksOf s)) out
 
--- all of it, or nothing where there is no room
-pub record Recorded (s : Scan) (out : List Float) (r : ℕ) (out' : List Float) : Type 0 where
-  pub tallied : Tallied s (length out / 3) r
-  pub wrote : r ≤ length out / 3 → out' ≡ allRecorded s out
-  pub kept : length out / 3 < r → out' ≡ out
+-- what is left of the call once its tests have passed
+abbrev pub restOf : Scan → ℕ → Way
+restOf s room = cond (ltb (room / 3) (length (peaksOf s))) (refused TooMany) (found (peaksOf s))
+
+pub record Recorded (s : Scan) (out : List Float) (answer : Peaks) (out' : List Float) : Type 0 where
+  pub answers : answer ≡ answerOf (restOf s (length out))
+  pub leaves : out' ≡ outAfter s out (restOf s (length out))

@@ -67,12 +67,7 @@ pub fn detect_peaks_from_response_with_refine_radius(
         threshold,
         cluster: min_cluster_size,
     };
-    let room = out.len() / 3;
-    let count = scan::record_all(response, rule, out);
-    if room < count {
-        return Peaks::Refused(Refusal::TooMany);
-    }
-    Peaks::Found(count)
+    scan::record_all(response, rule, out)
 }
 
 // The test of the three radii.

@@ -1,8 +1,10 @@
 // The scan: the next peak from a pixel on, and the loops that count and write with it. Pixels are named by their numbers in row order.
 use crate::Noted;
+use crate::Peaks;
 use crate::Rule;
 use crate::window;
 use corners::Corner;
+use refusals::Refusal;
 ghost use mathlib.Core.Path.{_≡_};
 ghost use mathlib.Core.Bool.{cond};
 ghost use mathlib.Core.List.{List, _++_};
@@ -169,9 +171,9 @@ fn next_peak(response: &[f32], rule: Rule, from: usize) -> usize
     response.len()
 }
 
-// Writes the records of all peaks and answers how many there are. Where there is no room for them it writes nothing, and answers more than there is
-// room for. The first peaks are noted, so that they are sought once; those past the notes are sought again.
-pub fn record_all(response: &[f32], rule: Rule, out: &mut [f32]) -> usize
+// Writes the records of all peaks where there is room for them. The first peaks are noted, so that they are sought once; those past the notes are
+// sought again.
+pub fn record_all(response: &[f32], rule: Rule, out: &mut [f32]) -> Peaks
     requires { ⌜ Sound (scanOf (now response) rule) ⌝ }
     ensures { λ r. ⌜ Recorded (scanOf (now (response .entry)) rule) (now (out .entry)) r (now (out .exit)) ⌝ }
 {
@@ -182,11 +184,11 @@ pub fn record_all(response: &[f32], rule: Rule, out: &mut [f32]) -> usize
     let at = noted.at;
     let count = tally(response, rule, room, n, at);
     if room < count {
-        return count;
+        return Peaks::Refused(Refusal::TooMany);
     }
     write_noted(response, rule, &notes, n, out);
     write(response, rule, n, at, out);
-    count
+    Peaks::Found(count)
 }
 
 // Notes the numbers of the first peaks, as many as there are notes.

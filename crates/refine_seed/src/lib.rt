@@ -28,6 +28,17 @@ pub struct Ended {
     pub corners: Corners,
 }
 
+// The step at hand: from the offset (ox, oy) by (x, y) at a scale. `halvings` candidates are left of it, `left` steps may follow it.
+struct Step {
+    ox: f32,
+    oy: f32,
+    x: f32,
+    y: f32,
+    scale: f32,
+    halvings: usize,
+    left: usize,
+}
+
 // A seed that passed its tests, or what the first test that it did not pass says.
 pub enum Admitted {
     Good(Seed),

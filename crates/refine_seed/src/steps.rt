@@ -1,8 +1,10 @@
 // The steps toward the window at whose centre the saddle lies: one loop over the steps and their halvings.
 use super::Ended;
+use super::Step;
 use imageview::Sizes;
 use refine_fits::IntegerFits;
 use refine_fits::Seed;
+use refine_fits::Window;
 use refine_fits::tries;
 use refine_formulas::Corners;
 use refine_formulas::Move;
@@ -12,9 +14,11 @@ use refine_formulas::between;
 use refine_formulas::sensitivity;
 use refine_formulas::solve;
 ghost use mathlib.Core.Path.{_≡_};
-ghost use mathlib.Core.Bool.{false};
-ghost use Prim.Native.Nat.{_<_, _≤_};
+ghost use mathlib.Core.Bool.{true, false};
+ghost use Prim.Native.Nat.{_-_, _<_, _≤_};
+ghost use Rattle.shapes.specs.Numbers.{plusZero, one};
 ghost use Rattle.imageview.specs.Image.{imageOf};
+ghost use Rattle.refine_formulas.specs.Numbers.{_⊗_, half};
 ghost use Rattle.refine_formulas.specs.Sensitivity as Sensitivity;
 ghost use Rattle.refine_formulas.specs.Solve as Solve;
 ghost use Rattle.refine_fits.specs.StepsAdding.{Sound};
@@ -67,7 +71,66 @@ fn not_settled(tries: u32, fit: PatchSaddle, corners: Corners) -> Ended
     }
 }
 
-// From the first fit's saddle, which is not settled. `left` steps may follow the present one, `halvings` candidates are left of it.
+// An end that is settled at a window.
+fn settled_at(tries: u32, ox: f32, oy: f32, w: Window, fit: PatchSaddle, corners: Corners) -> Ended
+    ensures { λ r. ⌜ r ≡ record { settled = true; tries = tries; ox = ox; oy = oy; tx = w .tx; ty = w .ty; fit = fit; corners = corners } ⌝ }
+{
+    Ended {
+        settled: true,
+        tries,
+        ox,
+        oy,
+        tx: w.tx,
+        ty: w.ty,
+        fit,
+        corners,
+    }
+}
+
+// The step by (x, y) from the offset (ox, oy), in full, with `left` more that may follow it.
+fn full_step(ox: f32, oy: f32, by: Move, left: usize) -> Step
+    ensures { λ r. ⌜ r ≡ record { ox = ox; oy = oy; x = by .x; y = by .y; scale = one; halvings = 4; left = left } ⌝ }
+{
+    Step {
+        ox,
+        oy,
+        x: by.x,
+        y: by.y,
+        scale: 1.0,
+        halvings: 4,
+        left,
+    }
+}
+
+// The first: the first fit's own saddle.
+fn first_step(first: PatchSaddle) -> Step
+    ensures { λ r. ⌜ r ≡ record { ox = plusZero; oy = plusZero; x = first .ux; y = first .uy; scale = one; halvings = 4; left = 15 } ⌝ }
+{
+    let by = Move {
+        x: first.ux,
+        y: first.uy,
+    };
+    full_step(0.0, 0.0, by, 15)
+}
+
+// Half of the step.
+fn halved(step: Step) -> Step
+    requires { ⌜ 0 < step .halvings ⌝ }
+    ensures { λ r. ⌜ r ≡ record { ox = step .ox; oy = step .oy; x = step .x; y = step .y; scale = step .scale ⊗ half; halvings = step .halvings - 1; left = step .left } ⌝ }
+{
+    let halvings = step.halvings - 1;
+    Step {
+        ox: step.ox,
+        oy: step.oy,
+        x: step.x,
+        y: step.y,
+        scale: step.scale * 0.5,
+        halvings,
+        left: step.left,
+    }
+}
+
+// From the first fit's saddle, which is not settled.
 pub fn run(
     img: &[u8],
     sizes: Sizes,
@@ -81,19 +144,11 @@ pub fn run(
 {
     let mut fits = no_fits();
     let mut fit = first;
-    let mut ox: f32 = 0.0;
-    let mut oy: f32 = 0.0;
-    let mut step = Move {
-        x: first.ux,
-        y: first.uy,
-    };
-    let mut scale: f32 = 1.0;
-    let mut halvings: usize = 4;
-    let mut left: usize = 15;
+    let mut step = first_step(first);
     let mut tries: u32 = 0;
-    while 0 < halvings {
-        let nx = ox + scale * step.x;
-        let ny = oy + scale * step.y;
+    while 0 < step.halvings {
+        let nx = step.ox + step.scale * step.x;
+        let ny = step.oy + step.scale * step.y;
         let c = tries::candidate(fits, img, sizes, columns, cfg, seed, fit, nx, ny);
         fits = c.fits;
         tries += 1;
@@ -102,29 +157,14 @@ pub fn run(
             let corners = fits.corners;
             fit = c.fit;
             if solve::settled(fit) {
-                return Ended {
-                    settled: true,
-                    tries,
-                    ox: nx,
-                    oy: ny,
-                    tx: w.tx,
-                    ty: w.ty,
-                    fit,
-                    corners,
-                };
+                return settled_at(tries, nx, ny, w, fit, corners);
             }
-            if left == 0 {
+            if step.left == 0 {
                 return not_settled(tries, fit, corners);
             }
-            step = later_move(fit, corners, w.tx, w.ty);
-            ox = nx;
-            oy = ny;
-            scale = 1.0;
-            halvings = 4;
-            left -= 1;
+            step = full_step(nx, ny, later_move(fit, corners, w.tx, w.ty), step.left - 1);
         } else {
-            scale = scale * 0.5;
-            halvings -= 1;
+            step = halved(step);
         }
     }
     let corners = fits.corners;

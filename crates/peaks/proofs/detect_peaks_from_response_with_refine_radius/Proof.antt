@@ -1,7 +1,7 @@
 -- `peaks::detect_peaks_from_response_with_refine_radius` meets its contract: each test that decides is the way's own.
-use mathlib.Core.Path.{_≡_, sym, _∙_, subst}
+use mathlib.Core.Path.{_≡_, sym, _∙_}
 use mathlib.Core.Bool.{true}
-use Prim.Native.Nat.{ℕ, _/_, _≤_}
+use Prim.Native.Nat.{ℕ}
 use lib.ListN.{length}
 use lib.Ieee.Scale.{finite}
 use borrow.Author.Needs.{needs}
@@ -10,7 +10,7 @@ use Rattle.corners.specs.Corners.{whole}
 use Rattle.imageview.specs.Image.{sizesFit}
 use Rattle.peaks.specs.Peak.{Scan}
 use Rattle.peaks.specs.Call.{radiiFit}
-use Rattle.peaks.proofs.CallLaws.{scanFor, sound, way-image, way-radius, way-limit, way-length, way-many, way-found, done-refused, done-kept, done-found}
+use Rattle.peaks.proofs.CallLaws.{scanFor, sound, way-image, way-radius, way-limit, way-length, way-rest, done-refused, done-rest}
 use Rattle.peaks.proofs.detect_peaks_from_response_with_refine_radius.Statement.{statement}
 use Rattle.peaks.proofs.detect_peaks_from_response_with_refine_radius.Tie as tie
 
@@ -86,27 +86,12 @@ same-length c = search needs
 
 returns-5 : tie.Need-returns-5
 returns-5 c =
-    let h = c .before .before .before .before .before in
+    let h = c .before .before .before .before in
     let g = h .before .before in
     let f = g .before .before in
     let e = f .before .before in
     let s = start e in
-    let t = c .before .before .before .record-all .ensures in
-    done-kept {s = scanned s} (way-many (scanned s) (room s) (is-sized e) (is-ranged f) (is-limited g) (is-shaped h) (t .tallied .many (c .if5 .taken))) (t .kept (c .if5 .taken))
-
-same-length-2 : tie.Need-same-length-2
-same-length-2 c = search needs
-
-returns-6 : tie.Need-returns-6
-returns-6 c =
-    let h = c .before .before .before .before .before in
-    let g = h .before .before in
-    let f = g .before .before in
-    let e = f .before .before in
-    let s = start e in
-    let t = c .before .before .before .record-all .ensures in
-    let n = t .tallied .few (c .if5 .left) in
-    done-found {s = scanned s} (way-found (scanned s) (room s) (is-sized e) (is-ranged f) (is-limited g) (is-shaped h) (subst (λ (m : ℕ). m ≤ room s / 3) n (c .if5 .left))) n (t .wrote (c .if5 .left))
+    done-rest {s = scanned s} (way-rest (scanned s) (room s) (is-sized e) (is-ranged f) (is-limited g) (is-shaped h)) (c .before .before .record-all .ensures)
 
 pub detect-peaks-from-response-with-refine-radius-spec : {M : Type 1} → statement M
 detect-peaks-from-response-with-refine-radius-spec =
@@ -122,6 +107,4 @@ detect-peaks-from-response-with-refine-radius-spec =
     returns-4
     record-all-requires
     same-length
-    returns-5
-    same-length-2
-    returns-6)
+    returns-5)

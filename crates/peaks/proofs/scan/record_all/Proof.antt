@@ -1,8 +1,9 @@
 -- `peaks::scan::record_all` meets its contract: the notes and then the rest, where the count has room.
-use mathlib.Core.Path.{refl, sym}
+use mathlib.Core.Path.{sym}
 use native.Mathlib.Omega.{arith}
 use borrow.Author.Needs.{needs}
 use Rattle.peaks.specs.Steps.{scanOf}
+use Rattle.peaks.proofs.CallLaws.{recorded-none, recorded-all}
 use Rattle.peaks.proofs.ChosenLaws.{before-all, noteworthy, noted-out}
 use Rattle.peaks.proofs.scan.record_all.Statement.{statement}
 use Rattle.peaks.proofs.scan.record_all.Tie as tie
@@ -14,7 +15,9 @@ tally-requires : tie.Need-tally-requires
 tally-requires c κs = search needs
 
 returns : tie.Need-returns
-returns c = record { tallied = c .before .tally .ensures; wrote = λ h. absurd (let t = c .if1 .taken in let z : ⊥ = omega arith in z); kept = λ h. refl }
+returns c =
+    let a = c .before .before .before .before .before .before .args in
+    recorded-none (scanOf (a .response .now) (a .rule)) (a .out .now) (c .before .tally .ensures .many (c .if1 .taken))
 
 write-noted-requires : tie.Need-write-noted-requires
 write-noted-requires c κs =
@@ -38,13 +41,11 @@ returns-2 : tie.Need-returns-2
 returns-2 c =
     let a = c .before .before .before .before .before .before .before .before .before .before .before .before .before .before .before .args in
     let s = scanOf (a .response .now) (a .rule) in
-    let n = c .before .before .before .before .before .before .before .before .before .before .before .note .result .count in
-    let k = c .before .before .before .before .before .before .before .before .before .before .before .note .result .at in
-    record {
-      tallied = c .before .before .before .before .before .before .before .before .before .before .tally .ensures;
-      wrote = λ h. c .before .before .write .ensures (a .out .now) (sym (c .before .before .before .before .before .before .write-noted .kept .1 .1 .1 .1 .0)) (noted-out s (a .out .now) (c .before .before .before .before .before .before .write-noted .last .1 .1 .1 .1 .0) (c .before .before .before .before .before .before .before .before .before .before .before .note .last .1 .1 .0) n k (c .before .before .before .before .before .before .before .before .before .before .before .note .ensures) (c .before .before .before .before .before .before .write-noted .ensures));
-      kept = λ h. absurd (let t = c .before .before .before .before .before .before .before .before .before .if1 .left in let z : ⊥ = omega arith in z);
-    }
+    let noted = c .before .before .before .before .before .before .before .before .before .before .before .note in
+    let wrote = c .before .before .before .before .before .before .write-noted in
+    let left = c .before .before .before .before .before .before .before .before .before .if1 .left in
+    let front = noted-out s (a .out .now) (wrote .last .1 .1 .1 .1 .0) (noted .last .1 .1 .0) (noted .result .count) (noted .result .at) (noted .ensures) (wrote .ensures) in
+    recorded-all s (a .out .now) left (c .before .before .before .before .before .before .before .before .before .before .tally .ensures .few left) (c .before .before .write .ensures (a .out .now) (sym (wrote .kept .1 .1 .1 .1 .0)) front)
 
 pub record-all-spec : {M : Type 1} → statement M
 record-all-spec =
