@@ -1,18 +1,20 @@
-/* Proved chessboard corners: the ChESS response, its peaks, the saddle-point refiner and the merge.
+/* Proved chessboard corners: the ChESS response, its peaks, the saddle-point refiner, the merge, and the tie of corners
+ * to the squares of a board.
  *
  * Link with libchess_corners.a. Every call takes any numbers and any contents of its buffers, ends, and returns
  * a number: 0 done, 1 to 3 a seed's status, from 10 up a refusal. A refusal writes nothing, neither to a buffer
- * nor to a further answer. A call that is done decides every element of what it may write; which elements stay
- * as they were is said with each call. Nothing is kept after a call, nothing is allocated, nothing is called
- * back; calls on separate buffers may run at the same time. docs/RULES.md has the rules by which each answer is
- * decided; docs/USING.md units, settings with their defaults, two rings, and what the archive needs.
+ * nor to a further answer, with one exception: 33 and 34 write the place at fault. A call that is done decides every
+ * element of what it may write; which elements stay as they were is said with each call. Nothing is kept after a
+ * call, nothing is allocated, nothing is called back; calls on separate buffers may run at the same time.
+ * docs/RULES.md has the rules by which each answer is decided; docs/USING.md units, settings with their defaults,
+ * three rings, and what the archive needs.
  *
  * A buffer goes in as a pointer and the number of its elements. The caller owns all of them. The pointer must be
  * one of that many elements for as long as the call lasts, aligned for its type and not null, also where the
  * number is 0; and a buffer that is written must share no element with any other of the same call.
  *
  * Stack, on x86-64, as compiled for release (docs/SPEED.md): response 1.4 KiB, peaks 17 KiB, fit_operator 11 KiB, refine 16.5 KiB,
- * refine_with 3 KiB, refine_list 17 KiB, merge 0.3 KiB. No call recurses. Scratch: only the merge asks for any, heads and links.
+ * refine_with 3 KiB, refine_list 17 KiB, merge 0.3 KiB, tie 2 KiB. No call recurses. Scratch: only the merge asks for any, heads and links.
  *
  * Numbers:
  *    0 Accepted        1 Rejected: the first fit lies outside the box about the seed
@@ -28,6 +30,11 @@
  *   17 GridTooBig: more cells of the merge than heads
  *   18 BadScratch: fewer links than corners
  *   19 BadLength: a list of corners that is not made of whole triples
+ *   30 BadBoard: rows or columns outside 2..32, or places or answers that are not one an inner corner
+ *   31 BadPlaces: a limit or a place that is not finite, or a limit below zero
+ *   32 BadList: corners to be tied that are not whole triples, or over 4,096 of them
+ *   33 NoCorner: no corner within the limit of a place
+ *   34 UsedTwice: the nearest corner of a place serves an earlier one
  */
 #ifndef CHESS_CORNERS_H
 #define CHESS_CORNERS_H
@@ -53,7 +60,12 @@ enum chess_corners_number {
     CHESS_CORNERS_TOO_MANY = 16,
     CHESS_CORNERS_GRID_TOO_BIG = 17,
     CHESS_CORNERS_BAD_SCRATCH = 18,
-    CHESS_CORNERS_BAD_LENGTH = 19
+    CHESS_CORNERS_BAD_LENGTH = 19,
+    CHESS_CORNERS_BAD_BOARD = 30,
+    CHESS_CORNERS_BAD_PLACES = 31,
+    CHESS_CORNERS_BAD_LIST = 32,
+    CHESS_CORNERS_NO_CORNER = 33,
+    CHESS_CORNERS_USED_TWICE = 34
 };
 
 /* The ChESS response of the region (x0, y0) up to but without (x1, y1), clamped to the image, row after row.
@@ -113,6 +125,17 @@ uint32_t chess_corners_refine_list(const uint8_t *img, size_t img_len, size_t wi
 uint32_t chess_corners_merge(float *corners, size_t corners_len, float radius,
                              uint16_t *heads, size_t heads_len, uint16_t *links, size_t links_len,
                              size_t *count);
+
+/* Ties to each inner corner of a board of rows by columns squares, 2 to 32 each, the corner that is nearest to its
+ * place. places: x and y predicted for each inner corner, (rows - 1) times (columns - 1) of them, by row. limit: on the
+ * squared distance dx dx + dy dy, inclusive; a NaN distance is passed over, of equal ones the lowest corner number
+ * is taken. corners: x, y and strength of each, at most 4,096. answers: one a place; 0 writes all of them, the number
+ * of each place's corner from 0, and no two are the same. place: 33 and 34 write it, the number of the first place at
+ * fault, by row from 0: row place / (columns - 1), column place % (columns - 1).
+ * Returns 0, 30, 31, 32, then place by place 33, 34. */
+uint32_t chess_corners_tie(size_t rows, size_t columns, const float *places, size_t places_len, float limit,
+                           const float *corners, size_t corners_len,
+                           uint16_t *answers, size_t answers_len, size_t *place);
 
 #ifdef __cplusplus
 }

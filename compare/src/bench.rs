@@ -2,6 +2,7 @@
 //! are the thread's time on the processor: on a busy computer the clock on the
 //! wall would count the work of others, the more the longer a call takes.
 
+mod board;
 mod peaks;
 mod refine;
 
@@ -258,11 +259,12 @@ fn merges() -> bool {
 /// A table by its name.
 type Table = (&'static str, fn() -> bool);
 
-const TABLES: [Table; 4] = [
+const TABLES: [Table; 5] = [
     ("response", responses),
     ("peaks", peaks::table),
     ("merge", merges),
     ("refine", refine::tables),
+    ("board", board::table),
 ];
 
 /// Prints the tables, or one of them by its name. `false` where the two sides

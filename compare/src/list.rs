@@ -45,7 +45,7 @@ fn class_of(number: u32, seeds: usize, kept: usize) -> &'static str {
 impl Display for List {
     fn fmt(&self, f: &mut Formatter<'_>) -> fmt::Result {
         writeln!(f, "  {} floats, {} lent", self.floats.len(), self.out)?;
-        f.write_str(&trial::corner_lines(&self.floats))?;
+        f.write_str(&trial::record_lines(&self.floats, 3))?;
         self.scene.fmt(f)
     }
 }
@@ -102,14 +102,7 @@ impl Trial for List {
             }
         }
         left.out.outside_kept("the output")?;
-        left.corners.outside_kept("the corners")?;
-        let kept_bits = self.floats.iter().zip(left.corners.inside());
-        if !kept_bits
-            .into_iter()
-            .all(|(a, b)| a.to_bits() == b.to_bits())
-        {
-            return Err("the lent corners are written".into());
-        }
+        left.corners.kept("the lent corners", &self.floats)?;
         let seeds = self.floats.len() / 3;
         let mut met = Met::of(class_of(number, seeds, kept.len())).with_parts(match number {
             0 => seeds as u64,

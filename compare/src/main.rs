@@ -3,6 +3,7 @@
 //!   compare bench [CALL]         times both and prints the tables, or a call's
 
 mod bench;
+mod board;
 mod list;
 mod merge;
 mod operator;
@@ -40,7 +41,8 @@ fn faults_noticed() -> Result<(), String> {
     peaks::faults_noticed()?;
     operator::faults_noticed()?;
     refine::faults_noticed()?;
-    list::faults_noticed()
+    list::faults_noticed()?;
+    board::faults_noticed()
 }
 
 /// What was seen of each call.
@@ -52,6 +54,7 @@ struct Tallies {
     operators: Tally,
     seeds: Tally,
     lists: Tally,
+    boards: Tally,
 }
 
 impl Tallies {
@@ -62,6 +65,8 @@ impl Tallies {
         operator::short(&mut self.operators)
             && refine::rare(&mut self.seeds)
             && list::longest(&mut self.lists, random)
+            && board::longest(&mut self.boards, random)
+            && board::short(&mut self.boards)
             && merge::short(&mut self.merges)
             && peaks::longest(&mut self.peaks, random)
             && peaks::short(&mut self.peaks)
@@ -72,6 +77,7 @@ impl Tallies {
     /// Random inputs; `false` where one differs.
     fn fresh(&mut self, random: &mut Random, kept: &mut Kept) -> bool {
         self.merges.tried(&merge::any(random))
+            && self.boards.tried(&board::any(random))
             && self
                 .responses
                 .tried(&response::any(random, &mut kept.rings))
@@ -87,7 +93,8 @@ impl Tallies {
         let operators = self.operators.told::<operator::Operator>(to_the_end);
         let seeds = self.seeds.told::<refine::Refine>(to_the_end);
         let lists = self.lists.told::<list::List>(to_the_end);
-        merges && responses && peaks && operators && seeds && lists
+        let boards = self.boards.told::<board::Board>(to_the_end);
+        merges && responses && peaks && operators && seeds && lists && boards
     }
 }
 

@@ -2,15 +2,13 @@
 
 use crate::port;
 use crate::trial::{
-    self, alike, bits, oddness, parts, Lent, Met, Tally, Trial, PAINT, PAINT_F, PLAIN,
+    self, alike, bits, oddness, parts, Lent, Met, Tally, Trial, PAINT, PAINT_F, PAINT_U16, PLAIN,
 };
 use oracle::calls;
 use oracle::random::Random;
 use oracle::rules::{self, Way};
 use oracle::types::Triple;
 use std::fmt::{self, Display, Formatter};
-
-const PAINT_U: u16 = 0xA5A5;
 
 #[derive(Clone)]
 pub struct Merge {
@@ -53,7 +51,7 @@ impl Display for Merge {
             self.heads,
             self.links
         )?;
-        f.write_str(&trial::corner_lines(&self.floats))
+        f.write_str(&trial::record_lines(&self.floats, 3))
     }
 }
 
@@ -77,8 +75,8 @@ impl Trial for Merge {
             number: 0,
             count: PAINT,
             corners: Lent::holding(&self.floats, PAINT_F),
-            heads: Lent::painted(self.heads, PAINT_U),
-            links: Lent::painted(self.links, PAINT_U),
+            heads: Lent::painted(self.heads, PAINT_U16),
+            links: Lent::painted(self.links, PAINT_U16),
         };
         left.number = port::merge(
             left.corners.part(),
@@ -124,14 +122,12 @@ impl Trial for Merge {
                 bits(want[k])
             ));
         }
-        let mark = if way == Way::Grid { 0 } else { PAINT_U };
+        let mark = if way == Way::Grid { 0 } else { PAINT_U16 };
         for (name, lent) in [("heads", &left.heads), ("links", &left.links)] {
             if let Some(k) = lent.inside().iter().position(|&u| u != mark) {
                 return Err(format!("element {k} of {name} is {:04X}", lent.inside()[k]));
             }
-            if lent.outside().any(|&u| u != PAINT_U) {
-                return Err(format!("something is written outside {name}"));
-            }
+            lent.outside_kept(name)?;
         }
         left.corners.outside_kept("the list")?;
         Ok(Met::of(class_of(way)))

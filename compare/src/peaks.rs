@@ -303,11 +303,7 @@ impl Trial for Peaks {
             }
         }
         left.out.outside_kept("the output")?;
-        left.response.outside_kept("the response")?;
-        let kept = self.response.iter().zip(left.response.inside());
-        if !kept.into_iter().all(|(a, b)| a.to_bits() == b.to_bits()) {
-            return Err("the lent response is written".into());
-        }
+        left.response.kept("the lent response", &self.response)?;
         let seen = match number {
             0 | rules::TOO_MANY => self.seen(),
             _ => Seen::default(),

@@ -4,7 +4,7 @@
 
 use chess_corners::raw;
 pub use chess_corners::{Image, PeakSettings, SaddlePointConfig as Settings};
-use oracle::types::{Region, Ring};
+use oracle::types::{Board, Region, Ring};
 
 /// Floats of the operator: five a sample of radius 7, and nine overlaps of 5
 /// by 5.
@@ -210,6 +210,25 @@ pub fn merge(
             links.as_mut_ptr(),
             links.len(),
             count,
+        )
+    }
+}
+
+/// Document 01's number; `place` takes the place at fault of 33 and 34.
+pub fn tie(board: Board<'_>, corners: &[f32], answers: &mut [u16], place: &mut usize) -> u32 {
+    // SAFETY: as above.
+    unsafe {
+        raw::chess_corners_tie(
+            board.rows as usize,
+            board.columns as usize,
+            board.places.as_ptr(),
+            board.places.len(),
+            board.limit,
+            corners.as_ptr(),
+            corners.len(),
+            answers.as_mut_ptr(),
+            answers.len(),
+            place,
         )
     }
 }

@@ -6,9 +6,10 @@ use std::fmt::{Debug, Display};
 use std::ops::Range;
 use std::time::Instant;
 
-/// A count and a float that no call writes by chance.
+/// A count, a float and a number of 16 bits that no call writes by chance.
 pub const PAINT: usize = 0xA5A5_5A5A;
 pub const PAINT_F: f32 = -12345.678;
+pub const PAINT_U16: u16 = 0xA5A5;
 
 /// A buffer of painted elements, with more of them before and after, which no
 /// call may touch.
@@ -62,10 +63,32 @@ impl<T: Copy> Lent<T> {
 impl Lent<f32> {
     /// No element around is other than it was painted.
     pub fn outside_kept(&self, name: &str) -> Result<(), String> {
-        match self.outside().all(|f| f.to_bits() == PAINT_F.to_bits()) {
-            true => Ok(()),
-            false => Err(format!("something is written outside {name}")),
+        kept_around(
+            name,
+            self.outside().all(|f| f.to_bits() == PAINT_F.to_bits()),
+        )
+    }
+
+    /// Nor is one inside other than it was lent.
+    pub fn kept(&self, name: &str, lent: &[f32]) -> Result<(), String> {
+        match parts(self.inside(), lent, |a, b| a.to_bits() == b.to_bits()) {
+            None => self.outside_kept(name),
+            Some(k) => Err(format!("element {k} of {name} is written")),
         }
+    }
+}
+
+impl Lent<u16> {
+    /// No element around is other than it was painted.
+    pub fn outside_kept(&self, name: &str) -> Result<(), String> {
+        kept_around(name, self.outside().all(|u| *u == PAINT_U16))
+    }
+}
+
+fn kept_around(name: &str, kept: bool) -> Result<(), String> {
+    match kept {
+        true => Ok(()),
+        false => Err(format!("something is written outside {name}")),
     }
 }
 
@@ -111,15 +134,15 @@ pub fn bits(f: f32) -> String {
     format!("{:08X} ({f:e})", f.to_bits())
 }
 
-/// A list of corners, one a line.
-pub fn corner_lines(floats: &[f32]) -> String {
+/// A list of records of so many floats, one a line.
+pub fn record_lines(floats: &[f32], each: usize) -> String {
     let line = |c: &[f32]| {
         c.iter()
             .map(|v| format!("  {}", bits(*v)))
             .collect::<String>()
             + "\n"
     };
-    floats.chunks(3).map(line).collect()
+    floats.chunks(each).map(line).collect()
 }
 
 /// The classes that a case belongs to, and how many seeds of a list it

@@ -421,3 +421,21 @@ pub fn gradient(
     );
     (decision(refused, decided), after)
 }
+
+/// W-206: the place at fault of 33 and 34, and the corner of each place, none
+/// if refused. The Rust has no such call.
+pub fn tie(
+    board: &Board<'_>,
+    floats: &[f32],
+    answers: usize,
+) -> (Decision, Option<usize>, Vec<u16>) {
+    let refused = rules::board_refusal(board, floats.len(), answers);
+    let (refused, place, tied) = match refused {
+        Some(_) => (refused, None, Vec::new()),
+        None => match rules::tied(board, &triples(floats)) {
+            Ok(tied) => (None, None, tied),
+            Err((number, place)) => (Some(number), Some(place), Vec::new()),
+        },
+    };
+    (decision(refused, Decided::NotRun), place, tied)
+}

@@ -1,6 +1,6 @@
 //! Document 01 in plain Rust: the refusals in their order, and the rules of
-//! response, peaks and merge where the Rust has another rule or none. Written
-//! from the document, slow and readable, and used by no code of the port.
+//! response, peaks, merge and board where the Rust has another rule or none.
+//! Written from the document, slow and readable, and used by no code of the port.
 
 use crate::types::*;
 
@@ -14,6 +14,11 @@ pub const TOO_MANY: u32 = 16;
 pub const GRID_TOO_BIG: u32 = 17;
 pub const BAD_SCRATCH: u32 = 18;
 pub const BAD_LENGTH: u32 = 19;
+pub const BAD_BOARD: u32 = 30;
+pub const BAD_PLACE: u32 = 31;
+pub const BAD_LIST: u32 = 32;
+pub const NO_CORNER: u32 = 33;
+pub const USED_TWICE: u32 = 34;
 
 /// The most corners in a list.
 pub const MOST: usize = 4096;
@@ -519,4 +524,64 @@ pub fn gradient(
         }
     }
     out
+}
+
+// --- board (W-206) ----------------------------------------------------------
+
+/// Rows or columns outside 2..=32, or places or answers not one per inner
+/// corner.
+fn bad_board(b: &Board<'_>, answers: usize) -> bool {
+    let sides = 2..=32;
+    if !sides.contains(&b.rows) || !sides.contains(&b.columns) {
+        return true;
+    }
+    let inner = ((b.rows - 1) * (b.columns - 1)) as usize;
+    b.places.len() != 2 * inner || answers != inner
+}
+
+/// 30, 31, 32: what refuses a board before any place is looked at. `length`
+/// counts floats.
+pub fn board_refusal(b: &Board<'_>, length: usize, answers: usize) -> Option<u32> {
+    first(&[
+        (bad_board(b, answers), BAD_BOARD),
+        (
+            bad_limit(b.limit) || b.places.iter().any(|v| !v.is_finite()),
+            BAD_PLACE,
+        ),
+        (length % 3 != 0 || length / 3 > MOST, BAD_LIST),
+    ])
+}
+
+/// The squared distance of a place and a corner.
+pub fn square(place: &[f32], corner: &Triple) -> f32 {
+    let (dx, dy) = (place[0] - corner[0], place[1] - corner[1]);
+    dx * dx + dy * dy
+}
+
+/// The number of the nearest corner and its squared distance, of equal ones
+/// the lowest; none where no distance is a number.
+pub fn nearest(place: &[f32], list: &[Triple]) -> Option<(usize, f32)> {
+    list.iter()
+        .map(|corner| square(place, corner))
+        .enumerate()
+        .filter(|(_, d)| !d.is_nan())
+        .reduce(|best, next| if next.1 < best.1 { next } else { best })
+}
+
+/// The corner of each place of a board that no number up to 32 refuses; else
+/// 33 or 34 and the place at fault.
+pub fn tied(b: &Board<'_>, list: &[Triple]) -> Result<Vec<u16>, (u32, usize)> {
+    let mut answers: Vec<u16> = Vec::new();
+    for (k, place) in b.places.chunks_exact(2).enumerate() {
+        match nearest(place, list) {
+            Some((corner, d)) if d <= b.limit => {
+                if answers.contains(&(corner as u16)) {
+                    return Err((USED_TWICE, k));
+                }
+                answers.push(corner as u16);
+            }
+            _ => return Err((NO_CORNER, k)),
+        }
+    }
+    Ok(answers)
 }

@@ -148,3 +148,13 @@ pub struct Run {
     pub fresh_slope: bool,
     pub reach: f32,
 }
+
+/// W-206: a board of squares with a predicted place for each inner corner, two
+/// floats a place by row, as it is handed in.
+#[derive(Clone, Copy, Debug)]
+pub struct Board<'a> {
+    pub rows: u64,
+    pub columns: u64,
+    pub places: &'a [f32],
+    pub limit: f32,
+}

@@ -1,5 +1,6 @@
 //! Proved chessboard corners: the ChESS response, its peaks, the saddle-point
-//! refiner and the merge, behind slices and `Result`.
+//! refiner, the merge, and the tie of corners to the squares of a board, behind
+//! slices and `Result`.
 //!
 //! Every call takes any numbers and any contents of its slices, and ends. A
 //! refusal has its name and number from docs/RULES.md and writes nothing. Which
@@ -106,6 +107,18 @@ pub mod raw {
             links_len: usize,
             count: *mut usize,
         ) -> u32;
+        pub fn chess_corners_tie(
+            rows: usize,
+            columns: usize,
+            places: *const f32,
+            places_len: usize,
+            limit: f32,
+            corners: *const f32,
+            corners_len: usize,
+            answers: *mut u16,
+            answers_len: usize,
+            place: *mut usize,
+        ) -> u32;
     }
 }
 
@@ -124,13 +137,18 @@ pub enum Refusal {
     GridTooBig,
     BadScratch,
     BadLength,
+    BadBoard,
+    BadPlaces,
+    BadList,
+    NoCorner,
+    UsedTwice,
     /// A number that this crate has no name for, as an archive that is newer
     /// than it may give. Nothing was written.
     Other(u32),
 }
 
 /// Every case that has a name.
-const NAMED: [Refusal; 11] = [
+const NAMED: [Refusal; 16] = [
     Refusal::IllConditioned,
     Refusal::BadImage,
     Refusal::BadRadius,
@@ -142,6 +160,11 @@ const NAMED: [Refusal; 11] = [
     Refusal::GridTooBig,
     Refusal::BadScratch,
     Refusal::BadLength,
+    Refusal::BadBoard,
+    Refusal::BadPlaces,
+    Refusal::BadList,
+    Refusal::NoCorner,
+    Refusal::UsedTwice,
 ];
 
 impl Refusal {
@@ -159,6 +182,11 @@ impl Refusal {
             Refusal::GridTooBig => 17,
             Refusal::BadScratch => 18,
             Refusal::BadLength => 19,
+            Refusal::BadBoard => 30,
+            Refusal::BadPlaces => 31,
+            Refusal::BadList => 32,
+            Refusal::NoCorner => 33,
+            Refusal::UsedTwice => 34,
             Refusal::Other(number) => number,
         }
     }
@@ -247,6 +275,35 @@ pub enum Refined {
     OutOfBounds,
     IllConditioned { score: f32 },
 }
+
+/// A board of rows by columns of squares; nothing is tested here.
+#[derive(Clone, Copy, Debug)]
+pub struct Board<'a> {
+    pub rows: usize,
+    pub columns: usize,
+    /// x and y predicted for each inner corner, by row.
+    pub places: &'a [f32],
+}
+
+/// Why corners were not tied to a board.
+#[derive(Clone, Copy, Debug, PartialEq, Eq)]
+pub struct Untied {
+    pub refusal: Refusal,
+    /// The number of the first place at fault, by row from 0: there with
+    /// `NoCorner` and `UsedTwice` alone.
+    pub place: Option<usize>,
+}
+
+impl fmt::Display for Untied {
+    fn fmt(&self, f: &mut fmt::Formatter<'_>) -> fmt::Result {
+        match self.place {
+            Some(place) => write!(f, "{} at place {place}", self.refusal),
+            None => self.refusal.fmt(f),
+        }
+    }
+}
+
+impl std::error::Error for Untied {}
 
 /// The operator of a radius, for many seeds.
 #[derive(Clone, Debug)]
@@ -479,6 +536,43 @@ pub fn merge(
     done(number, count)
 }
 
+/// What the number of a tie says; only 33 and 34 have written the place.
+fn tied(number: u32, place: usize) -> Result<(), Untied> {
+    done(number, ()).map_err(|refusal| Untied {
+        refusal,
+        place: matches!(refusal, Refusal::NoCorner | Refusal::UsedTwice).then_some(place),
+    })
+}
+
+/// Ties to each place of a board the nearest corner, x, y and strength of each,
+/// if every squared distance is within the limit and no corner serves two
+/// places: the number of its corner for each place, to `answers`, which stay as
+/// they were where it is refused.
+pub fn tie_corners(
+    board: Board<'_>,
+    limit: f32,
+    corners: &[f32],
+    answers: &mut [u16],
+) -> Result<(), Untied> {
+    let mut place = 0;
+    // SAFETY: as above.
+    let number = unsafe {
+        raw::chess_corners_tie(
+            board.rows,
+            board.columns,
+            board.places.as_ptr(),
+            board.places.len(),
+            limit,
+            corners.as_ptr(),
+            corners.len(),
+            answers.as_mut_ptr(),
+            answers.len(),
+            &mut place,
+        )
+    };
+    tied(number, place)
+}
+
 #[cfg(test)]
 mod tests {
     use super::*;
@@ -491,7 +585,10 @@ mod tests {
         let numbers: Vec<u32> = (0..=u8::MAX.into())
             .filter(|&number| !matches!(Refusal::of(number), Refusal::Other(_)))
             .collect();
-        assert_eq!(numbers, [3, 10, 11, 12, 13, 14, 15, 16, 17, 18, 19]);
+        assert_eq!(
+            numbers,
+            [3, 10, 11, 12, 13, 14, 15, 16, 17, 18, 19, 30, 31, 32, 33, 34]
+        );
     }
 
     #[test]
@@ -504,6 +601,19 @@ mod tests {
         let told = told(77, [0.0; 3], [0; 3], [0.0; 3]);
         assert_eq!(told.err(), Some(Refusal::Other(77)));
         assert_eq!(Refusal::Other(77).to_string(), "Other (77)");
+        let untied = tied(77, 5).unwrap_err();
+        assert_eq!((untied.refusal, untied.place), (Refusal::Other(77), None));
+        assert_eq!(untied.to_string(), "Other (77)");
+    }
+
+    #[test]
+    fn a_place_comes_with_33_and_34_alone() {
+        for refusal in NAMED {
+            let place = [33, 34].contains(&refusal.number()).then_some(5);
+            assert_eq!(tied(refusal.number(), 5), Err(Untied { refusal, place }));
+        }
+        let untied = tied(33, 5).unwrap_err();
+        assert_eq!(untied.to_string(), "NoCorner (33) at place 5");
     }
 
     /// Through the library: a refusal that it has, and a radius that is none.
@@ -512,5 +622,29 @@ mod tests {
         assert_eq!(Operator::new(0).err(), Some(Refusal::IllConditioned));
         assert_eq!(Operator::new(8).err(), Some(Refusal::BadRadius));
         assert!(Operator::new(2).is_ok());
+    }
+    /// Through the library: the places (0, 0) and (5, 0), and answers that held 7.
+    #[test]
+    fn the_library_ties_or_names_the_place() {
+        let tie = |rows: usize, limit: f32, corners: &[f32]| {
+            let board = Board {
+                rows,
+                columns: 3,
+                places: &[0.0, 0.0, 5.0, 0.0],
+            };
+            let mut answers = [7; 2];
+            let said = tie_corners(board, limit, corners, &mut answers);
+            (said, answers)
+        };
+        let untied = |refusal, place| (Err(Untied { refusal, place }), [7; 2]);
+        let (left, right) = ([0.0, 2.0, 1.0], [5.0, 0.0, 1.0]);
+        let both = [right, left].concat();
+        assert_eq!(tie(2, 4.0, &both), (Ok(()), [1, 0]));
+        assert_eq!(tie(2, -0.0, &both), untied(Refusal::NoCorner, Some(0)));
+        assert_eq!(tie(2, 4.0, &left), untied(Refusal::NoCorner, Some(1)));
+        assert_eq!(tie(2, 29.0, &left), untied(Refusal::UsedTwice, Some(1)));
+        assert_eq!(tie(1, -1.0, &left[1..]), untied(Refusal::BadBoard, None));
+        assert_eq!(tie(2, -1.0, &left[1..]), untied(Refusal::BadPlaces, None));
+        assert_eq!(tie(2, 4.0, &left[1..]), untied(Refusal::BadList, None));
     }
 }

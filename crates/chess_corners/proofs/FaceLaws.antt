@@ -16,7 +16,9 @@ use Rattle.refine_list.specs.Refining as L
 use Rattle.peaks.specs.declared.Peaks.{Peaks}
 use Rattle.peaks.specs.Peak.{Scan}
 use Rattle.peaks.specs.Call as P
-use Rattle.chess_corners.specs.Face.{Responded, Merging, Refining, Scanning, widthAfter, heightAfter, countAfter, recordsAfter, peaksAfter}
+use Rattle.board.specs.declared.Tie.{Tie}
+use Rattle.board.specs.Call as B
+use Rattle.chess_corners.specs.Face.{Responded, Merging, Refining, Scanning, Tying, widthAfter, heightAfter, countAfter, recordsAfter, peaksAfter, placeAfter}
 
 pub responded : {img : Image} {ring : List ℤ} {radius : ℕ} {r : Region} {out : List Float} {answer : Response} {out' : List Float} (w h : ℕ) (known : Response) (n : ℕ)
     → n ≡ R.numberOf known → answer ≡ known → R.Done img ring radius r out answer out' → Responded img ring radius r out w h n out' (widthAfter w known) (heightAfter h known)
@@ -50,4 +52,12 @@ scanning count known n q e d = record {
   says = q ∙ ap P.numberOf (sym e ∙ d .answers);
   leaves = d .leaves;
   counts = ap (peaksAfter count) (sym e ∙ d .answers);
+}
+
+pub tying : {rows columns : ℕ} {places : List Float} {limit : Float} {list : List Float} {answers : List ℕ} {answer : Tie} {answers' : List ℕ} (place : ℕ) (known : Tie) (n : ℕ)
+    → n ≡ B.numberOf known → answer ≡ known → B.Done rows columns places limit list answers answer answers' → Tying rows columns places limit list answers place n answers' (placeAfter place known)
+tying place known n q e d = record {
+  says = q ∙ ap B.numberOf (sym e ∙ d .says);
+  leaves = d .leaves;
+  names = ap (placeAfter place) (sym e ∙ d .says);
 }

@@ -1,5 +1,5 @@
 -- The exported face: each function returns the number of the wrapped call's answer, 0 where it is done, and writes its further answers
--- through references only then. The lent buffers are as the wrapped call leaves them.
+-- through references only then; tying writes the place at fault with 33 and 34. The lent buffers are as the wrapped call leaves them.
 use mathlib.Core.Path.{_≡_}
 use mathlib.Core.List.{List}
 use Prim.Native.Nat.{ℕ}
@@ -26,6 +26,10 @@ use Rattle.peaks.specs.declared.Peaks.the-variants as Peaks
 use Rattle.peaks.specs.declared.Peaks.the-variants.{Found}
 use Rattle.peaks.specs.Peak.{Scan}
 use Rattle.peaks.specs.Call as P
+use Rattle.board.specs.declared.Tie.{Tie}
+use Rattle.board.specs.declared.Tie.the-variants as Tie
+use Rattle.board.specs.declared.Tie.the-variants.{Tied, NoCorner, UsedTwice}
+use Rattle.board.specs.Call as B
 
 -- ---- the response: the clamped width and height
 abbrev pub widthAfter : ℕ → Response → ℕ
@@ -73,3 +77,15 @@ pub record Scanning (s : Scan) (out : List Float) (count : ℕ) (number : ℕ) (
   pub says : number ≡ P.numberOf (P.answerOf (P.wayOf s (length out)))
   pub leaves : out' ≡ P.outAfter s out (P.wayOf s (length out))
   pub counts : count' ≡ peaksAfter count (P.answerOf (P.wayOf s (length out)))
+
+-- ---- tying corners to places: the place at fault
+abbrev pub placeAfter : ℕ → Tie → ℕ
+placeAfter old Tied = old
+placeAfter old (NoCorner k) = k
+placeAfter old (UsedTwice k) = k
+placeAfter old (Tie.Refused r) = old
+
+pub record Tying (rows columns : ℕ) (places : List Float) (limit : Float) (list : List Float) (answers : List ℕ) (place : ℕ) (number : ℕ) (answers' : List ℕ) (place' : ℕ) : Type 0 where
+  pub says : number ≡ B.numberOf (B.answerOf (B.wayOf rows columns places limit list (length answers)))
+  pub leaves : answers' ≡ B.answersAfter answers (B.wayOf rows columns places limit list (length answers))
+  pub names : place' ≡ placeAfter place (B.answerOf (B.wayOf rows columns places limit list (length answers)))

@@ -1,7 +1,8 @@
 // The public face for C and Rust: one exported function a call, over numbers, references and slices. Each returns the number of docs/RULES.md, 0 where it is
-// done. Further answers are written where the number is 0; one seed's place and score with 1 to 3 too.
+// done. Further answers are written where the number is 0; one seed's place and score with 1 to 3 too, and the place at fault with 33 and 34.
 mod seed;
 
+use board::Tie;
 use imageview::Sizes;
 use merge::Merge;
 use peaks::Peaks;
@@ -14,7 +15,7 @@ pub use seed::chess_corners_refine;
 pub use seed::chess_corners_refine_with;
 ghost use Rattle.imageview.specs.Image.{imageOf, sizesOf};
 ghost use Rattle.response.specs.Call.{regionOf};
-ghost use Rattle.chess_corners.specs.Face.{Responded, Merging, Refining, Scanning};
+ghost use Rattle.chess_corners.specs.Face.{Responded, Merging, Refining, Scanning, Tying};
 ghost use Rattle.chess_corners.specs.Seed.{settings};
 
 // The ChESS response of the region (x0, y0) to (x1, y1), clamped to the image; 0, 10, 11, 13, 14 or 15.
@@ -145,5 +146,33 @@ pub extern "C" fn chess_corners_refine_list(
             0
         }
         Refinements::Refused(refusal) => refusals::number(refusal),
+    }
+}
+
+// The number of its corner for each place of a board; 0, 30, 31, 32, 33 or 34.
+#[no_mangle]
+pub extern "C" fn chess_corners_tie(
+    rows: usize,
+    columns: usize,
+    places: &[f32],
+    limit: f32,
+    corners: &[f32],
+    answers: &mut [u16],
+    place: &mut usize,
+) -> u32
+    ensures { λ r. ⌜ Tying rows columns (now (places .entry)) limit (now (corners .entry)) (now (answers .entry)) (now (place .entry)) r (now (answers .exit)) (now (place .exit)) ⌝ }
+{
+    let answer = board::tie_corners(rows, columns, places, limit, corners, answers);
+    match answer {
+        Tie::Tied => 0,
+        Tie::NoCorner(at) => {
+            *place = at;
+            33
+        }
+        Tie::UsedTwice(at) => {
+            *place = at;
+            34
+        }
+        Tie::Refused(refusal) => refusals::number(refusal),
     }
 }

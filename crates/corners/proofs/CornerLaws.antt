@@ -51,6 +51,14 @@ recorded-parts l j c h =
     ∙ append-assoc (take (3 * j) l) (flat (c ∷ [])) (drop (3 * j + 3) l)
 
 -- ---- whole lists, and the floats of the first n corners
+pub length-flat : (l : List Corner) → length (flat l) ≡ 3 * length l
+length-flat [] = refl
+length-flat (c ∷ l) = let h : length (flat l) ≡ 3 * length l = length-flat l in omega arith
+
+pub corners-flat : (l : List Corner) → cornersOf (flat l) ≡ l
+corners-flat [] = refl
+corners-flat (c ∷ l) = ap (λ (t : List Corner). c ∷ t) (corners-flat l)
+
 pub flat-corners : (l : List Float) → length l % 3 ≡ 0 → flat (cornersOf l) ≡ l
 flat-corners [] h = refl
 flat-corners (a ∷ []) h = absurd (let z : ⊥ = omega arith in z)

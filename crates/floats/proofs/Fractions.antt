@@ -127,8 +127,11 @@ unfolding round
 neg-round f s a c = neg-units f s _ _
 
 -- ---- arithmetic
-sub-mul : (x y c : ℕ) → (x - y) * c ≡ x * c - y * c
+pub sub-mul : (x y c : ℕ) → (x - y) * c ≡ x * c - y * c
 sub-mul x y c = mul-comm (x - y) c ∙ mul-sub c x y ∙ ap (λ (z : ℕ). z - c * y) (mul-comm c x) ∙ ap (λ (z : ℕ). x * c - z) (mul-comm c y)
+
+pub scale-add : (a b c : ℕ) → (a * c + b * c) * c ≡ (a + b) * (c * c)
+scale-add a b c = ap (λ (z : ℕ). z * c) (sym (add-mul a b c)) ∙ mul-assoc (a + b) c c
 
 sum-scale : (f : Format) (s t : Bool) (a b c a' b' c' : ℕ) → 0 < c → 0 < c' → a * c' ≡ a' * c → b * c' ≡ b' * c → sum f s a t b c ≡ sum f s a' t b' c'
 unfolding sum

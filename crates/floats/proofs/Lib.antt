@@ -3,6 +3,7 @@ pub mod Value
 pub mod Pattern
 pub mod Fractions
 pub mod Half
+pub mod Relative
 pub mod OrderLaws
 pub mod WholeLaws
 pub mod PartLaws

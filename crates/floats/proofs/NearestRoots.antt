@@ -25,13 +25,13 @@ use Rattle.floats.proofs.Pattern.{size-drop, two-hid, units-fits, units
 use Rattle.floats.proofs.Roots.{Cut, lt-of-squares, square-lt, middles, no-tie, sqrt-down, sqrt-up, squared-units, cut-exists, between}
 
 -- ---- a value of the format in units, m * 2 ^ j of them, and its place among the multiples of 2 ^ k
-record InUnits (f : Format) (y : Float) : Type 0 where
+pub record InUnits (f : Format) (y : Float) : Type 0 where
   pub m : ℕ
   pub j : ℕ
   pub short : m < 2 ^ prec f
   pub is : num y * 2 ^ low f ≡ m * 2 ^ j * den y
 
-in-units : (f : Format) (y : Float) → T (fits f y) → T (finite y) → InUnits f y
+pub in-units : (f : Format) (y : Float) → T (fits f y) → T (finite y) → InUnits f y
 in-units f nan h t = absurd t
 in-units f (inf s) h t = absurd t
 in-units f (fin s zero e) h t = record { m = 0; j = 0; short = pow-pos (prec f); is = none (up e) (2 ^ low f) (down e) }

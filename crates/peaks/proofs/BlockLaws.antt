@@ -9,9 +9,11 @@ use native.Mathlib.Omega.{arith}
 use lib.Arith.{digits-mod, digits-div}
 use lib.ListN.{getD}
 use lib.Ieee.{Float, nan}
-use Rattle.peaks.specs.Peak.{every, count}
+use Rattle.shapes.specs.Tests.{every}
+use Rattle.peaks.specs.Peak.{count}
 use Rattle.peaks.specs.Steps.{runAt, blockAt}
-use Rattle.peaks.proofs.CountLaws.{every-cut, every-same, every-none, every-lost, count-cut, count-same, count-none, both}
+use Rattle.shapes.proofs.TestLaws.{every-cut, every-same, every-none, every-lost, both}
+use Rattle.peaks.proofs.CountLaws.{count-cut, count-same, count-none}
 
 next-row : (r side : ℕ) → (r + 1) * side ≡ r * side + side
 next-row r side = ap (λ (k : ℕ). k * side) (add-one r) ∙ suc-mul r side

@@ -18,7 +18,7 @@ use Rattle.peaks.specs.declared.Peaks.the-variants.{Found, Refused}
 use Rattle.peaks.specs.Peak.{Scan}
 use Rattle.peaks.specs.Call.{Way, refused, found, peaksOf, radiiFit, wayOf, answerOf, outAfter, Done}
 use Rattle.peaks.specs.Steps.{Sound, allRecorded, restOf, Recorded}
-use Rattle.peaks.proofs.CountLaws.{first-of, second-of}
+use Rattle.shapes.proofs.TestLaws.{first-of, second-of}
 
 -- ---- the test of the radii
 abbrev five : Bool → Bool → Bool → Bool → Bool → Bool

@@ -8,7 +8,8 @@ use Rattle.imageview.specs.Image.{sizesFit}
 use Rattle.peaks.specs.declared.Peaks.{Peaks}
 use Rattle.peaks.specs.declared.Peaks.the-variants.{Found, Refused}
 use Rattle.refusals.specs.declared.Refusal.the-variants.{TooMany}
-use Rattle.peaks.specs.Peak.{Scan, valueAt, inside, neighbour, every, count, beats, highest, positives, isPeak}
+use Rattle.shapes.specs.Tests.{every}
+use Rattle.peaks.specs.Peak.{Scan, valueAt, inside, neighbour, count, beats, highest, positives, isPeak}
 use Rattle.peaks.specs.Call.{chosen, peaksOf, recordsOf, wayOf, answerOf, outAfter}
 
 -- a list by its bit patterns, and back

@@ -134,7 +134,7 @@ module _ (s : Scan) where
   unfolding recordsOf
   records-none = refl
 
-  records-length : (l : List ℕ) → length (recordsOf s l) ≡ 3 * length l
+  pub records-length : (l : List ℕ) → length (recordsOf s l) ≡ 3 * length l
   unfolding recordsOf
   records-length [] = refl
   records-length (k ∷ l) = let h : length (recordsOf s l) ≡ 3 * length l = records-length l in omega arith

@@ -11,7 +11,7 @@ use lib.Ieee.{Float, nan, lt}
 use borrow.Author.Tests.{lt-leb, le-leb, lt-ltb, le-ltb}
 use Rattle.peaks.specs.Peak.{Scan, valueAt, border, inside, floorOf, highest, positives, isPeak}
 use Rattle.peaks.specs.Steps.{InsideBorder, Bordered, FirstIn, InRow}
-use Rattle.peaks.proofs.CountLaws.{both}
+use Rattle.shapes.proofs.TestLaws.{both}
 
 pub lt-or-le : (a b : ℕ) → (a < b) ⊎ (b ≤ a)
 lt-or-le a zero = inr zero-le

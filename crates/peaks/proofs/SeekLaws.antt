@@ -8,9 +8,10 @@ use native.Mathlib.Nat.{eq-or-lt-of-le, not-suc-le-zero}
 use native.Mathlib.Omega.{arith}
 use lib.ListN.{length, getD}
 use lib.Ieee.{Float, nan, lt}
-use Rattle.peaks.specs.Peak.{Scan, every, count, isPeak}
+use Rattle.shapes.specs.Tests.{every}
+use Rattle.peaks.specs.Peak.{Scan, count, isPeak}
 use Rattle.peaks.specs.Steps.{runAt, Low, Right, Ahead, Bordered}
-use Rattle.peaks.proofs.CountLaws.{every-at, every-miss}
+use Rattle.shapes.proofs.TestLaws.{every-at, every-miss}
 use Rattle.peaks.proofs.PeakLaws.{lt-or-le, not-highest, not-above}
 use Rattle.peaks.proofs.FrameLaws.{in-row, size-most}
 use Rattle.peaks.proofs.WindowLaws.{lost-right, lost-behind}

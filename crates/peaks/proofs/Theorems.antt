@@ -15,7 +15,7 @@ use Rattle.floats.proofs.OrderLaws.{lt-trans, lt-asym}
 use Rattle.shapes.specs.Numbers.{plusZero}
 use Rattle.peaks.specs.Peak.{Scan, valueAt, floorOf, side, cells, middle, neighbour, beats, inside, highest, positives, isPeak}
 use Rattle.peaks.specs.Claims.{PeaksApart, AboveZero, AboveThreshold}
-use Rattle.peaks.proofs.CountLaws.{first-of, second-of, every-at}
+use Rattle.shapes.proofs.TestLaws.{first-of, second-of, every-at}
 use Rattle.peaks.proofs.PeakLaws.{lt-or-le}
 use Rattle.peaks.proofs.WindowLaws.{beats-before, beats-after, middle-is}
 
@@ -25,11 +25,15 @@ module _ (s : Scan) (x y : ℕ) (peak : isPeak s x y ≡ true) where
   unfolding isPeak
   is-highest = second-of (inside s x y && lt (floorOf s) (valueAt s x y)) (highest s x y) (first-of (inside s x y && lt (floorOf s) (valueAt s x y) && highest s x y) (leb (s .cluster) (positives s x y)) peak)
 
-  is-above : lt (floorOf s) (valueAt s x y) ≡ true
+  is-strong : (inside s x y && lt (floorOf s) (valueAt s x y)) ≡ true
   unfolding isPeak
-  is-above =
-      second-of (inside s x y) (lt (floorOf s) (valueAt s x y))
-      (first-of (inside s x y && lt (floorOf s) (valueAt s x y)) (highest s x y) (first-of (inside s x y && lt (floorOf s) (valueAt s x y) && highest s x y) (leb (s .cluster) (positives s x y)) peak))
+  is-strong = first-of (inside s x y && lt (floorOf s) (valueAt s x y)) (highest s x y) (first-of (inside s x y && lt (floorOf s) (valueAt s x y) && highest s x y) (leb (s .cluster) (positives s x y)) peak)
+
+  pub is-inside : inside s x y ≡ true
+  is-inside = first-of (inside s x y) (lt (floorOf s) (valueAt s x y)) is-strong
+
+  is-above : lt (floorOf s) (valueAt s x y) ≡ true
+  is-above = second-of (inside s x y) (lt (floorOf s) (valueAt s x y)) is-strong
 
 -- ---- two peaks are apart
 -- the number of (a, b) in the window of (x, y)

@@ -11,9 +11,11 @@ use lib.Ieee.{Float, nan, lt}
 use borrow.Author.Tests.{eq-eqb, ne-eqb}
 use Rattle.floats.proofs.OrderLaws.{lt-asym}
 use Rattle.shapes.specs.Numbers.{plusZero}
-use Rattle.peaks.specs.Peak.{Scan, valueAt, side, cells, middle, neighbour, every, count, beats, highest, positives}
+use Rattle.shapes.specs.Tests.{every}
+use Rattle.peaks.specs.Peak.{Scan, valueAt, side, cells, middle, neighbour, count, beats, highest, positives}
 use Rattle.peaks.specs.Steps.{runAt, blockAt}
-use Rattle.peaks.proofs.CountLaws.{every-cut, every-same, every-miss, count-cut, count-same, count-most}
+use Rattle.shapes.proofs.TestLaws.{every-cut, every-same, every-miss}
+use Rattle.peaks.proofs.CountLaws.{count-cut, count-same, count-most}
 
 -- ---- the rule of the window, before and after the pixel
 pub beats-before : (s : Scan) (j : ℕ) (v w : Float) → j < middle s → beats s j v w ≡ lt w v

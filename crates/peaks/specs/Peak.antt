@@ -6,6 +6,7 @@ use Prim.Native.Nat.{ℕ, zero, suc, _+_, _-_, _*_, _/_, _%_}
 use lib.Dec.{leb, ltb, eqb}
 use lib.Ieee.{Float, lt}
 use Rattle.shapes.specs.Numbers.{plusZero, entry}
+use Rattle.shapes.specs.Tests.{every}
 
 -- a response, row after row, and the settings
 pub record Scan : Type 0 where
@@ -45,11 +46,6 @@ middle s = cells s / 2
 unfoldable pub neighbour : Scan → ℕ → ℕ → ℕ → Float
 unfolding valueAt
 neighbour s x y j = valueAt s (x + j % side s - s .window) (y + j / side s - s .window)
-
--- p of every number below n
-unfoldable pub every : ℕ → (ℕ → Bool) → Bool
-every zero p = true
-every (suc n) p = every n p && p n
 
 -- how many numbers below n have p
 unfoldable pub count : ℕ → (ℕ → Bool) → ℕ

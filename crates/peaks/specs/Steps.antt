@@ -10,7 +10,8 @@ use Rattle.shapes.specs.Numbers.{entry}
 use Rattle.refusals.specs.declared.Refusal.the-variants.{TooMany}
 use Rattle.peaks.specs.declared.Peaks.{Peaks}
 use Rattle.peaks.specs.declared.Rule.{Rule}
-use Rattle.peaks.specs.Peak.{Scan, border, every, floorOf, inside, isPeak}
+use Rattle.shapes.specs.Tests.{every}
+use Rattle.peaks.specs.Peak.{Scan, border, floorOf, inside, isPeak}
 use Rattle.peaks.specs.Call.{chosen, peakAt, peaksOf, recordsOf, Way, refused, found, answerOf, outAfter}
 
 -- a response and the rule by which it is scanned

@@ -7,7 +7,8 @@ ghost use Prim.Native.Nat.{_+_, _*_, _≤_};
 ghost use lib.Dec.{leb};
 ghost use lib.ListN.{length};
 ghost use lib.Ieee.{lt};
-ghost use Rattle.peaks.specs.Peak.{every, count, highest, positives};
+ghost use Rattle.shapes.specs.Tests.{every};
+ghost use Rattle.peaks.specs.Peak.{count, highest, positives};
 ghost use Rattle.peaks.specs.Steps.{scanOf, runAt, blockAt, BlockFits, Beaten, Framed, Right};
 
 // Whether the pixel's value v beats another value w of its window.

@@ -17,7 +17,7 @@ use lib.Ieee.Scale.{grid, overflow, round-same}
 use Rattle.floats.proofs.Value.{unit, fitting, zero-of}
 use Rattle.floats.proofs.Half.{Near, grid-near, round-val}
 use Rattle.floats.proofs.Pattern.{closest-upto}
-use Rattle.floats.proofs.Fractions.{sub-value}
+use Rattle.floats.proofs.Fractions.{scale-add, sub-value}
 use Rattle.pixel_response.specs.Near.{ByAtMost}
 
 -- ---- a value by another fraction of the same size
@@ -211,9 +211,6 @@ joined f a b c = refl
 
 scale-sub : (a b c : ℕ) → (a * c - b * c) * c ≡ (a - b) * (c * c)
 scale-sub a b c = ap (λ (z : ℕ). z * c) (ap (λ (z : ℕ). z - b * c) (mul-comm a c) ∙ ap (λ (z : ℕ). c * a - z) (mul-comm b c) ∙ sym (mul-sub c a b) ∙ mul-comm c (a - b)) ∙ mul-assoc (a - b) c c
-
-scale-add : (a b c : ℕ) → (a * c + b * c) * c ≡ (a + b) * (c * c)
-scale-add a b c = ap (λ (z : ℕ). z * c) (sym (add-mul a b c)) ∙ mul-assoc (a + b) c c
 
 module _ (f : Format) (x y : Float) (a b c : ℕ) (C : 0 < c) (k : HasValue y false b c) where
   pub sub-above : HasValue x false a c → b ≤ a → sub f x y ≡ round f false (a - b) c

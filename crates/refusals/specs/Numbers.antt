@@ -1,7 +1,7 @@
 -- The number of each refusal; docs/RULES.md says when each is given.
 use Prim.Native.Nat.{ℕ}
 use Rattle.refusals.specs.declared.Refusal.{Refusal}
-use Rattle.refusals.specs.declared.Refusal.the-variants.{BadImage, BadRadius, BadLimit, BadRing, EmptyRoi, BadOut, TooMany, GridTooBig, BadScratch, BadLength}
+use Rattle.refusals.specs.declared.Refusal.the-variants.{BadImage, BadRadius, BadLimit, BadRing, EmptyRoi, BadOut, TooMany, GridTooBig, BadScratch, BadLength, BadBoard, BadPlaces, BadList}
 
 abbrev pub numberOf : Refusal → ℕ
 numberOf BadImage = 10
@@ -14,3 +14,6 @@ numberOf TooMany = 16
 numberOf GridTooBig = 17
 numberOf BadScratch = 18
 numberOf BadLength = 19
+numberOf BadBoard = 30
+numberOf BadPlaces = 31
+numberOf BadList = 32

@@ -14,6 +14,9 @@ pub enum Refusal {
     GridTooBig,
     BadScratch,
     BadLength,
+    BadBoard,
+    BadPlaces,
+    BadList,
 }
 
 pub fn number(refusal: Refusal) -> u32
@@ -30,5 +33,8 @@ pub fn number(refusal: Refusal) -> u32
         Refusal::GridTooBig => 17,
         Refusal::BadScratch => 18,
         Refusal::BadLength => 19,
+        Refusal::BadBoard => 30,
+        Refusal::BadPlaces => 31,
+        Refusal::BadList => 32,
     }
 }

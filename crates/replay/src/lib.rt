@@ -30,7 +30,7 @@ ghost use lib.Ieee.{binary32};
 ghost use lib.ListN.{length};
 ghost use Rattle.words.specs.Words.{wordAt, longAt};
 ghost use Rattle.replay.specs.Place.{placeOf, imageIn, imageEnd};
-ghost use Rattle.replay.specs.Aim.{noAim, aimOf, aimedAt};
+ghost use Rattle.replay.specs.Aim.{noAim, aimOf, aimInTwo, aimedAt};
 ghost use Rattle.replay.specs.Count.{Within, none, moreOf, countedIn, endedOf};
 
 // What an open list has next: a case of so many bytes, its end, or what is no whole case.
@@ -145,6 +145,16 @@ impl Aim {
             part,
             at: pick(turn, n) + 1,
         }
+    }
+
+    // Part 1 is one number, part 2 has n elements: in turns.
+    pub fn in_two(turn: u32, n: usize) -> Self
+        ensures { λ r. ⌜ r ≡ aimInTwo turn n ⌝ }
+    {
+        if turn % 2 == 0 {
+            return Aim::of(turn, 1, 1);
+        }
+        Aim::of(turn / 2, 2, n)
     }
 
     // The element of a part that is changed, 0 where none is.

@@ -46,7 +46,9 @@ fn trial(tally: Tally, case: &mut [u8], values: &mut [f32], out: &mut [f32]) -> 
     let turn = tally.cases;
     let right = holds(case, Aim::none(), values, out);
     let taken = spoilt_holds(case, turn, values, out);
-    let missed = holds(case, aim(case, turn), values, out);
+    // The parts are the count and the output.
+    let aim = Aim::in_two(turn, replay::word_from(case, settings(case), 5) as usize);
+    let missed = holds(case, aim, values, out);
     tally.counted(right, !taken & !missed)
 }
 
@@ -57,15 +59,6 @@ fn spoilt_holds(case: &mut [u8], turn: u32, values: &mut [f32], out: &mut [f32])
     let taken = holds(case, Aim::none(), values, out);
     replay::flip(case, spoilt.place, spoilt.bit);
     taken
-}
-
-// Part 1 is the count, part 2 the output.
-fn aim(case: &[u8], turn: u32) -> Aim {
-    if turn % 2 == 0 {
-        return Aim::of(turn, 1, 1);
-    }
-    let room = replay::word_from(case, settings(case), 5) as usize;
-    Aim::of(turn / 2, 2, room)
 }
 
 // Where the settings stand: behind the values, which begin with the sixth word.

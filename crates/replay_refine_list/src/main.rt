@@ -46,7 +46,9 @@ fn trial(tally: Tally, case: &mut [u8], corners: &mut [f32], out: &mut [f32]) ->
     let turn = tally.cases;
     let right = holds(case, Aim::none(), corners, out);
     let taken = spoilt_holds(case, turn, corners, out);
-    let missed = holds(case, aim(case, turn), corners, out);
+    // The parts are the count and the output.
+    let aim = Aim::in_two(turn, words::word(case, room(case)) as usize);
+    let missed = holds(case, aim, corners, out);
     tally.counted(right, !taken & !missed)
 }
 
@@ -57,14 +59,6 @@ fn spoilt_holds(case: &mut [u8], turn: u32, corners: &mut [f32], out: &mut [f32]
     let taken = holds(case, Aim::none(), corners, out);
     replay::flip(case, spoilt.place, spoilt.bit);
     taken
-}
-
-// Part 1 is the count, part 2 the output.
-fn aim(case: &[u8], turn: u32) -> Aim {
-    if turn % 2 == 0 {
-        return Aim::of(turn, 1, 1);
-    }
-    Aim::of(turn / 2, 2, words::word(case, room(case)) as usize)
 }
 
 // Where the length of the output stands: behind the lent corners, which follow the image and the settings.

@@ -13,6 +13,7 @@ use lib.ListN.{length, getD, length-append, List·getD-append}
 use lib.Seq.{ext-getD, getD-at}
 use lib.Ieee.{Float}
 use borrow.Author.Tests.{le-leb, lt-leb, leb-false, eqb-true, eq-eqb, ne-eqb}
+use Rattle.shapes.proofs.TestLaws.{first-not, second-not}
 use Rattle.shapes.specs.Numbers.{plusZero}
 use Rattle.shapes.specs.Lists.{tabulated}
 use Rattle.shapes.proofs.ListLaws.{length-tabulated, getD-tabulated}
@@ -58,19 +59,11 @@ side-within false from to most p q f = let l = f refl in omega arith
 false-true : false ≡ true → ⊥
 false-true e = subst T (sym e) tt
 
-or-left : (a b : Bool) → (a || b) ≡ false → a ≡ false
-or-left true b e = e
-or-left false b e = refl
-
-or-right : (a b : Bool) → (a || b) ≡ false → b ≡ false
-or-right true b e = absurd (false-true (sym e))
-or-right false b e = e
-
 pub width-within : (r : Region) (most : ℕ) → r .x0 ≤ most → r .x1 ≤ most → r .x0 + widthOf r ≤ most
-width-within r most p q = side-within (isEmpty r) (r .x0) (r .x1) most p q (λ e. let l = leb-false (r .x1) (r .x0) (or-left (leb (r .x1) (r .x0)) (leb (r .y1) (r .y0)) e) in omega arith)
+width-within r most p q = side-within (isEmpty r) (r .x0) (r .x1) most p q (λ e. let l = leb-false (r .x1) (r .x0) (first-not (leb (r .x1) (r .x0)) (leb (r .y1) (r .y0)) e) in omega arith)
 
 pub height-within : (r : Region) (most : ℕ) → r .y0 ≤ most → r .y1 ≤ most → r .y0 + heightOf r ≤ most
-height-within r most p q = side-within (isEmpty r) (r .y0) (r .y1) most p q (λ e. let l = leb-false (r .y1) (r .y0) (or-right (leb (r .x1) (r .x0)) (leb (r .y1) (r .y0)) e) in omega arith)
+height-within r most p q = side-within (isEmpty r) (r .y0) (r .y1) most p q (λ e. let l = leb-false (r .y1) (r .y0) (second-not (leb (r .x1) (r .x0)) (leb (r .y1) (r .y0)) e) in omega arith)
 
 -- ---- the clamped region, from its corners
 abbrev pub corners : ℕ → ℕ → ℕ → ℕ → Region

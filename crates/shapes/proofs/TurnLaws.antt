@@ -1,6 +1,6 @@
--- Work in turns: one turn more, and turns that say the same.
+-- Work in turns: one turn more, turns that say the same, and the end of the turns.
 use mathlib.Core.Path.{_≡_, refl, ap, _∙_}
-use Prim.Native.Nat.{ℕ, zero, suc, _+_, _<_}
+use Prim.Native.Nat.{ℕ, zero, suc, _+_, _≤_, _<_}
 use native.Mathlib.Numerals.{add-one}
 use native.Mathlib.Omega.{arith}
 use Rattle.shapes.specs.Turns.{turns}
@@ -13,3 +13,6 @@ pub turns-cong : {A : Type 0} (n : ℕ) (g h : ℕ → A → A) (a : A) → ((k 
 unfolding turns
 turns-cong zero g h a e = refl
 turns-cong (suc n) g h a e = e n (omega arith) (turns n g a) ∙ ap (h n) (turns-cong n g h a (λ k l x. e k (omega arith) x))
+
+pub ended : {i n : ℕ} → i ≤ n → n ≤ i → i ≡ n
+ended h l = omega arith

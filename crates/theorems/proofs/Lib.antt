@@ -1,4 +1,8 @@
--- What joins several crates: the marked examples, two refined seeds as closed cases, and the theorem from image to peak.
+-- What joins several crates: the marked examples, two refined seeds as closed cases, the theorem from image to peak, and the whole road.
 pub mod Marked
 pub mod Seeds
+pub mod PixelLaws
 pub mod Road
+pub mod RecordLaws
+pub mod CallLaws
+pub mod WholeRoad

@@ -1,2 +1,3 @@
 -- What is claimed over several crates.
 pub mod Claims
+pub mod WholeRoad

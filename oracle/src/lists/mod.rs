@@ -5,6 +5,7 @@ use crate::random::Random;
 use crate::types::*;
 use crate::words::{bits32, Case, List};
 
+pub mod board;
 pub mod fallback;
 pub mod floats;
 pub mod gradient;
@@ -37,6 +38,7 @@ pub const ALL: &[Writer] = &[
     ("solve", solve::list),
     ("operator", operator::list),
     ("gradient", gradient::list),
+    ("board", board::list),
     ("fit", pieces::fit),
     ("window", pieces::window),
     ("blend", pieces::blend),
@@ -57,6 +59,7 @@ const REACHED: &[(&str, &[u32])] = &[
     ("merge", &[0, 16, 17, 18, 19]),
     ("merge_print", &[0, 16, 17, 19]),
     ("gradient", &[0, 10, 13, 15]),
+    ("board", &[0, 30, 31, 32, 33, 34]),
 ];
 
 /// What a list must reach and does not.
@@ -104,6 +107,7 @@ pub fn missing(list: &List) -> Vec<String> {
             ]
             .map(String::from),
         ),
+        "board" => wanted.extend(board::MET.map(String::from)),
         _ => {}
     }
     wanted.retain(|what| list.counted(what) == 0);
@@ -173,6 +177,11 @@ fn number_name(number: u32) -> &'static str {
         17 => "17 GridTooBig",
         18 => "18 BadScratch",
         19 => "19 BadLength",
+        30 => "30 BadBoard",
+        31 => "31 BadPlaces",
+        32 => "32 BadList",
+        33 => "33 NoCorner",
+        34 => "34 UsedTwice",
         _ => "a number that document 01 does not have",
     }
 }

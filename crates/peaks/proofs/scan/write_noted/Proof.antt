@@ -6,7 +6,7 @@ use native.Mathlib.Omega.{arith}
 use lib.ListN.{length, take, drop, getD}
 use Rattle.peaks.specs.Call.{recordsOf}
 use Rattle.peaks.specs.Steps.{scanOf}
-use Rattle.peaks.proofs.CountLaws.{ended}
+use Rattle.shapes.proofs.TurnLaws.{ended}
 use Rattle.peaks.proofs.NextLaws.{column-most, row-most}
 use Rattle.peaks.proofs.ChosenLaws.{noted-none, noted-more}
 use Rattle.peaks.proofs.scan.write_noted.Statement.{statement}

@@ -5,7 +5,8 @@ use native.Mathlib.Omega.{arith}
 use lib.Ieee.{lt}
 use Rattle.peaks.specs.Peak.{count}
 use Rattle.peaks.specs.Steps.{runAt, blockAt}
-use Rattle.peaks.proofs.CountLaws.{count-most, ended}
+use Rattle.shapes.proofs.TurnLaws.{ended}
+use Rattle.peaks.proofs.CountLaws.{count-most}
 use Rattle.peaks.proofs.BlockLaws.{no-count, count-row, few}
 use Rattle.peaks.proofs.window.above_rows.Statement.{statement}
 use Rattle.peaks.proofs.window.above_rows.Tie as tie

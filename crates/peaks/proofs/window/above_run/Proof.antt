@@ -7,7 +7,8 @@ use lib.Ieee.{lt}
 use borrow.Author.Needs.{needs}
 use Rattle.peaks.specs.Peak.{count}
 use Rattle.peaks.specs.Steps.{runAt}
-use Rattle.peaks.proofs.CountLaws.{count-none, count-more, count-most, cond-most, ended}
+use Rattle.shapes.proofs.TurnLaws.{ended}
+use Rattle.peaks.proofs.CountLaws.{count-none, count-more, count-most, cond-most}
 use Rattle.peaks.proofs.window.above_run.Statement.{statement}
 use Rattle.peaks.proofs.window.above_run.Tie as tie
 

@@ -5,9 +5,9 @@ use Prim.Native.Nat.{ℕ, _-_, _*_, _≤_}
 use native.Mathlib.Omega.{arith}
 use lib.Ieee.{lt}
 use borrow.Author.Tests.{not-true, not-false}
-use Rattle.peaks.specs.Peak.{every}
+use Rattle.shapes.specs.Tests.{every}
 use Rattle.peaks.specs.Steps.{blockAt}
-use Rattle.peaks.proofs.CountLaws.{ended}
+use Rattle.shapes.proofs.TurnLaws.{ended}
 use Rattle.peaks.proofs.BlockLaws.{no-row, row-passes, row-fails}
 use Rattle.peaks.proofs.window.beats_rows.Statement.{statement}
 use Rattle.peaks.proofs.window.beats_rows.Tie as tie

@@ -6,9 +6,10 @@ use native.Mathlib.Omega.{arith}
 use lib.Ieee.{lt}
 use borrow.Author.Needs.{needs}
 use borrow.Author.Tests.{not-true, not-false}
-use Rattle.peaks.specs.Peak.{every}
+use Rattle.shapes.specs.Tests.{every}
 use Rattle.peaks.specs.Steps.{runAt}
-use Rattle.peaks.proofs.CountLaws.{every-none, every-more, every-miss, both, ended}
+use Rattle.shapes.proofs.TestLaws.{every-none, every-more, every-miss, both}
+use Rattle.shapes.proofs.TurnLaws.{ended}
 use Rattle.peaks.proofs.window.beats_run.Statement.{statement}
 use Rattle.peaks.proofs.window.beats_run.Tie as tie
 

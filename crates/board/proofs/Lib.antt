@@ -1,0 +1,4 @@
+-- Laws of the nearest corner and of the call.
+pub mod NearestLaws
+pub mod CallLaws
+pub mod WayLaws

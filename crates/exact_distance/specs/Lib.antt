@@ -1,0 +1,2 @@
+-- The squared distance in exact numbers.
+pub mod Exact
