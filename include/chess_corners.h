@@ -78,7 +78,9 @@ uint32_t chess_corners_response(const uint8_t *img, size_t img_len, size_t width
                                 float *out, size_t out_len, size_t *out_width, size_t *out_height);
 
 /* The peaks of a response of width times height values: x, y and value of each, by row, to the front of out; its
- * other elements stay. count: how many peaks. refine_radius widens the border by the refiner's patch.
+ * other elements stay. count: how many peaks. A peak is greater than every earlier value of its window, by row, and at
+ * least equal to every later one, so of equal neighbours the first; a NaN is none and leaves none beside it.
+ * refine_radius widens the border by the refiner's patch.
  * Returns 0, 10 (the response takes the image's place), 11, 12, 19 (out_len is no multiple of 3), 16. */
 uint32_t chess_corners_peaks(const float *response, size_t response_len, size_t width, size_t height,
                              size_t ring_radius, size_t window_radius, size_t refine_radius,

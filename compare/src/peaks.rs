@@ -5,7 +5,7 @@ use crate::port;
 use crate::trial::{self, bits, flip, oddness, Lent, Met, Tally, Trial, PAINT, PAINT_F, PLAIN};
 use oracle::calls;
 use oracle::random::Random;
-use oracle::rules::{self, WindowRule};
+use oracle::rules;
 use oracle::rust_or_rule::Decided;
 use oracle::types::{PeakSettings, Triple};
 use std::fmt::{self, Display, Formatter};
@@ -33,7 +33,13 @@ pub struct Left {
 struct Seen {
     nan: bool,
     nan_in_window: bool,
-    tie: bool,
+    /// Values that no other of their window exceeds, with equal ones in it: the
+    /// first is a peak, a later one is none, also where the earlier lies outside
+    /// the border, and a NaN leaves none.
+    first_of_equal: bool,
+    later_of_equal: bool,
+    later_of_outside: bool,
+    equal_with_nan: bool,
     /// The Rust's window rule may give another answer.
     apart: bool,
     infinite: bool,
@@ -69,17 +75,19 @@ impl Peaks {
         self.width.min(self.height) <= 2 * self.border()
     }
 
-    /// The other values of the window of a pixel inside the border.
-    fn others(&self, x: usize, y: usize) -> impl Iterator<Item = f32> + '_ {
+    /// The other values of the window of a pixel inside the border, each with
+    /// its place by row.
+    fn others(&self, x: usize, y: usize) -> impl Iterator<Item = ((usize, usize), f32)> + '_ {
         let n = self.settings.window_radius;
-        (y - n..=y + n).flat_map(move |yy| {
-            let row = &self.response[yy * self.width..][x - n..=x + n];
-            let own = move |(k, _): &(usize, &f32)| yy == y && *k == n;
-            row.iter()
-                .enumerate()
-                .filter(move |v| !own(v))
-                .map(|v| *v.1)
-        })
+        let rows = y - n..=y + n;
+        rows.flat_map(move |yy| (x - n..=x + n).map(move |xx| (yy, xx)))
+            .filter(move |place| *place != (y, x))
+            .map(|place| (place, self.response[place.0 * self.width + place.1]))
+    }
+
+    fn inside(&self, (y, x): (usize, usize)) -> bool {
+        let b = self.border();
+        (b..self.height - b).contains(&y) && (b..self.width - b).contains(&x)
     }
 
     /// Looks at every pixel inside the border of a call that is not refused.
@@ -106,22 +114,28 @@ impl Peaks {
 
     fn seen_at(&self, x: usize, y: usize, v: f32, seen: &mut Seen) {
         let s = self.settings;
-        let (mut nans, mut equal, mut positive) = (0, 0, 0);
-        for w in self.others(x, y) {
+        let (mut nans, mut earlier, mut outside, mut later, mut positive) = (0, 0, 0, 0, 0);
+        for (place, w) in self.others(x, y) {
             if w > v {
                 return;
             }
             nans += u32::from(w.is_nan());
-            equal += u32::from(w == v);
+            let before = w == v && place < (y, x);
+            earlier += u32::from(before);
+            outside += u32::from(before && !self.inside(place));
+            later += u32::from(w == v && place > (y, x));
             positive += u32::from(w > 0.0);
         }
         let above = v > s.threshold.max(0.0);
-        seen.apart |= above && nans + equal > 0;
-        seen.tie |= above && equal > 0 && nans == 0;
-        seen.nan_in_window |= above && nans > 0 && equal == 0;
-        if nans + equal > 0 {
+        seen.apart |= above && nans + earlier > 0;
+        seen.nan_in_window |= above && nans > 0 && earlier + later == 0;
+        seen.equal_with_nan |= above && nans > 0 && earlier + later > 0;
+        seen.later_of_equal |= above && earlier > 0 && nans == 0;
+        seen.later_of_outside |= above && earlier > 0 && earlier == outside && nans == 0;
+        if nans + earlier > 0 {
             return;
         }
+        seen.first_of_equal |= above && later > 0 && positive >= s.min_cluster_size;
         seen.at_threshold |= v == s.threshold && v > 0.0;
         seen.held_by_zero |= v > s.threshold && v <= 0.0;
         seen.infinite |= above && v.is_infinite();
@@ -137,8 +151,7 @@ impl Peaks {
         if let Some(number) = rules::peaks_refusal(w, h, &self.response, &s, self.out) {
             return (number, Vec::new(), Decided::NotRun);
         }
-        let (decision, peaks) =
-            calls::peaks(w, h, &self.response, &s, self.out, WindowRule::Strict);
+        let (decision, peaks) = calls::peaks(w, h, &self.response, &s, self.out);
         (decision.number, peaks, decision.decided)
     }
 
@@ -171,7 +184,10 @@ impl Peaks {
             ("4,096 wide", self.width == 4096),
             ("NaN inside", seen.nan),
             ("NaN in a window", seen.nan_in_window),
-            ("tie", seen.tie),
+            ("tie, the first a peak", seen.first_of_equal),
+            ("tie, not the first", seen.later_of_equal),
+            ("tie, the first outside the border", seen.later_of_outside),
+            ("tie and NaN in a window", seen.equal_with_nan),
             ("infinite peak", seen.infinite),
             ("-0.0 inside", seen.minus_zero),
             ("at the threshold", seen.at_threshold),
@@ -194,14 +210,7 @@ impl Peaks {
     /// The peaks of a call that is not refused.
     fn count(&self) -> usize {
         let s = self.for_oracle();
-        rules::peaks(
-            self.width,
-            self.height,
-            &self.response,
-            &s,
-            WindowRule::Strict,
-        )
-        .len()
+        rules::peaks(self.width, self.height, &self.response, &s).len()
     }
 }
 
@@ -253,7 +262,10 @@ impl Trial for Peaks {
         "4,096 wide",
         "NaN inside",
         "NaN in a window",
-        "tie",
+        "tie, the first a peak",
+        "tie, not the first",
+        "tie, the first outside the border",
+        "tie and NaN in a window",
         "infinite peak",
         "-0.0 inside",
         "at the threshold",
@@ -309,7 +321,7 @@ impl Trial for Peaks {
             _ => Seen::default(),
         };
         if number == 0 && !seen.apart && decided != Decided::ByRust {
-            return Err("the Rust answers otherwise without a tie or a NaN".into());
+            return Err("the Rust answers otherwise without an earlier equal or a NaN".into());
         }
         Ok(self.classes(number, peaks.len(), decided, &seen))
     }
@@ -575,13 +587,15 @@ pub fn faults_noticed() -> Result<(), String> {
     };
     written.response[2 * 9 + 3] = 2.0;
     written.response[5 * 9 + 5] = 3.0;
+    let mut tied = written.clone();
+    tied.response[2 * 9 + 4] = 2.0;
     let mut refused = written.clone();
     refused.settings.threshold = f32::NAN;
     let mut too_many = written.clone();
     too_many.response[2 * 9 + 6] = 1.0;
     too_many.response[6 * 9 + 2] = 1.0;
     trial::faults_noticed(
-        &[written, refused, too_many],
+        &[written, tied, refused, too_many],
         &[
             ("number", |l| l.number ^= 1),
             ("count", |l| l.count ^= 1),

@@ -154,7 +154,7 @@ pub struct Met {
 }
 
 /// The most classes of a case.
-const MOST: usize = 16;
+const MOST: usize = 24;
 
 impl Met {
     pub fn of(class: &'static str) -> Self {

@@ -3,7 +3,7 @@
 //! functions over slices; the lists are written from them, and a driver that
 //! compares the port natively calls them too. For timing call `plain`.
 
-use crate::rules::{self, Way, WindowRule};
+use crate::rules::{self, Way};
 use crate::rust_or_rule::{accepted, broken, refusal, run, Decided};
 use crate::types::*;
 use crate::words::bits32;
@@ -340,20 +340,19 @@ pub fn peaks_of_rust(
     run(|| plain::peaks(width, height, response, s))
 }
 
-/// The peaks by one of the two window rules, `out` floats lent.
+/// The peaks by document 01's window rule, `out` floats lent.
 pub fn peaks(
     width: u64,
     height: u64,
     response: &[f32],
     s: &PeakSettings,
     out: usize,
-    rule: WindowRule,
 ) -> (Decision, Vec<Triple>) {
     let (w, h) = (width as usize, height as usize);
     let mut refused = rules::peaks_refusal(width, height, response, s, out);
     let mut peaks = Vec::new();
     if refused.is_none() {
-        peaks = rules::peaks(w, h, response, s, rule);
+        peaks = rules::peaks(w, h, response, s);
         if peaks.len() > out / 3 {
             refused = Some(rules::TOO_MANY);
             peaks = Vec::new();

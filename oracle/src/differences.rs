@@ -344,33 +344,38 @@ fn peaks(out: &mut Lines) {
         }
         map
     };
-    let three = |w: usize, h: usize, map: &[f32], s: &PeakSettings| {
-        (
-            rules::peaks(w, h, map, s, rules::WindowRule::Strict).len(),
-            rules::peaks(w, h, map, s, rules::WindowRule::FirstOfEqual).len(),
-            plain::peaks(w, h, map, s).len(),
-        )
+    let both = |w: usize, h: usize, map: &[f32], s: &PeakSettings| {
+        [rules::peaks(w, h, map, s), plain::peaks(w, h, map, s)]
     };
+    let counts = |w: usize, h: usize, map: &[f32], s: &PeakSettings| {
+        both(w, h, map, s).map(|peaks| peaks.len())
+    };
+    let (first, second) = ([2.0, 2.0, 5.0], [3.0, 2.0, 5.0]);
     let tie = at(6, 5, &[(2, 2, 5.0), (3, 2, 5.0)]);
     say(
-        "K1: two equal neighbours: document 01 none, W-201 one, the Rust two",
-        three(6, 5, &tie, &s) == (0, 1, 2),
+        "K1: two equal neighbours: document 01 the first, the Rust both",
+        both(6, 5, &tie, &s) == [vec![first], vec![first, second]],
     );
-    let outer = at(5, 5, &[(2, 2, 5.0), (1, 2, 5.0)]);
-    say(
-        "K1: the equal one outside the border: none, none, one",
-        three(5, 5, &outer, &s) == (0, 0, 1),
-    );
+    for (x, y, counted) in [
+        (1, 2, [0, 1]),
+        (2, 1, [0, 1]),
+        (3, 2, [1, 1]),
+        (2, 3, [1, 1]),
+    ] {
+        let outer = at(5, 5, &[(2, 2, 5.0), (x, y, 5.0)]);
+        let line = format!("K1: (2,2) and an equal one outside the border at ({x},{y}): document 01 and the Rust give {counted:?}");
+        say(&line, counts(5, 5, &outer, &s) == counted);
+    }
     let nan = at(5, 5, &[(2, 2, f32::NAN)]);
     say(
-        "K2: a NaN centre: none, none, one",
-        three(5, 5, &nan, &s) == (0, 0, 1),
+        "K2: a NaN centre: none, the Rust one",
+        counts(5, 5, &nan, &s) == [0, 1],
     );
-    let beside = at(5, 5, &[(2, 2, 5.0), (3, 2, f32::NAN)]);
-    say(
-        "K3: a NaN beside: none, none, one",
-        three(5, 5, &beside, &s) == (0, 0, 1),
-    );
+    for x in [1, 3] {
+        let beside = at(5, 5, &[(2, 2, 5.0), (x, 2, f32::NAN)]);
+        let line = format!("K3: (2,2) with a NaN at ({x},2): none, the Rust one");
+        say(&line, counts(5, 5, &beside, &s) == [0, 1]);
+    }
     let one = at(5, 5, &[(2, 2, 5.0)]);
     for (t, n) in [(f32::NAN, 1), (f32::INFINITY, 0), (f32::NEG_INFINITY, 1)] {
         let line = format!("K4: threshold {t}: the Rust goes on and gives {n}");
@@ -395,7 +400,7 @@ fn peaks(out: &mut Lines) {
     };
     say(
         "K5: -1 among -2 at threshold -5 is no peak, against the comment at threshold",
-        three(5, 5, &below, &low) == (0, 0, 0),
+        counts(5, 5, &below, &low) == [0, 0],
     );
     let zero = PeakSettings {
         window_radius: 0,

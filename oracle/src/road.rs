@@ -4,7 +4,6 @@
 use crate::calls;
 use crate::pictures::shake;
 use crate::random::Random;
-use crate::rules::WindowRule;
 use crate::types::{paper_ring, Image, PeakSettings, Region, Settings, Triple, View};
 
 pub const WIDTH: usize = 128;
@@ -40,8 +39,7 @@ pub fn corners(image: &Image) -> Vec<Triple> {
         x1: image.width,
         y1: image.height,
     };
-    let (_, _, _, response) =
-        calls::response(view, 5, &paper_ring(1), whole, image.bytes.len());
+    let (_, _, _, response) = calls::response(view, 5, &paper_ring(1), whole, image.bytes.len());
     let settings = PeakSettings {
         threshold: 200.0,
         ring_radius: 5,
@@ -49,14 +47,7 @@ pub fn corners(image: &Image) -> Vec<Triple> {
         refiner_radius: 2,
         min_cluster_size: 2,
     };
-    let (_, peaks) = calls::peaks(
-        image.width,
-        image.height,
-        &response,
-        &settings,
-        3 * 4096,
-        WindowRule::Strict,
-    );
+    let (_, peaks) = calls::peaks(image.width, image.height, &response, &settings, 3 * 4096);
     let flat = |list: &[Triple]| list.concat();
     let floats = flat(&peaks);
     let (_, refined) = calls::refine_list(view, &Settings::default(), &floats, floats.len());

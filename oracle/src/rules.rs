@@ -281,13 +281,6 @@ pub fn why_refused(s: &Settings, det: f32) -> u32 {
 
 // --- peaks ------------------------------------------------------------------
 
-/// Which window rule: document 01 as it began, or as W-201 leaves it.
-#[derive(Clone, Copy, PartialEq)]
-pub enum WindowRule {
-    Strict,
-    FirstOfEqual,
-}
-
 /// 10, 11, 12, 19; 16 is known only when the peaks are counted.
 pub fn peaks_refusal(
     width: u64,
@@ -309,14 +302,9 @@ pub fn peaks_refusal(
     ])
 }
 
-/// The peaks, by row, of a call that no number up to 19 refuses.
-pub fn peaks(
-    width: usize,
-    height: usize,
-    response: &[f32],
-    s: &PeakSettings,
-    rule: WindowRule,
-) -> Vec<Triple> {
+/// The peaks, by row, of a call that no number up to 19 refuses. Of equal
+/// values in each other's window the first in row order wins (W-201).
+pub fn peaks(width: usize, height: usize, response: &[f32], s: &PeakSettings) -> Vec<Triple> {
     let border = (s.ring_radius + s.window_radius + s.refiner_radius) as usize;
     if width <= 2 * border || height <= 2 * border {
         return Vec::new();
@@ -335,10 +323,10 @@ pub fn peaks(
                         continue;
                     }
                     let other = response[yy * width + xx];
-                    let later = (yy, xx) > (y, x);
-                    greatest &= match rule {
-                        WindowRule::FirstOfEqual if later => value >= other,
-                        _ => value > other,
+                    greatest &= if (yy, xx) < (y, x) {
+                        value > other
+                    } else {
+                        value >= other
                     };
                     positive += u32::from(other > 0.0);
                 }

@@ -340,8 +340,13 @@ pub fn response(
     roi: Roi,
     out: &mut [f32],
 ) -> Result<(usize, usize), Refusal> {
-    let ring: [i32; 32] =
-        core::array::from_fn(|k| if k % 2 == 0 { ring[k / 2].0 } else { ring[k / 2].1 });
+    let ring: [i32; 32] = core::array::from_fn(|k| {
+        if k % 2 == 0 {
+            ring[k / 2].0
+        } else {
+            ring[k / 2].1
+        }
+    });
     let (mut width, mut height) = (0, 0);
     // SAFETY: each pointer and length come from one live slice or reference,
     // and Rust's borrows keep apart what is written.
@@ -366,7 +371,8 @@ pub fn response(
     done(number, (width, height))
 }
 
-/// The peaks of a response, x, y and value of each: how many.
+/// The peaks of a response, x, y and value of each: how many. Of equal
+/// neighbours the first by row is one.
 pub fn peaks(
     response: &[f32],
     width: usize,
@@ -623,6 +629,25 @@ mod tests {
         assert_eq!(Operator::new(8).err(), Some(Refusal::BadRadius));
         assert!(Operator::new(2).is_ok());
     }
+
+    /// Through the library: (2, 2) and (3, 2) have the same value.
+    #[test]
+    fn the_library_gives_the_first_of_equal_neighbours() {
+        let settings = PeakSettings {
+            ring_radius: 1,
+            window_radius: 1,
+            refine_radius: 0,
+            threshold: 0.0,
+            min_cluster_size: 1,
+        };
+        let mut response = [0.0; 30];
+        response[14] = 5.0;
+        response[15] = 5.0;
+        let mut out = [7.0; 6];
+        assert_eq!(peaks(&response, 6, 5, settings, &mut out), Ok(1));
+        assert_eq!(out, [2.0, 2.0, 5.0, 7.0, 7.0, 7.0]);
+    }
+
     /// Through the library: the places (0, 0) and (5, 0), and answers that held 7.
     #[test]
     fn the_library_ties_or_names_the_place() {

@@ -87,8 +87,8 @@ fn row(name: &str, made: fn(u64) -> Vec<f32>, window: usize) -> bool {
         refiner_radius: 2,
         min_cluster_size: params.min_cluster_size,
     };
-    let strict = rules::peaks(w, h, &responses[0], &s, rules::WindowRule::Strict);
-    count == strict.len() && calls::same_floats(&out[..3 * count], &strict.concat())
+    let expected = rules::peaks(w, h, &responses[0], &s);
+    count == expected.len() && calls::same_floats(&out[..3 * count], &expected.concat())
 }
 
 pub fn table() -> bool {

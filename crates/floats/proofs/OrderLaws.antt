@@ -114,3 +114,10 @@ lt-not-eq (fin s m e) (fin t n d) h = not-level s (m * up e * down d) t (n * up 
 
 pub lt-not-le : (x y : Float) → lt x y ≡ true → le y x ≡ false
 lt-not-le x y h = le-either y x ∙ ap (λ (b : Bool). b || eq y x) (lt-asym x y h) ∙ lt-not-eq x y h
+
+pub le-not-lt : (x y : Float) → le x y ≡ true → lt y x ≡ false
+le-not-lt x y h = go (lt y x) refl
+  where
+    go : (b : Bool) → lt y x ≡ b → b ≡ false
+    go true k = sym h ∙ lt-not-le y x k
+    go false k = refl

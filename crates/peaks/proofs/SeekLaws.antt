@@ -7,7 +7,7 @@ use Prim.Native.Nat.{ℕ, zero, suc, _+_, _-_, _*_, _≤_, _<_}
 use native.Mathlib.Nat.{eq-or-lt-of-le, not-suc-le-zero}
 use native.Mathlib.Omega.{arith}
 use lib.ListN.{length, getD}
-use lib.Ieee.{Float, nan, lt}
+use lib.Ieee.{Float, nan, lt, le}
 use Rattle.shapes.specs.Tests.{every}
 use Rattle.peaks.specs.Peak.{Scan, count, isPeak}
 use Rattle.peaks.specs.Steps.{runAt, Low, Right, Ahead, Bordered}
@@ -77,17 +77,17 @@ module _ (s : Scan) (x y r : ℕ) (ahead : Ahead s x y r) where
   v = getD (s .values) (y * s .width + x) nan
 
   pub run-whole : s .window ≤ r → Right s x y
-  run-whole h = subst (λ (n : ℕ). every n (λ i. lt (runAt (s .values) (y * s .width + x + 1) i) v) ≡ true) (let e : r ≡ s .window = omega (arith, ahead .most) in e) (ahead .all)
+  run-whole h = subst (λ (n : ℕ). every n (λ i. le (runAt (s .values) (y * s .width + x + 1) i) v) ≡ true) (let e : r ≡ s .window = omega (arith, ahead .most) in e) (ahead .all)
 
   pub run-short : s .window ≤ x → s .window ≤ y → r < s .window → false ≡ isPeak s x y
   run-short a b h =
-      not-highest s x y (sym (lost-right s x y a b (every-miss (λ i. lt (runAt (s .values) (y * s .width + x + 1) i) v) (s .window) r h (ahead .next h))))
+      not-highest s x y (sym (lost-right s x y a b (every-miss (λ i. le (runAt (s .values) (y * s .width + x + 1) i) v) (s .window) r h (ahead .next h))))
 
   in-run : s .window ≤ y → (k : ℕ) → s .window ≤ k → x < k → k < x + r + 1 → isPeak s k y ≡ false
   in-run b k a h l =
       sym (not-highest s k y (sym (lost-behind s k y a b x (k - x) (omega arith) (omega arith) (let m = ahead .most in omega arith)
-      (ap (λ (i : ℕ). lt (getD (s .values) i nan) v) (let e : y * s .width + k ≡ y * s .width + x + 1 + (k - x - 1) = omega arith in e)
-      ∙ every-at (λ i. lt (runAt (s .values) (y * s .width + x + 1) i) v) r (k - x - 1) (omega arith) (ahead .all)))))
+      (ap (λ (i : ℕ). le (getD (s .values) i nan) v) (let e : y * s .width + k ≡ y * s .width + x + 1 + (k - x - 1) = omega arith in e)
+      ∙ every-at (λ i. le (runAt (s .values) (y * s .width + x + 1) i) v) r (k - x - 1) (omega arith) (ahead .all)))))
 
 -- the columns between the borders lie in the response
 pub row-fits : {s : Scan} {floor : Float} {y start end : ℕ} → Bordered s floor y start end → (y * s .width + end ≤ length (s .values)) × (y * s .width + end ≤ 16777216) × (start ≤ 4096) × (end ≤ 4096)

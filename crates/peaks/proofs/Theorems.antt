@@ -1,7 +1,7 @@
 -- What holds of every peak of every response: the claims of specs/Claims.antt.
 use mathlib.Core.Path.{_≡_, refl, sym, ap, _∙_, subst}
 use mathlib.Core.Logic.{⊎-elim}
-use mathlib.Core.Bool.{Bool, true, false, _&&_, _||_, not, cond, false≢true}
+use mathlib.Core.Bool.{Bool, true, false, _&&_, _||_, cond, false≢true}
 use Prim.Native.Nat.{ℕ, _+_, _-_, _*_, _/_, _%_, _≤_, _<_}
 use native.Mathlib.Nat.{add-mul, suc-mul, mul-le-mul-right, zero-mul, mul-pos, eq-or-lt-of-le}
 use native.Mathlib.Omega.{arith}
@@ -11,7 +11,7 @@ use lib.Ieee.{Float, nan, inf, fin, up, down, below, lt}
 use lib.Ieee.Fits.{down-pos}
 use lib.Ieee.Scale.{finite}
 use borrow.Author.Tests.{ne-eqb, ltb-true, ltb-false, lt-ltb}
-use Rattle.floats.proofs.OrderLaws.{lt-trans, lt-asym}
+use Rattle.floats.proofs.OrderLaws.{lt-trans, lt-not-le}
 use Rattle.shapes.specs.Numbers.{plusZero}
 use Rattle.peaks.specs.Peak.{Scan, valueAt, floorOf, side, cells, middle, neighbour, beats, inside, highest, positives, isPeak}
 use Rattle.peaks.specs.Claims.{PeaksApart, AboveZero, AboveThreshold}
@@ -21,7 +21,7 @@ use Rattle.peaks.proofs.WindowLaws.{beats-before, beats-after, middle-i
 
 -- ---- the tests of a peak
 module _ (s : Scan) (x y : ℕ) (peak : isPeak s x y ≡ true) where
-  is-highest : highest s x y ≡ true
+  pub is-highest : highest s x y ≡ true
   unfolding isPeak
   is-highest = second-of (inside s x y && lt (floorOf s) (valueAt s x y)) (highest s x y) (first-of (inside s x y && lt (floorOf s) (valueAt s x y) && highest s x y) (leb (s .cluster) (positives s x y)) peak)
 
@@ -37,7 +37,7 @@ module _ (s : Scan) (x y : ℕ) (peak : isPeak s x y ≡ true) where
 
 -- ---- two peaks are apart
 -- the number of (a, b) in the window of (x, y)
-abbrev number : Scan → ℕ → ℕ → ℕ → ℕ → ℕ
+abbrev pub number : Scan → ℕ → ℕ → ℕ → ℕ → ℕ
 number s x y a b = (b + s .window - y) * side s + (a + s .window - x)
 
 module _ (s : Scan) (x y a b : ℕ) (left : x ≤ a + s .window) (right : a ≤ x + s .window) (high : y ≤ b + s .window) (low : b ≤ y + s .window) where
@@ -56,7 +56,7 @@ module _ (s : Scan) (x y a b : ℕ) (left : x ≤ a + s .window) (right : a ≤ 
       whole : (p q : ℕ) → q + side s ≤ p → q + (a + s .window - x) < p
       whole p q h = omega (arith, column-small)
 
-  number-value : neighbour s x y (number s x y a b) ≡ valueAt s a b
+  pub number-value : neighbour s x y (number s x y a b) ≡ valueAt s a b
   unfolding neighbour
   number-value =
       ap (λ (k : ℕ). valueAt s (x + k - s .window) (y + number s x y a b / side s - s .window)) number-column
@@ -64,7 +64,7 @@ module _ (s : Scan) (x y a b : ℕ) (left : x ≤ a + s .window) (right : a ≤ 
       ∙ ap (λ (k : ℕ). valueAt s k (y + (b + s .window - y) - s .window)) (let e : x + (a + s .window - x) - s .window ≡ a = omega arith in e)
       ∙ ap (λ (k : ℕ). valueAt s a k) (let e : y + (b + s .window - y) - s .window ≡ b = omega arith in e)
 
-  not-itself : (number s x y a b ≡ middle s → ⊥) → highest s x y ≡ true → beats s (number s x y a b) (valueAt s x y) (valueAt s a b) ≡ true
+  pub not-itself : (number s x y a b ≡ middle s → ⊥) → highest s x y ≡ true → beats s (number s x y a b) (valueAt s x y) (valueAt s a b) ≡ true
   unfolding highest
   not-itself e h =
       sym (ap (λ (w : Float). beats s (number s x y a b) (valueAt s x y) w) number-value)
@@ -76,7 +76,7 @@ module _ (s : Scan) (x y a b : ℕ) (left : x ≤ a + s .window) (right : a ≤ 
       other true q f g = absurd (false≢true (sym f))
 
   -- seen from the other pixel, this one lies as far on the other side of the middle
-  mirrored : number s x y a b + number s a b x y ≡ middle s + middle s
+  pub mirrored : number s x y a b + number s a b x y ≡ middle s + middle s
   mirrored =
       join ((b + s .window - y) * side s) ((y + s .window - b) * side s) (s .window * side s)
       (middle s) (sym (add-mul (b + s .window - y) (y + s .window - b) (side s)) ∙ ap (λ (k : ℕ). k * side s) (let e : b + s .window - y + (y + s .window - b) ≡ s .window + s .window = omega arith in e) ∙ add-mul (s .window) (s .window) (side s)) (middle-is s)
@@ -85,7 +85,7 @@ module _ (s : Scan) (x y a b : ℕ) (left : x ≤ a + s .window) (right : a ≤ 
       join p q r m e f = omega arith
 
   -- the middle one is the pixel itself
-  itself : number s x y a b ≡ middle s → (x ≡ a) × (y ≡ b)
+  pub itself : number s x y a b ≡ middle s → (x ≡ a) × (y ≡ b)
   itself e =
       let f : b + s .window - y ≡ s .window = sym number-row ∙ ap (λ (k : ℕ). k / side s) (e ∙ middle-is s) ∙ digits-div (s .window) (let h : s .window < side s = omega arith in h) in
       let g : a + s .window - x ≡ s .window = sym number-column ∙ ap (λ (k : ℕ). k % side s) (e ∙ middle-is s) ∙ digits-mod (s .window) (let h : s .window < side s = omega arith in h) in
@@ -93,7 +93,7 @@ module _ (s : Scan) (x y a b : ℕ) (left : x ≤ a + s .window) (right : a ≤ 
 
 -- of two values neither of two pixels beats the other's, one of them before the other
 never-both : (s : Scan) (j i : ℕ) (v w : Float) → j < middle s → middle s < i → beats s j v w ≡ true → beats s i w v ≡ true → ⊥
-never-both s j i v w h l e f = false≢true (sym (lt-asym w v (sym (beats-before s j v w h) ∙ e)) ∙ sym (beats-after s i w v l) ∙ f)
+never-both s j i v w h l e f = false≢true (sym (lt-not-le w v (sym (beats-before s j v w h) ∙ e)) ∙ sym (beats-after s i w v l) ∙ f)
 
 -- two peaks that lie in each other's window are one
 pub peaks-apart : (s : Scan) → PeaksApart s

@@ -5,14 +5,14 @@ use Prim.Native.Nat.{ℕ, suc, _+_, _-_, _*_, _/_, _%_, _≤_, _<_}
 use native.Mathlib.Nat.{add-mul, suc-mul, mul-le-mul, mul-le-mul-right, mul-add-div-right, mul-add-mod-self-right}
 use native.Mathlib.Omega.{arith}
 use lib.Arith.{digits-mod, digits-div}
-use lib.Dec.{eqb}
+use lib.Dec.{ltb, eqb}
 use lib.ListN.{getD}
-use lib.Ieee.{Float, nan, lt}
-use borrow.Author.Tests.{eq-eqb, ne-eqb}
-use Rattle.floats.proofs.OrderLaws.{lt-asym}
+use lib.Ieee.{Float, nan, lt, le}
+use borrow.Author.Tests.{lt-ltb, le-ltb, eq-eqb, ne-eqb}
+use Rattle.floats.proofs.OrderLaws.{lt-le, le-not-lt}
 use Rattle.shapes.specs.Numbers.{plusZero}
 use Rattle.shapes.specs.Tests.{every}
-use Rattle.peaks.specs.Peak.{Scan, valueAt, side, cells, middle, neighbour, count, beats, highest, positives}
+use Rattle.peaks.specs.Peak.{Scan, valueAt, side, cells, middle, neighbour, count, beatsAt, beats, highest, positives}
 use Rattle.peaks.specs.Steps.{runAt, blockAt}
 use Rattle.shapes.proofs.TestLaws.{every-cut, every-same, every-miss}
 use Rattle.peaks.proofs.CountLaws.{count-cut, count-same, count-most}
@@ -20,11 +20,20 @@ use Rattle.peaks.proofs.CountLaws.{count-cut, count-same, count-most}
 -- ---- the rule of the window, before and after the pixel
 pub beats-before : (s : Scan) (j : ℕ) (v w : Float) → j < middle s → beats s j v w ≡ lt w v
 unfolding beats
-beats-before s j v w h = refl
+beats-before s j v w h = ap (λ (earlier : Bool). beatsAt earlier v w) (lt-ltb j (middle s) h)
 
-pub beats-after : (s : Scan) (j : ℕ) (v w : Float) → middle s < j → beats s j v w ≡ lt w v
+pub beats-after : (s : Scan) (j : ℕ) (v w : Float) → middle s < j → beats s j v w ≡ le w v
 unfolding beats
-beats-after s j v w h = refl
+beats-after s j v w h = ap (λ (earlier : Bool). beatsAt earlier v w) (le-ltb j (middle s) (omega arith))
+
+-- a lower value is beaten on either side
+pub beats-lower : (s : Scan) (j : ℕ) (v w : Float) → lt w v ≡ true → beats s j v w ≡ true
+unfolding beats
+beats-lower s j v w h = go (ltb j (middle s))
+  where
+    go : (earlier : Bool) → beatsAt earlier v w ≡ true
+    go true = h
+    go false = lt-le w v h
 
 -- ---- indices
 -- row r and column c of the window, counted from its first pixel
@@ -143,10 +152,10 @@ module _ (s : Scan) (x y : ℕ) (low : s .window ≤ x) (high : s .window ≤ y)
       ap (λ (z : Bool). z || beats s j value (neighbour s x y j)) (ne-eqb j (middle s) (λ q. omega (arith, middle-is s)))
       ∙ beats-before s j value (neighbour s x y j) (omega (arith, middle-is s)) ∙ ap (λ (z : Float). lt z value) e
 
-  after : (j : ℕ) (w : Float) → rows + n < j → neighbour s x y j ≡ w → beaten j ≡ lt w value
+  after : (j : ℕ) (w : Float) → rows + n < j → neighbour s x y j ≡ w → beaten j ≡ le w value
   after j w h e =
       ap (λ (z : Bool). z || beats s j value (neighbour s x y j)) (ne-eqb j (middle s) (λ q. omega (arith, middle-is s)))
-      ∙ beats-after s j value (neighbour s x y j) (omega (arith, middle-is s)) ∙ ap (λ (z : Float). lt z value) e
+      ∙ beats-after s j value (neighbour s x y j) (omega (arith, middle-is s)) ∙ ap (λ (z : Float). le z value) e
 
   itself : every 1 (λ j. beaten (rows + (n + j))) ≡ true
   unfolding every
@@ -159,10 +168,10 @@ module _ (s : Scan) (x y : ℕ) (low : s .window ≤ x) (high : s .window ≤ y)
   beatsLeft = every n (λ i. lt (runAt (s .values) (at - n) i) value)
 
   abbrev beatsRight : Bool
-  beatsRight = every n (λ i. lt (runAt (s .values) (at + 1) i) value)
+  beatsRight = every n (λ i. le (runAt (s .values) (at + 1) i) value)
 
   abbrev beatsBelow : Bool
-  beatsBelow = every rows (λ j. lt (blockAt (s .values) (at + s .width - n) (s .width) (side s) j) value)
+  beatsBelow = every rows (λ j. le (blockAt (s .values) (at + s .width - n) (s .width) (side s) j) value)
 
   highest-is : highest s x y ≡ (beatsAbove && (beatsLeft && (beatsRight && beatsBelow)))
   unfolding highest valueAt
@@ -177,9 +186,9 @@ module _ (s : Scan) (x y : ℕ) (low : s .window ≤ x) (high : s .window ≤ y)
       ∙ ap (λ (z : Bool). beatsAbove && (z && (every n (λ j. beaten (rows + (n + (1 + j)))) && every rows (λ j. beaten (rows + (n + (1 + (n + j))))))))
       (every-same n (λ j. beaten (rows + j)) (λ i. lt (runAt (s .values) (at - n) i) value) (λ i h. before (rows + i) (runAt (s .values) (at - n) i) (omega arith) (left i h)))
       ∙ ap (λ (z : Bool). beatsAbove && (beatsLeft && (z && every rows (λ j. beaten (rows + (n + (1 + (n + j))))))))
-      (every-same n (λ j. beaten (rows + (n + (1 + j)))) (λ i. lt (runAt (s .values) (at + 1) i) value) (λ i h. after (rows + (n + (1 + i))) (runAt (s .values) (at + 1) i) (omega arith) (right i h)))
+      (every-same n (λ j. beaten (rows + (n + (1 + j)))) (λ i. le (runAt (s .values) (at + 1) i) value) (λ i h. after (rows + (n + (1 + i))) (runAt (s .values) (at + 1) i) (omega arith) (right i h)))
       ∙ ap (λ (z : Bool). beatsAbove && (beatsLeft && (beatsRight && z)))
-      (every-same rows (λ j. beaten (rows + (n + (1 + (n + j))))) (λ j. lt (blockAt (s .values) (at + s .width - n) (s .width) (side s) j) value) (λ j h. after (rows + (n + (1 + (n + j)))) (blockAt (s .values) (at + s .width - n) (s .width) (side s) j) (omega arith) (below j)))
+      (every-same rows (λ j. beaten (rows + (n + (1 + (n + j))))) (λ j. le (blockAt (s .values) (at + s .width - n) (s .width) (side s) j) value) (λ j h. after (rows + (n + (1 + (n + j)))) (blockAt (s .values) (at + s .width - n) (s .width) (side s) j) (omega arith) (below j)))
 
   pub lost-right : beatsRight ≡ false → false ≡ highest s x y
   lost-right e = right-lost beatsAbove beatsLeft beatsRight beatsBelow e ∙ sym highest-is
@@ -193,11 +202,11 @@ module _ (s : Scan) (x y : ℕ) (low : s .window ≤ x) (high : s .window ≤ y)
   pub won-by-below : beatsRight ≡ true → beatsLeft ≡ true → beatsAbove ≡ true → beatsBelow ≡ highest s x y
   won-by-below e f g = by-below beatsAbove beatsLeft beatsRight beatsBelow e f g ∙ sym highest-is
 
-  -- a pixel loses to one on its left, within the window, that beats it
-  pub lost-behind : (k d : ℕ) → k + d ≡ x → 0 < d → d ≤ n → lt value (getD (s .values) (y * s .width + k) nan) ≡ true → false ≡ highest s x y
+  -- a pixel loses to one on its left, within the window, that it does not exceed
+  pub lost-behind : (k d : ℕ) → k + d ≡ x → 0 < d → d ≤ n → le value (getD (s .values) (y * s .width + k) nan) ≡ true → false ≡ highest s x y
   lost-behind k d e h l b =
       lost-left (every-miss (λ i. lt (runAt (s .values) (at - n) i) value) n (n - d) (omega arith)
-      (ap (λ (i : ℕ). lt (getD (s .values) i nan) value) (let q : at - n + (n - d) ≡ y * s .width + k = omega arith in q) ∙ lt-asym value (getD (s .values) (y * s .width + k) nan) b))
+      (ap (λ (i : ℕ). lt (getD (s .values) i nan) value) (let q : at - n + (n - d) ≡ y * s .width + k = omega arith in q) ∙ le-not-lt value (getD (s .values) (y * s .width + k) nan) b))
 
   -- ---- the positive values of the window are those of the four pieces
   abbrev counted : ℕ → Bool

@@ -1,10 +1,11 @@
 -- The rule by which a pixel of a response is a peak: it is inside the border, its value exceeds max(threshold, 0), it beats every other value of its
--- square window, and enough of those are positive.
+-- square window, and enough of those are positive. A value beats an earlier one in row order where it is greater, a later one where it is at least equal: so of
+-- equal values the first can be a peak. A NaN on either side is neither.
 use mathlib.Core.Bool.{Bool, true, _&&_, _||_, not, cond}
 use mathlib.Core.List.{List}
 use Prim.Native.Nat.{ℕ, zero, suc, _+_, _-_, _*_, _/_, _%_}
 use lib.Dec.{leb, ltb, eqb}
-use lib.Ieee.{Float, lt}
+use lib.Ieee.{Float, lt, le}
 use Rattle.shapes.specs.Numbers.{plusZero, entry}
 use Rattle.shapes.specs.Tests.{every}
 
@@ -52,9 +53,13 @@ unfoldable pub count : ℕ → (ℕ → Bool) → ℕ
 count zero p = 0
 count (suc n) p = count n p + cond (p n) 1 0
 
--- the value v beats the value w of the window's pixel j: strictly, wherever j lies
+-- v beats w: strictly where w comes earlier
+abbrev pub beatsAt : Bool → Float → Float → Bool
+beatsAt earlier v w = cond earlier (lt w v) (le w v)
+
+-- the value v of a pixel beats the value w of its window's pixel j, which comes earlier where j is before the middle one
 unfoldable pub beats : Scan → ℕ → Float → Float → Bool
-beats s j v w = lt w v
+beats s j v w = beatsAt (ltb j (middle s)) v w
 
 unfoldable pub highest : Scan → ℕ → ℕ → Bool
 unfolding every beats neighbour

@@ -11,7 +11,7 @@ use Rattle.refusals.specs.declared.Refusal.the-variants.{TooMany}
 use Rattle.peaks.specs.declared.Peaks.{Peaks}
 use Rattle.peaks.specs.declared.Rule.{Rule}
 use Rattle.shapes.specs.Tests.{every}
-use Rattle.peaks.specs.Peak.{Scan, border, floorOf, inside, isPeak}
+use Rattle.peaks.specs.Peak.{Scan, border, floorOf, inside, beatsAt, isPeak}
 use Rattle.peaks.specs.Call.{chosen, peakAt, peaksOf, recordsOf, Way, refused, found, answerOf, outAfter}
 
 -- a response and the rule by which it is scanned
@@ -48,11 +48,11 @@ blockAt values start width side j = entry values (start + j / side * width + j %
 abbrev pub BlockFits : List Float → ℕ → ℕ → ℕ → ℕ → Type 0
 BlockFits values start width side n = (r : ℕ) → r < n → start + r * width + side ≤ length values
 
--- v beats r of the n values from `start` on, and the next is one that it does not
+-- v beats r of the n later values from `start` on, and the next is one that it does not
 pub record Beaten (values : List Float) (start n : ℕ) (v : Float) (r : ℕ) : Type 0 where
   pub most : r ≤ n
-  pub all : every r (λ i. lt (runAt values start i) v) ≡ true
-  pub next : r < n → lt (runAt values start r) v ≡ false
+  pub all : every r (λ i. beatsAt false v (runAt values start i)) ≡ true
+  pub next : r < n → beatsAt false v (runAt values start r) ≡ false
 
 -- none of the values from x up to r, counted from a base, exceeds the floor
 pub record Low (values : List Float) (floor : Float) (base x r : ℕ) : Type 0 where
@@ -61,7 +61,7 @@ pub record Low (values : List Float) (floor : Float) (base x r : ℕ) : Type 0 w
 
 -- the pixel (x, y) beats all on its right
 abbrev pub Right : Scan → ℕ → ℕ → Type 0
-Right s x y = every (s .window) (λ i. lt (runAt (s .values) (y * s .width + x + 1) i) (entry (s .values) (y * s .width + x))) ≡ true
+Right s x y = every (s .window) (λ i. beatsAt false (entry (s .values) (y * s .width + x)) (runAt (s .values) (y * s .width + x + 1) i)) ≡ true
 
 -- it beats the first r values on its right, of as many as the window has
 abbrev pub Ahead : Scan → ℕ → ℕ → ℕ → Type 0

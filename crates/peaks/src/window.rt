@@ -8,24 +8,24 @@ ghost use lib.Dec.{leb};
 ghost use lib.ListN.{length};
 ghost use lib.Ieee.{lt};
 ghost use Rattle.shapes.specs.Tests.{every};
-ghost use Rattle.peaks.specs.Peak.{count, highest, positives};
+ghost use Rattle.peaks.specs.Peak.{beatsAt, count, highest, positives};
 ghost use Rattle.peaks.specs.Steps.{scanOf, runAt, blockAt, BlockFits, Beaten, Framed, Right};
 
-// Whether the pixel's value v beats another value w of its window.
-fn beats(v: f32, w: f32) -> bool
-    ensures { λ r. ⌜ r ≡ lt w v ⌝ }
+// Whether the pixel's value v beats another value w of its window: an earlier one in row order strictly.
+fn beats(v: f32, w: f32, earlier: bool) -> bool
+    ensures { λ r. ⌜ r ≡ beatsAt earlier v w ⌝ }
 {
-    w < v
+    if earlier { w < v } else { w <= v }
 }
 
-// Whether v beats the n values from `start` on.
-fn beats_run(response: &[f32], start: usize, n: usize, v: f32) -> bool
+// Whether v beats the n values from `start` on, all of them earlier ones or all later.
+fn beats_run(response: &[f32], start: usize, n: usize, v: f32, earlier: bool) -> bool
     requires { ⌜ start + n ≤ length (now response) ⌝ }
-    ensures { λ r. ⌜ r ≡ every n (λ i. lt (runAt (now (response .entry)) start i) v) ⌝ }
+    ensures { λ r. ⌜ r ≡ every n (λ i. beatsAt earlier v (runAt (now (response .entry)) start i)) ⌝ }
 {
     let mut i = 0;
     while i < n {
-        if !beats(v, response[start + i]) {
+        if !beats(v, response[start + i], earlier) {
             return false;
         }
         i += 1;
@@ -34,13 +34,21 @@ fn beats_run(response: &[f32], start: usize, n: usize, v: f32) -> bool
 }
 
 // Whether v beats n rows of `side` values each, `width` apart, the first of them from `start` on.
-fn beats_rows(response: &[f32], start: usize, width: usize, side: usize, n: usize, v: f32) -> bool
+fn beats_rows(
+    response: &[f32],
+    start: usize,
+    width: usize,
+    side: usize,
+    n: usize,
+    v: f32,
+    earlier: bool,
+) -> bool
     requires { ⌜ BlockFits (now response) start width side n ⌝ ∗ ⌜ (1 ≤ side) × (side ≤ 17) × (n ≤ 17) ⌝ }
-    ensures { λ r. ⌜ r ≡ every (n * side) (λ j. lt (blockAt (now (response .entry)) start width side j) v) ⌝ }
+    ensures { λ r. ⌜ r ≡ every (n * side) (λ j. beatsAt earlier v (blockAt (now (response .entry)) start width side j)) ⌝ }
 {
     let mut r = 0;
     while r < n {
-        if !beats_run(response, start + r * width, side, v) {
+        if !beats_run(response, start + r * width, side, v, earlier) {
             return false;
         }
         r += 1;
@@ -48,14 +56,14 @@ fn beats_rows(response: &[f32], start: usize, width: usize, side: usize, n: usiz
     true
 }
 
-// How many of the n values from `start` on v beats, one after the other.
+// How many of the n later values from `start` on v beats, one after the other.
 pub fn run_ahead(response: &[f32], start: usize, n: usize, v: f32) -> usize
     requires { ⌜ start + n ≤ length (now response) ⌝ }
     ensures { λ r. ⌜ Beaten (now (response .entry)) start n v r ⌝ }
 {
     let mut i = 0;
     while i < n {
-        if !beats(v, response[start + i]) {
+        if !beats(v, response[start + i], false) {
             return i;
         }
         i += 1;
@@ -72,13 +80,13 @@ pub fn is_highest(response: &[f32], rule: Rule, x: usize, y: usize) -> bool
     let n = rule.window;
     let at = y * width + x;
     let v = response[at];
-    if !beats_run(response, at - n, n, v) {
+    if !beats_run(response, at - n, n, v, true) {
         return false;
     }
-    if !beats_rows(response, at - n * width - n, width, 2 * n + 1, n, v) {
+    if !beats_rows(response, at - n * width - n, width, 2 * n + 1, n, v, true) {
         return false;
     }
-    beats_rows(response, at + width - n, width, 2 * n + 1, n, v)
+    beats_rows(response, at + width - n, width, 2 * n + 1, n, v, false)
 }
 
 // 1 for a value above the floor.

@@ -1,8 +1,9 @@
--- What joins several crates: the marked examples, two refined seeds as closed cases, the theorem from image to peak, and the whole road.
+-- What joins several crates: the marked examples, two refined seeds as closed cases, the theorems from image to peak, and the whole road.
 pub mod Marked
 pub mod Seeds
 pub mod PixelLaws
 pub mod Road
+pub mod Halfway
 pub mod RecordLaws
 pub mod CallLaws
 pub mod WholeRoad

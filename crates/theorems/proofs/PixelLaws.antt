@@ -1,28 +1,30 @@
 -- Pixels about which the ring fits: which element of the whole image's response is theirs, what demand 3 says of the value that a scan reads there, and that
--- those inside a scan's border are such.
-use mathlib.Core.Path.{_≡_, sym, ap, _∙_, subst, subst₂}
+-- those inside a scan's border are such; of these, what beats its window.
+use mathlib.Core.Path.{_≡_, refl, sym, ap, _∙_, subst, subst₂}
 use mathlib.Core.Bool.{Bool, true, false, _&&_, _||_, cond}
 use mathlib.Core.List.{List}
-use Prim.Native.Nat.{ℕ, _+_, _-_, _*_, _/_, _%_, _≤_, _<_}
-use native.Mathlib.Nat.{zero-add, sub-zero, mul-comm}
+use Prim.Native.Nat.{ℕ, zero, suc, _+_, _-_, _*_, _/_, _%_, _≤_, _<_}
+use native.Mathlib.Nat.{zero-add, sub-zero, mul-comm, mod-lt, div-lt-iff-lt-mul}
 use native.Mathlib.Omega.{arith}
 use lib.Arith.{digits-div, digits-mod, digits-lt}
-use lib.Dec.{T, leb, ltb}
+use lib.Dec.{T, leb, ltb, eqb}
 use lib.IntN.{ℤ}
 use lib.ListN.{length, getD}
-use lib.Ieee.{Float, nan}
-use borrow.Author.Tests.{le-leb, lt-leb, lt-ltb, leb-true, ltb-true}
+use lib.Ieee.{Float, nan, lt}
+use borrow.Author.Tests.{le-leb, lt-leb, lt-ltb, leb-true, ltb-true, eqb-false}
 use Rattle.shapes.proofs.ListLaws.{getD-inside}
 use Rattle.shapes.proofs.TestLaws.{both, first-of, second-of}
 use Rattle.shapes.specs.Numbers.{plusZero}
+use Rattle.shapes.specs.Tests.{every}
 use Rattle.imageview.specs.Image.{Image}
 use Rattle.pixel_response.specs.Samples.{gain, loss}
 use Rattle.pixel_response.specs.Near.{Near}
 use Rattle.response.specs.Region.{isEmpty, widthOf, heightOf, ringFits, ringSample, crossSample}
 use Rattle.response.specs.Demand.{columnAt, rowAt, fitsAt, gainAt, lossAt, DemandThree}
-use Rattle.peaks.specs.Peak.{Scan, valueAt, border, inside}
+use Rattle.peaks.specs.Peak.{Scan, valueAt, border, inside, side, cells, middle, neighbour, beats, highest}
 use Rattle.peaks.proofs.CallLaws.{scanFor}
-use Rattle.theorems.specs.Claims.{whole}
+use Rattle.peaks.proofs.WindowLaws.{beats-lower}
+use Rattle.theorems.specs.Claims.{whole, Exceeds}
 
 abbrev pub index : Image → ℕ → ℕ → ℕ
 index img a b = b * img .width + a
@@ -121,3 +123,54 @@ framed s x y here =
 pub framed-clear : {img : Image} {radius : ℕ} {values : List Float} {window refine : ℕ} {threshold : Float} {cluster x y : ℕ}
     → Framed (scan img radius values window refine threshold cluster) x y → Clear img radius x y
 framed-clear f = record { left = omega (arith, f .left); right = omega (arith, f .right); above = omega (arith, f .above); below = omega (arith, f .below) }
+
+-- ---- the window of a pixel inside the border: what has a smaller N is beaten
+module _ {img : Image} {ring : List ℤ} {radius : ℕ} {values : List Float} (window refine cluster : ℕ) (threshold : Float) (d : DemandThree img ring radius (whole img) values) (size : length values ≡ img .height * img .width) (x y : ℕ) where
+  abbrev around : Scan
+  around = scan img radius values window refine threshold cluster
+
+  -- the pixel number j of the window
+  abbrev column : ℕ → ℕ
+  column j = x + j % side around - window
+
+  abbrev row : ℕ → ℕ
+  row j = y + j / side around - window
+
+  lower : {a b : ℕ} → Clear img radius x y → Clear img radius a b → Exceeds img ring x y a b → lt (valueAt around a b) (valueAt around x y) ≡ true
+  lower {a} {b} c e p =
+      ap (λ (v : Float). lt v (valueAt around x y)) (value-is img radius values window refine threshold cluster size e)
+      ∙ ap (λ (v : Float). lt (getD values (index img a b) plusZero) v) (value-is img radius values window refine threshold cluster size c)
+      ∙ d .orders (index img a b) (index img x y) (fits e) (fits c)
+      (by (sym (gain-is e ring)) (sym (loss-is c ring)) (sym (gain-is c ring)) (sym (loss-is e ring)) p)
+    where
+      by : {g l g' l' g2 l2 g2' l2' : ℕ} → g ≡ g2 → l ≡ l2 → g' ≡ g2' → l' ≡ l2' → g + l < g' + l' → g2 + l2 < g2' + l2'
+      by {g} {l} {g'} {l'} {g2} {l2} {g2'} {l2'} p q r s h = omega (arith, p, q, r, s, h)
+
+  module _ (here : inside around x y ≡ true) (j : ℕ) (h : j < cells around) where
+    window-clear : Clear img radius (column j) (row j)
+    window-clear =
+        let f = framed around x y here in
+        let c = reaches x (j % side around) radius window refine (img .width) (f .left) (f .right) (mod-lt j (omega arith)) in
+        let r = reaches y (j / side around) radius window refine (img .height) (f .above) (f .below) (div-lt-iff-lt-mul {k = side around} {x = j} {y = side around} (omega arith) .1 h) in
+        record { left = c .0; right = c .1; above = r .0; below = r .1 }
+      where
+        reaches : (x k r w f n : ℕ) → r + w + f ≤ x → x + (r + w + f) < n → k < 2 * w + 1 → (r ≤ x + k - w) × (x + k - w + r < n)
+        reaches x k r w f n h l m = (omega arith, omega arith)
+
+    pub beats-exceeded : Exceeds img ring x y (column j) (row j) → beats around j (valueAt around x y) (neighbour around x y j) ≡ true
+    unfolding neighbour
+    beats-exceeded p = beats-lower around j (valueAt around x y) (valueAt around (column j) (row j)) (lower (framed-clear (framed around x y here)) window-clear p)
+
+-- ---- a pixel that beats every other of its window
+every-all : (n : ℕ) (p : ℕ → Bool) → ((j : ℕ) → j < n → p j ≡ true) → every n p ≡ true
+unfolding every
+every-all zero p h = refl
+every-all (suc n) p h = both (every-all n p (λ j l. h j (omega arith))) (h n (omega arith))
+
+pub highest-by : (s : Scan) (x y : ℕ) → ((j : ℕ) → j < cells s → (j ≡ middle s → ⊥) → beats s j (valueAt s x y) (neighbour s x y j) ≡ true) → highest s x y ≡ true
+unfolding highest
+highest-by s x y most = every-all (cells s) (λ j. eqb j (middle s) || beats s j (valueAt s x y) (neighbour s x y j)) (λ j h. by j h (eqb j (middle s)) refl)
+  where
+    by : (j : ℕ) → j < cells s → (v : Bool) → eqb j (middle s) ≡ v → (v || beats s j (valueAt s x y) (neighbour s x y j)) ≡ true
+    by j h true e = refl
+    by j h false e = most j h (eqb-false j (middle s) e)

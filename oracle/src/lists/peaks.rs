@@ -1,7 +1,7 @@
-//! The peak scan by document 01, by W-201, and as the Rust does it.
+//! The peak scan by document 01, and as the Rust does it.
 
 use super::*;
-use crate::rules::{self, WindowRule};
+use crate::rules;
 
 struct Call {
     width: u64,
@@ -24,17 +24,12 @@ fn write(list: &mut List, c: &Call) {
         .int(s.refiner_radius)
         .word(s.min_cluster_size)
         .count(c.out);
-    for (name, rule) in [
-        ("document 01", WindowRule::Strict),
-        ("W-201", WindowRule::FirstOfEqual),
-    ] {
-        let (decision, peaks) = calls::peaks(c.width, c.height, &c.response, s, c.out, rule);
-        put_decision(&mut case, decision);
-        put_triples(&mut case, &peaks);
-        list.tally(format!("{name}: {}", number_name(decision.number)));
-        list.tally(format!("{name}: {}", decision.decided.name()));
-        list.tally_many(format!("{name}: peaks"), peaks.len());
-    }
+    let (decision, peaks) = calls::peaks(c.width, c.height, &c.response, s, c.out);
+    put_decision(&mut case, decision);
+    put_triples(&mut case, &peaks);
+    list.tally(number_name(decision.number));
+    list.tally(decision.decided.name());
+    list.tally_many("peaks", peaks.len());
     let (w, h) = (c.width as usize, c.height as usize);
     match calls::peaks_of_rust(w, h, &c.response, s) {
         None => {
@@ -80,6 +75,28 @@ fn call(width: u64, height: u64, response: Vec<f32>, settings: PeakSettings) -> 
     }
 }
 
+/// An equal value at each place of the window, outside the border too: an
+/// earlier one blocks, a later one does not.
+fn equal_neighbours(list: &mut List) {
+    for at in [16, 32] {
+        for place in [
+            at - 8,
+            at - 7,
+            at - 6,
+            at - 1,
+            at + 1,
+            at + 6,
+            at + 7,
+            at + 8,
+        ] {
+            let mut response = vec![0.0; 49];
+            response[at] = 5.0;
+            response[place] = 5.0;
+            write(list, &call(7, 7, response, base()));
+        }
+    }
+}
+
 fn borders(list: &mut List) {
     let nan = f32::NAN;
     let inf = f32::INFINITY;
@@ -92,6 +109,11 @@ fn borders(list: &mut List) {
         [5.0, 0.0, 0.0, 0.0, 5.0, 0.0, 0.0, 0.0, 5.0],
         [0.0, 0.0, 5.0, 0.0, 5.0, 0.0, 5.0, 0.0, 0.0],
         [5.0; 9],
+        [0.0, 0.0, 0.0, 5.0, 5.0, 6.0, 0.0, 0.0, 0.0],
+        [0.0, 0.0, 0.0, 6.0, 5.0, 5.0, 0.0, 0.0, 0.0],
+        [0.0, 0.0, 0.0, 5.0, 6.0, 5.0, 0.0, 0.0, 0.0],
+        [0.0, 0.0, 0.0, 5.0, 5.0, nan, 0.0, 0.0, 0.0],
+        [nan, 0.0, 0.0, 0.0, 5.0, 5.0, 0.0, 0.0, 0.0],
         [0.0, 0.0, 0.0, 0.0, nan, 0.0, 0.0, 0.0, 0.0],
         [0.0, 0.0, 0.0, nan, 5.0, 0.0, 0.0, 0.0, 0.0],
         [0.0, 0.0, 0.0, 0.0, 5.0, nan, 0.0, 0.0, 0.0],
@@ -114,6 +136,7 @@ fn borders(list: &mut List) {
             write(list, &call(7, 7, middle(values), s));
         }
     }
+    equal_neighbours(list);
     // The threshold: a tie is no peak, and below zero counts as zero.
     let one = middle([0.0, 0.0, 0.0, 0.0, 5.0, 1.0, 0.0, 0.0, 0.0]);
     for threshold in [

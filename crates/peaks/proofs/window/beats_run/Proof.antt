@@ -3,10 +3,10 @@ use mathlib.Core.Path.{_≡_, sym, ap, _∙_}
 use mathlib.Core.Bool.{true}
 use Prim.Native.Nat.{ℕ, _-_, _≤_}
 use native.Mathlib.Omega.{arith}
-use lib.Ieee.{lt}
 use borrow.Author.Needs.{needs}
 use borrow.Author.Tests.{not-true, not-false}
 use Rattle.shapes.specs.Tests.{every}
+use Rattle.peaks.specs.Peak.{beatsAt}
 use Rattle.peaks.specs.Steps.{runAt}
 use Rattle.shapes.proofs.TestLaws.{every-none, every-more, every-miss, both}
 use Rattle.shapes.proofs.TurnLaws.{ended}
@@ -14,13 +14,13 @@ use Rattle.peaks.proofs.window.beats_run.Statement.{statement}
 use Rattle.peaks.proofs.window.beats_run.Tie as tie
 
 abbrev Inv-loop : tie.InvT-loop
-Inv-loop response start n v i₀ i = (i ≤ n) × (every i (λ k. lt (runAt response start k) v) ≡ true)
+Inv-loop response start n v earlier i₀ i = (i ≤ n) × (every i (λ k. beatsAt earlier v (runAt response start k)) ≡ true)
 
 abbrev μ-loop : tie.MeasureT-loop
-μ-loop response start n v i₀ i = n - i
+μ-loop response start n v earlier i₀ i = n - i
 
 loop-holds : tie.Need-loop-holds Inv-loop μ-loop
-loop-holds c = let a = c .before .args in (omega arith, every-none (λ k. lt (runAt (a .response .now) (a .start) k) (a .v)))
+loop-holds c = let a = c .before .args in (omega arith, every-none (λ k. beatsAt (a .earlier) (a .v) (runAt (a .response .now) (a .start) k)))
 
 add-beats : tie.Need-add-beats Inv-loop μ-loop
 add-beats c = omega arith
@@ -38,7 +38,7 @@ returns : tie.Need-returns Inv-loop μ-loop
 returns c =
     let l = c .before .before .before .before in
     let a = l .before .before .args in
-    sym (every-miss (λ k. lt (runAt (a .response .now) (a .start) k) (a .v)) (a .n) (l .loop .i) (c .before .before .before .loop-test .taken) (sym (c .before .beats .ensures) ∙ not-true (c .before .beats .result) (c .if1 .taken)))
+    sym (every-miss (λ k. beatsAt (a .earlier) (a .v) (runAt (a .response .now) (a .start) k)) (a .n) (l .loop .i) (c .before .before .before .loop-test .taken) (sym (c .before .beats .ensures) ∙ not-true (c .before .beats .result) (c .if1 .taken)))
 
 add-i : tie.Need-add-i Inv-loop μ-loop
 add-i c = omega arith
@@ -50,13 +50,13 @@ loop-again : tie.Need-loop-again Inv-loop μ-loop
 loop-again c =
     let l = c .before .before .before .before in
     let a = l .before .before .args in
-    (omega arith, every-more (λ k. lt (runAt (a .response .now) (a .start) k) (a .v)) (l .loop .i) ∙ both (l .loop .inv .1) (sym (c .before .beats .ensures) ∙ not-false (c .before .beats .result) (c .if1 .left)))
+    (omega arith, every-more (λ k. beatsAt (a .earlier) (a .v) (runAt (a .response .now) (a .start) k)) (l .loop .i) ∙ both (l .loop .inv .1) (sym (c .before .beats .ensures) ∙ not-false (c .before .beats .result) (c .if1 .left)))
 
 returns-2 : tie.Need-returns-2 Inv-loop μ-loop
 returns-2 c =
     let l = c .before .loop in
     let a = c .before .before .before .args in
-    sym (l .inv .1) ∙ ap (λ (m : ℕ). every m (λ k. lt (runAt (a .response .now) (a .start) k) (a .v))) (ended (l .inv .0) (c .loop-test .left))
+    sym (l .inv .1) ∙ ap (λ (m : ℕ). every m (λ k. beatsAt (a .earlier) (a .v) (runAt (a .response .now) (a .start) k))) (ended (l .inv .0) (c .loop-test .left))
 
 pub beats-run-spec : {M : Type 1} → statement M
 beats-run-spec =

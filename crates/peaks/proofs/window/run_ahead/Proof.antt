@@ -3,7 +3,7 @@ use mathlib.Core.Path.{_≡_, sym, ap, _∙_}
 use mathlib.Core.Bool.{true}
 use Prim.Native.Nat.{ℕ, _-_, _≤_}
 use native.Mathlib.Omega.{arith}
-use lib.Ieee.{lt}
+use lib.Ieee.{le}
 use borrow.Author.Needs.{needs}
 use borrow.Author.Tests.{not-true, not-false}
 use Rattle.shapes.specs.Tests.{every}
@@ -14,13 +14,13 @@ use Rattle.peaks.proofs.window.run_ahead.Statement.{statement}
 use Rattle.peaks.proofs.window.run_ahead.Tie as tie
 
 abbrev Inv-loop : tie.InvT-loop
-Inv-loop response start n v i₀ i = (i ≤ n) × (every i (λ k. lt (runAt response start k) v) ≡ true)
+Inv-loop response start n v i₀ i = (i ≤ n) × (every i (λ k. le (runAt response start k) v) ≡ true)
 
 abbrev μ-loop : tie.MeasureT-loop
 μ-loop response start n v i₀ i = n - i
 
 loop-holds : tie.Need-loop-holds Inv-loop μ-loop
-loop-holds c = let a = c .before .args in (omega arith, every-none (λ k. lt (runAt (a .response .now) (a .start) k) (a .v)))
+loop-holds c = let a = c .before .args in (omega arith, every-none (λ k. le (runAt (a .response .now) (a .start) k) (a .v)))
 
 add-beats : tie.Need-add-beats Inv-loop μ-loop
 add-beats c = omega arith
@@ -49,7 +49,7 @@ loop-again : tie.Need-loop-again Inv-loop μ-loop
 loop-again c =
     let l = c .before .before .before .before .loop in
     let a = c .before .before .before .before .before .before .args in
-    (omega arith, every-more (λ k. lt (runAt (a .response .now) (a .start) k) (a .v)) (l .i) ∙ both (l .inv .1) (sym (c .before .beats .ensures) ∙ not-false (c .before .beats .result) (c .if1 .left)))
+    (omega arith, every-more (λ k. le (runAt (a .response .now) (a .start) k) (a .v)) (l .i) ∙ both (l .inv .1) (sym (c .before .beats .ensures) ∙ not-false (c .before .beats .result) (c .if1 .left)))
 
 returns-2 : tie.Need-returns-2 Inv-loop μ-loop
 returns-2 c =
@@ -57,7 +57,7 @@ returns-2 c =
     let a = c .before .before .before .args in
     record {
       most = omega arith;
-      all = sym (ap (λ (m : ℕ). every m (λ k. lt (runAt (a .response .now) (a .start) k) (a .v))) (ended (l .inv .0) (c .loop-test .left))) ∙ l .inv .1;
+      all = sym (ap (λ (m : ℕ). every m (λ k. le (runAt (a .response .now) (a .start) k) (a .v))) (ended (l .inv .0) (c .loop-test .left))) ∙ l .inv .1;
       next = λ h. absurd (let z : ⊥ = omega arith in z);
     }
 
