@@ -2,7 +2,7 @@
  * to the squares of a board.
  *
  * Link with libchess_corners.a. Every call takes any numbers and any contents of its buffers, ends, and returns
- * a number: 0 done, 1 to 3 a seed's status, from 10 up a refusal. A refusal writes nothing, neither to a buffer
+ * a number: 0 done, 1 to 4 a seed's status, from 10 up a refusal. A refusal writes nothing, neither to a buffer
  * nor to a further answer, with one exception: 33 and 34 write the place at fault. A call that is done decides every
  * element of what it may write; which elements stay as they were is said with each call. Nothing is kept after a
  * call, nothing is allocated, nothing is called back; calls on separate buffers may run at the same time.
@@ -20,6 +20,7 @@
  *    0 Accepted        1 Rejected: the first fit lies outside the box about the seed
  *    2 OutOfBounds: the patch at the rounded seed leaves the image
  *    3 IllConditioned: no fit operator (radius 0), or the first fit is refused
+ *    4 BadSeed: x or y of the seed is NaN or infinite
  *   10 BadImage: width or height outside 1..4096, or a count that is not width times height
  *   11 BadRadius: refiner radius above 7, ring radius outside 1..10, window radius outside 1..8
  *   12 BadLimit: a float setting that is not finite or below zero (the peak threshold may be below zero)
@@ -51,6 +52,7 @@ enum chess_corners_number {
     CHESS_CORNERS_REJECTED = 1,
     CHESS_CORNERS_OUT_OF_BOUNDS = 2,
     CHESS_CORNERS_ILL_CONDITIONED = 3,
+    CHESS_CORNERS_BAD_SEED = 4,
     CHESS_CORNERS_BAD_IMAGE = 10,
     CHESS_CORNERS_BAD_RADIUS = 11,
     CHESS_CORNERS_BAD_LIMIT = 12,
@@ -93,10 +95,10 @@ uint32_t chess_corners_peaks(const float *response, size_t response_len, size_t 
 uint32_t chess_corners_fit_operator(size_t radius, float columns[1125], float overlap[225]);
 
 /* Refines one seed. wanted: 0, or not 0 for a covariance.
- * 0 to 3 write place: x, y and score (1 to 3: the seed's own x and y; the score is 0.0 for 2 and for radius 0, else
- * the determinant of the first fit). 0 alone writes state: converged (0 or 1), tries (0 to 64), and whether there
+ * 0 to 4 write place: x, y and score (1 to 4: the seed's own x and y, bit for bit; the score is 0.0 for 2, for 4 and for
+ * radius 0, else the determinant of the first fit). 0 alone writes state: converged (0 or 1), tries (0 to 64), and whether there
  * is a covariance (0 or 1), and where there is one covariance: xx, xy and yy for unit noise.
- * Returns 0, 10, 11, 12, 2, 3, 1. */
+ * Returns 0, 10, 11, 12, 4, 2, 3, 1. */
 uint32_t chess_corners_refine(const uint8_t *img, size_t img_len, size_t width, size_t height,
                               size_t radius, float det_margin, float max_offset, float min_abs_det,
                               float x, float y, uint32_t wanted,
@@ -104,7 +106,7 @@ uint32_t chess_corners_refine(const uint8_t *img, size_t img_len, size_t width, 
 
 /* The same with an operator that was built before, so that many seeds share it. With the operator of the same
  * radius, built with 0, the answer is that of chess_corners_refine; with other contents it is the answer for
- * those. At radius 0 there is no operator, whatever is lent: 3, with the score 0.0. */
+ * those. At radius 0 there is no operator, whatever is lent: 3, with the score 0.0, where 4 and 2 are not given. */
 uint32_t chess_corners_refine_with(const uint8_t *img, size_t img_len, size_t width, size_t height,
                                    size_t radius, float det_margin, float max_offset, float min_abs_det,
                                    float x, float y, uint32_t wanted,
@@ -112,7 +114,8 @@ uint32_t chess_corners_refine_with(const uint8_t *img, size_t img_len, size_t wi
                                    float place[3], uint32_t state[3], float covariance[3]);
 
 /* Refines corners, x, y and strength of each, and writes those that are accepted, in input order with their own
- * strength, to the front of out; its other elements stay. out_len: corners_len or more. count: how many.
+ * strength, to the front of out; its other elements stay. A corner that one seed's call answers with 1 to 4 is left out.
+ * out_len: corners_len or more. count: how many.
  * Returns 0, 10, 11, 12, 19, 16, 15. */
 uint32_t chess_corners_refine_list(const uint8_t *img, size_t img_len, size_t width, size_t height,
                                    size_t radius, float det_margin, float max_offset, float min_abs_det,

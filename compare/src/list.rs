@@ -65,6 +65,7 @@ impl Trial for List {
         "19",
         "4,096 seeds",
         "longer output",
+        "a seed that is no number",
     ];
     type Left = Left;
 
@@ -113,6 +114,10 @@ impl Trial for List {
         }
         if number == 0 && self.out > self.floats.len() {
             met = met.and("longer output");
+        }
+        let mut corners = self.floats.chunks_exact(3);
+        if number == 0 && corners.any(|c| rules::bad_seed([c[0], c[1]])) {
+            met = met.and("a seed that is no number");
         }
         Ok(met)
     }
@@ -238,6 +243,7 @@ pub fn faults_noticed() -> Result<(), String> {
     let mut written = usual(board);
     written.floats = corners.concat();
     written.floats.extend([-5.0, -5.0, 1.0]);
+    written.floats.extend([5.0, f32::INFINITY, 1.0]);
     written.out = written.floats.len() + 1;
     let mut refused = written.clone();
     refused.floats.push(1.0);

@@ -7,7 +7,7 @@ use crate::trial::{self, alike, bits, flip, Lent, Met, Tally, Trial, PAINT_F};
 use oracle::lists::refine as known;
 use oracle::random::Random;
 use oracle::types::{Image, Refined, Run};
-use oracle::{calls, pictures};
+use oracle::{calls, pictures, rules};
 use std::fmt::{self, Display, Formatter};
 use std::rc::Rc;
 
@@ -115,7 +115,7 @@ impl Refine {
             place = [want.x, want.y, want.score];
             state = [u32::from(want.converged), run.tries, u32::from(given)];
             covariance = want.covariance.unwrap_or(covariance);
-        } else if want.status <= 3 {
+        } else if want.status < 10 {
             place = [self.seed[0], self.seed[1], want.score];
         }
         for k in 0..3 {
@@ -150,6 +150,7 @@ impl Refine {
             (2, _) => "2",
             (3, _) if self.scene.settings.radius == 0 => "3, radius 0",
             (3, _) => "3",
+            (rules::BAD_SEED, _) => self.bad_seed_class(),
             (10, _) => "10",
             (11, _) => "11",
             _ => "12",
@@ -164,7 +165,10 @@ impl Refine {
             met
         };
         if want.status >= 10 {
-            return met;
+            return match rules::bad_seed(self.seed) {
+                true => met.and("10 to 12 before 4"),
+                false => met,
+            };
         }
         let met = met.and(RADII[self.scene.settings.radius]);
         if want.status > 0 {
@@ -194,6 +198,16 @@ impl Refine {
             met.and("more than nine fits")
         } else {
             met
+        }
+    }
+
+    fn bad_seed_class(&self) -> &'static str {
+        let nan = self.seed.iter().any(|v| v.is_nan());
+        match (nan, self.scene.settings.radius) {
+            (true, 0) => "4, NaN at radius 0",
+            (true, _) => "4, NaN",
+            (false, 0) => "4, infinite at radius 0",
+            (false, _) => "4, infinite",
         }
     }
 
@@ -245,6 +259,11 @@ impl Trial for Refine {
         "2",
         "3",
         "3, radius 0",
+        "4, NaN",
+        "4, NaN at radius 0",
+        "4, infinite",
+        "4, infinite at radius 0",
+        "10 to 12 before 4",
         "10",
         "11",
         "12",
@@ -403,8 +422,12 @@ impl Scenes {
 /// The driver notices each fault of an answer.
 pub fn faults_noticed() -> Result<(), String> {
     let accepted = through(known::plain_corner(), 2, [6.0, 6.0]);
-    let unmoved = Refine {
+    let no_number = Refine {
         seed: [f32::from_bits(0xFFC0_1234), 6.0],
+        ..accepted.clone()
+    };
+    let outside = Refine {
+        seed: [-9.0, 6.0],
         ..accepted.clone()
     };
     let flat = through(pictures::flat(9, 9, 7), 2, [4.0, 4.0]);
@@ -413,7 +436,7 @@ pub fn faults_noticed() -> Result<(), String> {
     let mut rejected = accepted.clone();
     rejected.scene.settings.max_offset = 0.0;
     trial::faults_noticed(
-        &[accepted, unmoved, flat, refused, rejected],
+        &[accepted, no_number, outside, flat, refused, rejected],
         &[
             ("number", |l| l.with.number ^= 1),
             ("x", |l| flip(&mut l.with.place.part()[0])),

@@ -82,6 +82,21 @@ pub fn response(
     (decision(refused, decided), w, h, values)
 }
 
+/// What is answered of a seed that a number refuses before any fit: 4 gives the
+/// seed's own place, from 10 up nothing is given.
+fn refused_seed(status: u32, seed: [f32; 2]) -> Refined {
+    let [x, y] = match status {
+        rules::BAD_SEED => seed,
+        _ => [0.0; 2],
+    };
+    Refined {
+        status,
+        x,
+        y,
+        ..Refined::default()
+    }
+}
+
 /// One seed: the answer, the counts of the run, and who decided.
 pub fn refine_one(
     image: View<'_>,
@@ -89,7 +104,7 @@ pub fn refine_one(
     seed: [f32; 2],
     covariance: bool,
 ) -> (Refined, Run, Decided) {
-    if let Some(number) = rules::refine_refusal(image, s) {
+    if let Some(number) = rules::seed_refusal(image, s, seed) {
         let decided = if view_refused(image) {
             Decided::ByRust
         } else {
@@ -98,11 +113,7 @@ pub fn refine_one(
                 || checked::Refiner::new(s, covariance).refine(image, seed),
             )
         };
-        let refused = Refined {
-            status: number,
-            ..Refined::default()
-        };
-        return (refused, Run::default(), decided);
+        return (refused_seed(number, seed), Run::default(), decided);
     }
     let by_checked = run(|| checked::refine_counted(image, s, seed, covariance));
     let mut fresh = plain::Counted::new(s, covariance);
@@ -165,12 +176,8 @@ pub fn refine_kept(
     seed: [f32; 2],
     covariance: bool,
 ) -> (Refined, Run) {
-    if let Some(status) = rules::refine_refusal(image, s) {
-        let refused = Refined {
-            status,
-            ..Refined::default()
-        };
-        return (refused, Run::default());
+    if let Some(number) = rules::seed_refusal(image, s, seed) {
+        return (refused_seed(number, seed), Run::default());
     }
     with_kept(s, covariance, |kept| {
         let (answer, run, _) = seed_by(kept, image, s, seed);
@@ -192,6 +199,7 @@ pub fn refine_list_kept(
     with_kept(s, false, |kept| {
         let one_by_one: Vec<Triple> = corners
             .iter()
+            .filter(|c| !rules::bad_seed([c[0], c[1]]))
             .filter_map(|c| {
                 let (a, _, _) = seed_by(kept, image, s, [c[0], c[1]]);
                 (a.status == 0).then_some([a.x, a.y, c[2]])

@@ -12,6 +12,7 @@ type Lines = Vec<(String, bool)>;
 pub fn all() -> Lines {
     let mut out = Vec::new();
     response(&mut out);
+    far_seeds(&mut out);
     refiner(&mut out);
     peaks(&mut out);
     merge(&mut out);
@@ -118,48 +119,60 @@ fn response(out: &mut Lines) {
     );
 }
 
+/// What the Rust does with a seed on 3 by 3 pixels: its status without checks
+/// and with them, nothing where it panics.
+fn statuses(radius: i32, seed: [f32; 2]) -> [Option<u32>; 2] {
+    let image = pictures::flat(3, 3, 9);
+    let s = Settings {
+        radius,
+        ..Settings::default()
+    };
+    [
+        run(|| plain::Refiner::new(&s, true).refine(&image, seed).status),
+        run(|| checked::Refiner::new(&s, true).refine(&image, seed).status),
+    ]
+}
+
+/// Seeds beyond 32 bits, and those that are no numbers (4 by document 01): what
+/// the Rust does at radius 0, and at radius 1.
+fn far_seeds(out: &mut Lines) {
+    let (nan, inf, far) = (f32::NAN, f32::INFINITY, 2_147_483_648.0);
+    let (two, three, panics, wraps) = ([Some(2); 2], [Some(3); 2], [None; 2], [Some(2), None]);
+    for (entry, seed, at_0, at_1) in [
+        ("F1: seed (2^31, 1)", [far, 1.0], two, panics),
+        ("F1: seed (-2^31, 1)", [-far, 1.0], two, panics),
+        ("F1: seed (2^31 - 128, 1)", [2_147_483_520.0, 1.0], two, two),
+        ("F2: seed (-2^31, 9)", [-far, 9.0], two, wraps),
+        ("F3: seed (NaN, 1)", [nan, 1.0], three, two),
+        ("F3: seed (1, NaN)", [1.0, nan], three, two),
+        ("F3: seed (NaN, NaN)", [nan, nan], three, two),
+        ("F3: seed (NaN, 9)", [nan, 9.0], two, two),
+        ("F20: seed (inf, 1)", [inf, 1.0], two, panics),
+        ("F20: seed (-inf, 1)", [-inf, 1.0], two, panics),
+        ("F20: seed (1, inf)", [1.0, inf], two, panics),
+        ("F20: seed (1, -inf)", [1.0, -inf], two, panics),
+        ("F20: seed (inf, inf)", [inf, inf], two, panics),
+        ("F21: seed (inf, 9)", [inf, 9.0], two, wraps),
+        ("F21: seed (-inf, 9)", [-inf, 9.0], two, wraps),
+        ("F21: seed (inf, NaN)", [inf, nan], two, two),
+        ("F21: seed (-inf, NaN)", [-inf, nan], two, wraps),
+    ] {
+        for (radius, told) in [(0, at_0), (1, at_1)] {
+            let [plain, checked] = told.map(|a| a.map_or("a panic".into(), |n| n.to_string()));
+            let line = format!("{entry}, radius {radius}: {plain}, with checks {checked}");
+            out.push((line, statuses(radius, seed) == told));
+        }
+    }
+}
+
 fn refiner(out: &mut Lines) {
     let mut say = |line: &str, holds: bool| out.push((line.to_string(), holds));
     let base = Settings::default();
     let one = Settings { radius: 1, ..base };
-    let three = pictures::flat(3, 3, 9);
     let refine = |image: &Image, s: &Settings, seed: [f32; 2]| {
         run(|| plain::Refiner::new(s, true).refine(image, seed))
     };
-    for x in [
-        f32::INFINITY,
-        f32::NEG_INFINITY,
-        2_147_483_648.0,
-        -2_147_483_648.0,
-    ] {
-        let line = format!("F1: 3 by 3, radius 1, seed ({x}, 1): the Rust panics");
-        say(&line, refine(&three, &one, [x, 1.0]).is_none());
-    }
     let status = |a: Option<Refined>| a.map(|a| a.status);
-    say(
-        "F1: the greatest float below 2^31, and radius 0 with an infinity: status 2",
-        status(refine(&three, &one, [2_147_483_520.0, 1.0])) == Some(2)
-            && status(refine(
-                &three,
-                &Settings { radius: 0, ..base },
-                [f32::INFINITY, 1.0],
-            )) == Some(2),
-    );
-    say(
-        "F2: seed (-inf, 9): the wrap goes unseen, status 2; with checks a panic",
-        status(refine(&three, &one, [f32::NEG_INFINITY, 9.0])) == Some(2)
-            && run(|| checked::Refiner::new(&one, true).refine(&three, [f32::NEG_INFINITY, 9.0]))
-                .is_none(),
-    );
-    say(
-        "F3: seed NaN is pixel 0: status 3 at radius 0, status 2 at radius 1",
-        status(refine(
-            &three,
-            &Settings { radius: 0, ..base },
-            [f32::NAN, f32::NAN],
-        )) == Some(3)
-            && status(refine(&three, &one, [f32::NAN, f32::NAN])) == Some(2),
-    );
     let saddle = refine::exact_saddle();
     let exact = refine(&saddle, &base, [4.0, 4.0]);
     say(
@@ -286,10 +299,19 @@ fn refiner(out: &mut Lines) {
         "F16: the steps start and fail: accepted, not converged",
         refine(&stuck, &base, at).is_some_and(|a| a.status == 0 && !a.converged),
     );
-    let list = [[4.0, 4.0, 1.0], [f32::INFINITY, 4.0, 1.0]];
+    for (name, x) in [("inf", f32::INFINITY), ("2^31", 2_147_483_648.0)] {
+        let list = [[4.0, 4.0, 1.0], [x, 4.0, 1.0]];
+        let line = format!("L1 (F12): one seed ({name}, 4) makes the whole list panic");
+        say(
+            &line,
+            run(|| plain::Refiner::new(&base, false).refine_list(&saddle, &list)).is_none(),
+        );
+    }
+    let list = [[4.0, 4.0, 1.0], [f32::NAN, 4.0, 1.0]];
     say(
-        "F12: one infinite seed makes the whole list panic",
-        run(|| plain::Refiner::new(&base, false).refine_list(&saddle, &list)).is_none(),
+        "L4: a NaN seed is left out of a list, as 2",
+        run(|| plain::Refiner::new(&base, false).refine_list(&saddle, &list))
+            .is_some_and(|kept| kept.len() == 1),
     );
     let (bytes, seed) = many_fits();
     let (a, run) = plain::refine_counted(&bytes, &base, seed, true);

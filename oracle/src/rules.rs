@@ -4,6 +4,7 @@
 
 use crate::types::*;
 
+pub const BAD_SEED: u32 = 4;
 pub const BAD_IMAGE: u32 = 10;
 pub const BAD_RADIUS: u32 = 11;
 pub const BAD_LIMIT: u32 = 12;
@@ -153,7 +154,7 @@ pub fn response(
 
 // --- refine -----------------------------------------------------------------
 
-/// 10, 11, 12: what refuses a seed before it is looked at.
+/// 10, 11, 12: what refuses every seed.
 pub fn refine_refusal(image: View<'_>, s: &Settings) -> Option<u32> {
     first(&[
         (
@@ -163,6 +164,16 @@ pub fn refine_refusal(image: View<'_>, s: &Settings) -> Option<u32> {
         (bad_refiner_radius(s), BAD_RADIUS),
         (bad_settings(s), BAD_LIMIT),
     ])
+}
+
+/// W-203: a seed that is no place, since x or y is NaN or infinite.
+pub fn bad_seed(seed: [f32; 2]) -> bool {
+    !seed.iter().all(|v| v.is_finite())
+}
+
+/// 10, 11, 12, 4: what refuses a seed before the image is looked at.
+pub fn seed_refusal(image: View<'_>, s: &Settings, seed: [f32; 2]) -> Option<u32> {
+    refine_refusal(image, s).or_else(|| bad_seed(seed).then_some(BAD_SEED))
 }
 
 /// Whether the patch at the rounded seed leaves the image, in whole numbers.

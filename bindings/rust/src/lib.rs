@@ -271,9 +271,15 @@ pub struct Estimate {
 #[derive(Clone, Copy, Debug)]
 pub enum Refined {
     Accepted(Estimate),
-    Rejected { score: f32 },
+    Rejected {
+        score: f32,
+    },
     OutOfBounds,
-    IllConditioned { score: f32 },
+    IllConditioned {
+        score: f32,
+    },
+    /// x or y of the seed is NaN or infinite.
+    BadSeed,
 }
 
 /// A board of rows by columns of squares; nothing is tested here.
@@ -421,6 +427,7 @@ fn told(
         1 => Ok(Refined::Rejected { score }),
         2 => Ok(Refined::OutOfBounds),
         3 => Ok(Refined::IllConditioned { score }),
+        4 => Ok(Refined::BadSeed),
         _ => Err(Refusal::of(number)),
     }
 }
@@ -628,6 +635,36 @@ mod tests {
         assert_eq!(Operator::new(0).err(), Some(Refusal::IllConditioned));
         assert_eq!(Operator::new(8).err(), Some(Refusal::BadRadius));
         assert!(Operator::new(2).is_ok());
+    }
+
+    /// Through the library: a seed that is no number, at radius 0 too, after 12
+    /// and before 2; a finite one, however far, is not.
+    #[test]
+    fn the_library_names_a_seed_that_is_no_number() {
+        let image = Image {
+            bytes: &[9; 9],
+            width: 3,
+            height: 3,
+        };
+        let ask = |radius, max_offset, seed| {
+            let config = SaddlePointConfig {
+                radius,
+                det_margin: 1e-3,
+                max_offset,
+                min_abs_det: 1e-4,
+            };
+            refine(image, config, seed, true)
+        };
+        for bad in [f32::NAN, f32::INFINITY, f32::NEG_INFINITY] {
+            for seed in [[bad, 1.0], [1.0, bad], [99.0, bad]] {
+                for radius in [0, 1, 7] {
+                    assert!(matches!(ask(radius, 1.5, seed), Ok(Refined::BadSeed)));
+                }
+                assert_eq!(ask(1, -1.0, seed).err(), Some(Refusal::BadLimit));
+            }
+        }
+        let far = ask(1, 1.5, [f32::MAX, 1.0]);
+        assert!(matches!(far, Ok(Refined::OutOfBounds)));
     }
 
     /// Through the library: (2, 2) and (3, 2) have the same value.

@@ -29,13 +29,13 @@ use Rattle.refine_seed.specs.declared.Admitted.{Admitted}
 use Rattle.refine_seed.specs.declared.Admitted.the-variants as Admitted
 use Rattle.refine_seed.specs.declared.Refined.{Refined}
 use Rattle.refine_seed.specs.declared.Refined.the-variants.{Accepted, Unmoved}
-use Rattle.refine_seed.specs.declared.Why.the-variants.{Rejected, OutOfBounds, IllConditioned}
+use Rattle.refine_seed.specs.declared.Why.the-variants.{Rejected, OutOfBounds, IllConditioned, BadSeed}
 use Rattle.refusals.specs.declared.Refusal.the-variants.{BadImage, BadRadius, BadLimit}
 use Rattle.refine_operator.specs.Call as Operator
 use Rattle.refine_formulas.specs.Solve.{solve}
 use Rattle.refine_fits.specs.Candidate.{Task, nearAlong, nearSeed, taskAt}
 use Rattle.refine_seed.specs.Run.{runOf}
-use Rattle.refine_seed.specs.Refine.{goodLimits, centreOf, seedOf, admitOf, answered, finished, fromSaddle, refineWith, lentWith, refineLent, withOperator, refineOf}
+use Rattle.refine_seed.specs.Refine.{goodLimits, isPlace, centreOf, seedOf, admitOf, answered, finished, fromSaddle, refineWith, lentWith, refineLent, withOperator, refineOf}
 use Rattle.refine_fits.specs.StepsAdding.{Sound, PatchWithin}
 use Rattle.refine_seed.proofs.StepLaws.{no, yes, differs}
 
@@ -83,13 +83,14 @@ supported img radius x y z w r p q e b h =
     sym (ap (λ (v : ℤ). inside radius (img .width) v && inside radius (img .height) w) p ∙ ap (λ (v : ℤ). inside radius (img .width) (centreOf x) && inside radius (img .height) v) q) ∙ sym e ∙ h
 
 -- ---- the tests as one answer
-abbrev pub chosen : Bool → Bool → Bool → Bool → Seed → Admitted
-chosen i r l p s =
+abbrev pub chosen : Bool → Bool → Bool → Bool → Bool → Seed → Admitted
+chosen i r l f p s =
     cond (not i) (Admitted.Refused BadImage)
     (cond (not r) (Admitted.Refused BadRadius)
     (cond (not l) (Admitted.Refused BadLimit)
+    (cond (not f) (Admitted.Unmoved BadSeed)
     (cond (not p) (Admitted.Unmoved OutOfBounds)
-    (Admitted.Good s))))
+    (Admitted.Good s)))))
 
 -- what a good answer says of the tests
 record Passed (i r p : Bool) (s t : Seed) : Type 0 where
@@ -108,28 +109,30 @@ seedIn (Admitted.Good s) d = s
 seedIn (Admitted.Unmoved why) d = d
 seedIn (Admitted.Refused r) d = d
 
-passed : (i r l p : Bool) (s t : Seed) → chosen i r l p s ≡ Admitted.Good t → Passed i r p s t
-passed false r l p s t h = absurd (subst isGood (sym h) tt)
-passed true false l p s t h = absurd (subst isGood (sym h) tt)
-passed true true false p s t h = absurd (subst isGood (sym h) tt)
-passed true true true false s t h = absurd (subst isGood (sym h) tt)
-passed true true true true s t h = record { image = refl; radius = refl; patch = refl; seed = sym (ap (λ (v : Admitted). seedIn v s) h) }
+passed : (i r l f p : Bool) (s t : Seed) → chosen i r l f p s ≡ Admitted.Good t → Passed i r p s t
+passed false r l f p s t h = absurd (subst isGood (sym h) tt)
+passed true false l f p s t h = absurd (subst isGood (sym h) tt)
+passed true true false f p s t h = absurd (subst isGood (sym h) tt)
+passed true true true false p s t h = absurd (subst isGood (sym h) tt)
+passed true true true true false s t h = absurd (subst isGood (sym h) tt)
+passed true true true true true s t h = record { image = refl; radius = refl; patch = refl; seed = sym (ap (λ (v : Admitted). seedIn v s) h) }
 
 module _ (img : Image) (cfg : SaddlePointConfig) (x y : Float) where
   abbrev supports : Bool
   supports = supportsPatch img (cfg .radius) (centreOf x) (centreOf y)
 
   -- the tests, one after the other
-  pub to : (i r l p : Bool) → isImage img ≡ i → leb (cfg .radius) 7 ≡ r → goodLimits cfg ≡ l → supports ≡ p → chosen i r l p (seedOf x y) ≡ admitOf img cfg x y
-  to i r l p a b c d =
-      sym (ap (λ (z : Bool). chosen z (leb (cfg .radius) 7) (goodLimits cfg) supports (seedOf x y)) a
-      ∙ ap (λ (z : Bool). chosen i z (goodLimits cfg) supports (seedOf x y)) b
-      ∙ ap (λ (z : Bool). chosen i r z supports (seedOf x y)) c
-      ∙ ap (λ (z : Bool). chosen i r l z (seedOf x y)) d)
+  pub to : (i r l f p : Bool) → isImage img ≡ i → leb (cfg .radius) 7 ≡ r → goodLimits cfg ≡ l → isPlace x y ≡ f → supports ≡ p → chosen i r l f p (seedOf x y) ≡ admitOf img cfg x y
+  to i r l f p a b c d e =
+      sym (ap (λ (z : Bool). chosen z (leb (cfg .radius) 7) (goodLimits cfg) (isPlace x y) supports (seedOf x y)) a
+      ∙ ap (λ (z : Bool). chosen i z (goodLimits cfg) (isPlace x y) supports (seedOf x y)) b
+      ∙ ap (λ (z : Bool). chosen i r z (isPlace x y) supports (seedOf x y)) c
+      ∙ ap (λ (z : Bool). chosen i r l z supports (seedOf x y)) d
+      ∙ ap (λ (z : Bool). chosen i r l f z (seedOf x y)) e)
 
   pub good-within : (seed : Seed) → admitOf img cfg x y ≡ Admitted.Good seed → PatchWithin img (cfg .radius) (seed .«centre_x») (seed .«centre_y»)
   good-within seed h =
-      let t = passed (isImage img) (leb (cfg .radius) 7) (goodLimits cfg) supports (seedOf x y) seed h in
+      let t = passed (isImage img) (leb (cfg .radius) 7) (goodLimits cfg) (isPlace x y) supports (seedOf x y) seed h in
       subst (λ (s : Seed). PatchWithin img (cfg .radius) (s .«centre_x») (s .«centre_y»)) (sym (t .seed))
       (within-of img (cfg .radius) (centreOf x) (centreOf y) (t .image) (t .radius) (t .patch))
 

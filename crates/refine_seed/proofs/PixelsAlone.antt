@@ -27,7 +27,7 @@ use Rattle.refine_fits.specs.StepsAdding.{PatchWithin}
 use Rattle.refine_seed.specs.declared.Refined.{Refined}
 use Rattle.refine_seed.specs.declared.Admitted.{Admitted}
 use Rattle.refine_seed.specs.declared.Admitted.the-variants as Admitted
-use Rattle.refine_seed.specs.Refine.{goodLimits, centreOf, seedOf, admitOf, answered, fromSaddle, refineWith, withOperator, lentWith, refineOf, refineLent}
+use Rattle.refine_seed.specs.Refine.{goodLimits, isPlace, centreOf, seedOf, admitOf, answered, fromSaddle, refineWith, withOperator, lentWith, refineOf, refineLent}
 use Rattle.refine_seed.specs.Alone.{ByPixels, LentByPixels}
 use Rattle.refine_seed.proofs.ColumnLaws.{SameFits, saddle-same}
 use Rattle.refine_seed.proofs.EntryLaws.{chosen, good-within}
@@ -96,7 +96,7 @@ module _ (a : Image) (l : List ℕ) (same : (x y : ℕ) → x < a .width → y <
 
     admitted : admitOf a cfg x y ≡ admitOf c cfg x y
     unfolding supportsPatch
-    admitted = ap (λ (i : Bool). chosen i (leb (cfg .radius) 7) (goodLimits cfg) (supportsPatch a (cfg .radius) (centreOf x) (centreOf y)) (seedOf x y)) both-images
+    admitted = ap (λ (i : Bool). chosen i (leb (cfg .radius) 7) (goodLimits cfg) (isPlace x y) (supportsPatch a (cfg .radius) (centreOf x) (centreOf y)) (seedOf x y)) both-images
 
     by-answer : (go stay : Seed → Refined) → ((seed : Seed) → PatchWithin a (cfg .radius) (seed .«centre_x») (seed .«centre_y») → go seed ≡ stay seed) → (d : Admitted) → admitOf a cfg x y ≡ d → answered d go ≡ answered d stay
     by-answer go stay h (Admitted.Good seed) e = h seed (good-within a cfg x y seed e)

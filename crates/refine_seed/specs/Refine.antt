@@ -27,7 +27,7 @@ use Rattle.refine_formulas.specs.declared.Covariance.the-variants.{Unknown}
 use Rattle.refine_seed.specs.declared.Refined.{Refined}
 use Rattle.refine_seed.specs.declared.Refined.the-variants.{Accepted, Unmoved, Refused}
 use Rattle.refine_seed.specs.declared.Why.{Why}
-use Rattle.refine_seed.specs.declared.Why.the-variants.{Rejected, OutOfBounds, IllConditioned}
+use Rattle.refine_seed.specs.declared.Why.the-variants.{Rejected, OutOfBounds, IllConditioned, BadSeed}
 use Rattle.refine_seed.specs.declared.Admitted.{Admitted}
 use Rattle.refine_seed.specs.declared.Admitted.the-variants as Admitted
 use Rattle.refusals.specs.declared.Refusal.the-variants.{BadImage, BadRadius, BadLimit}
@@ -83,14 +83,19 @@ seedOf x y = record { x = x; y = y; «centre_x» = natAbs (centreOf x); «centre
 abbrev pub goodLimits : SaddlePointConfig → Bool
 goodLimits cfg = goodLimit (cfg .«det_margin») && goodLimit (cfg .«max_offset») && goodLimit (cfg .«min_abs_det»)
 
+-- a place: both coordinates are finite
+abbrev pub isPlace : Float → Float → Bool
+isPlace x y = finite x && finite y
+
 -- in their order
 abbrev pub admitOf : Image → SaddlePointConfig → Float → Float → Admitted
 admitOf img cfg x y =
     cond (not (isImage img)) (Admitted.Refused BadImage)
     (cond (not (leb (cfg .radius) 7)) (Admitted.Refused BadRadius)
     (cond (not (goodLimits cfg)) (Admitted.Refused BadLimit)
+    (cond (not (isPlace x y)) (Admitted.Unmoved BadSeed)
     (cond (not (supportsPatch img (cfg .radius) (centreOf x) (centreOf y))) (Admitted.Unmoved OutOfBounds)
-    (Admitted.Good (seedOf x y)))))
+    (Admitted.Good (seedOf x y))))))
 
 -- a seed that passed them goes on; any other is answered at once, with the score 0.0
 abbrev pub answered : Admitted → (Seed → Refined) → Refined
@@ -130,6 +135,7 @@ abbrev pub whyNumber : Why → ℕ
 whyNumber Rejected = 1
 whyNumber OutOfBounds = 2
 whyNumber IllConditioned = 3
+whyNumber BadSeed = 4
 
 abbrev pub numberOf : Refined → ℕ
 numberOf (Accepted e) = 0

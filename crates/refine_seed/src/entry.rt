@@ -15,7 +15,7 @@ use refusals::Refusal;
 ghost use mathlib.Core.Path.{_≡_};
 ghost use Rattle.imageview.specs.Image.{imageOf};
 ghost use Rattle.refine_formulas.specs.Solve.{goodLimit};
-ghost use Rattle.refine_seed.specs.Refine.{goodLimits, whyNumber, admitOf, refineWith, withOperator, lentWith, refineLent, refineOf};
+ghost use Rattle.refine_seed.specs.Refine.{goodLimits, isPlace, whyNumber, admitOf, refineWith, withOperator, lentWith, refineLent, refineOf};
 ghost use Rattle.refine_fits.specs.StepsAdding.{PatchWithin};
 ghost use Rattle.refine_operator.specs.Call.{wayOf};
 
@@ -88,6 +88,7 @@ pub fn why_number(why: Why) -> u32
         Why::Rejected => 1,
         Why::OutOfBounds => 2,
         Why::IllConditioned => 3,
+        Why::BadSeed => 4,
     }
 }
 
@@ -117,6 +118,13 @@ pub fn good_limits(cfg: SaddlePointConfig) -> bool
     false
 }
 
+// Whether both coordinates are finite.
+fn is_place(x: f32, y: f32) -> bool
+    ensures { λ r. ⌜ r ≡ isPlace x y ⌝ }
+{
+    floats::is_finite_f32(x) & floats::is_finite_f32(y)
+}
+
 // The tests before the first fit.
 pub fn admit(img: &[u8], sizes: Sizes, cfg: SaddlePointConfig, x: f32, y: f32) -> Admitted
     ensures { λ r. ⌜ r ≡ admitOf (imageOf (now (img .entry)) sizes) cfg x y ⌝ }
@@ -129,6 +137,9 @@ pub fn admit(img: &[u8], sizes: Sizes, cfg: SaddlePointConfig, x: f32, y: f32) -
     }
     if !good_limits(cfg) {
         return Admitted::Refused(Refusal::BadLimit);
+    }
+    if !is_place(x, y) {
+        return Admitted::Unmoved(Why::BadSeed);
     }
     let cx = floats::f32_to_i32(floats::round_f32(x));
     let cy = floats::f32_to_i32(floats::round_f32(y));

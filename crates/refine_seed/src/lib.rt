@@ -61,11 +61,12 @@ pub struct Estimate {
     pub covariance: Covariance,
 }
 
-// Why a seed stays where it is, by the Rust's names.
+// Why a seed stays where it is, by the Rust's names; that a coordinate is no finite number is ours.
 pub enum Why {
     Rejected,
     OutOfBounds,
     IllConditioned,
+    BadSeed,
 }
 
 // How refining a seed ended. A seed that stays where it is has a score beside the reason: the determinant of the first fit, where there was one.

@@ -53,7 +53,7 @@ pub const ENOUGH: usize = 120_000;
 /// The numbers of document 01 that each list must reach.
 const REACHED: &[(&str, &[u32])] = &[
     ("response", &[0, 10, 11, 13, 14, 15]),
-    ("refine", &[0, 1, 2, 3, 10, 11, 12]),
+    ("refine", &[0, 1, 2, 3, 4, 10, 11, 12]),
     ("refine_list", &[0, 10, 11, 12, 15, 16, 19]),
     ("fallback", &[0, 10, 11, 12, 15, 16, 19]),
     ("merge", &[0, 16, 17, 18, 19]),
@@ -168,6 +168,7 @@ fn number_name(number: u32) -> &'static str {
         1 => "1 Rejected",
         2 => "2 OutOfBounds",
         3 => "3 IllConditioned",
+        4 => "4 BadSeed",
         10 => "10 BadImage",
         11 => "11 BadRadius",
         12 => "12 BadLimit",

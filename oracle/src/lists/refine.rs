@@ -456,6 +456,24 @@ fn refusals(list: &mut List) {
     ] {
         write(list, image, &s, &seeds, true);
     }
+    // Status 4 before 2 and 3: a place outside beside what is no number.
+    for radius in [0, 2] {
+        write(
+            list,
+            &image,
+            &Settings { radius, ..base },
+            &[
+                [f32::NAN, 99.0],
+                [-99.0, f32::NAN],
+                [f32::INFINITY, -99.0],
+                [99.0, f32::NEG_INFINITY],
+                [f32::NAN, f32::INFINITY],
+                [f32::NEG_INFINITY, f32::NAN],
+                [f32::INFINITY, f32::INFINITY],
+            ],
+            true,
+        );
+    }
     // Status 2 before 3: radius 0 outside the picture.
     write(
         list,
