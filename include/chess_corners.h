@@ -2,7 +2,7 @@
  * to the squares of a board.
  *
  * Link with libchess_corners.a. Every call takes any numbers and any contents of its buffers, ends, and returns
- * a number: 0 done, 1 to 4 a seed's status, from 10 up a refusal. A refusal writes nothing, neither to a buffer
+ * a number: 0 done, 1 to 7 a seed's status, from 10 up a refusal. A refusal writes nothing, neither to a buffer
  * nor to a further answer, with one exception: 33 and 34 write the place at fault. A call that is done decides every
  * element of what it may write; which elements stay as they were is said with each call. Nothing is kept after a
  * call, nothing is allocated, nothing is called back; calls on separate buffers may run at the same time.
@@ -19,8 +19,11 @@
  * Numbers:
  *    0 Accepted        1 Rejected: the first fit lies outside the box about the seed
  *    2 OutOfBounds: the patch at the rounded seed leaves the image
- *    3 IllConditioned: no fit operator (radius 0), or the first fit is refused
+ *    3 IllConditioned: no fit operator (radius 0)
  *    4 BadSeed: x or y of the seed is NaN or infinite
+ *    5 AboveMargin: the determinant of the first fit is above -det_margin
+ *    6 TooSmall: its magnitude is below min_abs_det
+ *    7 NotFinite: the offset of the first fit is not finite
  *   10 BadImage: width or height outside 1..4096, or a count that is not width times height
  *   11 BadRadius: refiner radius above 7, ring radius outside 1..10, window radius outside 1..8
  *   12 BadLimit: a float setting that is not finite or below zero (the peak threshold may be below zero)
@@ -53,6 +56,9 @@ enum chess_corners_number {
     CHESS_CORNERS_OUT_OF_BOUNDS = 2,
     CHESS_CORNERS_ILL_CONDITIONED = 3,
     CHESS_CORNERS_BAD_SEED = 4,
+    CHESS_CORNERS_ABOVE_MARGIN = 5,
+    CHESS_CORNERS_TOO_SMALL = 6,
+    CHESS_CORNERS_NOT_FINITE = 7,
     CHESS_CORNERS_BAD_IMAGE = 10,
     CHESS_CORNERS_BAD_RADIUS = 11,
     CHESS_CORNERS_BAD_LIMIT = 12,
@@ -69,6 +75,9 @@ enum chess_corners_number {
     CHESS_CORNERS_NO_CORNER = 33,
     CHESS_CORNERS_USED_TWICE = 34
 };
+
+/* The number for a reader that knows 3 alone for every refused fit: 3 for 5, 6 and 7, every other number itself. */
+uint32_t chess_corners_old_number(uint32_t number);
 
 /* The ChESS response of the region (x0, y0) up to but without (x1, y1), clamped to the image, row after row.
  * ring: sixteen pairs dx, dy. out: exactly the clamped region's elements, all of which are written, +0.0 where
@@ -95,10 +104,10 @@ uint32_t chess_corners_peaks(const float *response, size_t response_len, size_t 
 uint32_t chess_corners_fit_operator(size_t radius, float columns[1125], float overlap[225]);
 
 /* Refines one seed. wanted: 0, or not 0 for a covariance.
- * 0 to 4 write place: x, y and score (1 to 4: the seed's own x and y, bit for bit; the score is 0.0 for 2, for 4 and for
- * radius 0, else the determinant of the first fit). 0 alone writes state: converged (0 or 1), tries (0 to 64), and whether there
+ * 0 to 7 write place: x, y and score (1 to 7: the seed's own x and y, bit for bit; the score is 0.0 for 2, 3 and 4, and for
+ * 1, 5, 6 and 7 the determinant of the first fit). 0 alone writes state: converged (0 or 1), tries (0 to 64), and whether there
  * is a covariance (0 or 1), and where there is one covariance: xx, xy and yy for unit noise.
- * Returns 0, 10, 11, 12, 4, 2, 3, 1. */
+ * Returns 0, 10, 11, 12, 4, 2, 3, 5, 6, 7, 1. */
 uint32_t chess_corners_refine(const uint8_t *img, size_t img_len, size_t width, size_t height,
                               size_t radius, float det_margin, float max_offset, float min_abs_det,
                               float x, float y, uint32_t wanted,
@@ -114,7 +123,7 @@ uint32_t chess_corners_refine_with(const uint8_t *img, size_t img_len, size_t wi
                                    float place[3], uint32_t state[3], float covariance[3]);
 
 /* Refines corners, x, y and strength of each, and writes those that are accepted, in input order with their own
- * strength, to the front of out; its other elements stay. A corner that one seed's call answers with 1 to 4 is left out.
+ * strength, to the front of out; its other elements stay. A corner that one seed's call answers with 1 to 7 is left out.
  * out_len: corners_len or more. count: how many.
  * Returns 0, 10, 11, 12, 19, 16, 15. */
 uint32_t chess_corners_refine_list(const uint8_t *img, size_t img_len, size_t width, size_t height,

@@ -6,6 +6,7 @@ mod bench;
 mod board;
 mod list;
 mod merge;
+mod number;
 mod operator;
 mod peaks;
 mod port;
@@ -42,6 +43,7 @@ fn faults_noticed() -> Result<(), String> {
     operator::faults_noticed()?;
     refine::faults_noticed()?;
     list::faults_noticed()?;
+    number::faults_noticed()?;
     board::faults_noticed()
 }
 
@@ -54,6 +56,7 @@ struct Tallies {
     operators: Tally,
     seeds: Tally,
     lists: Tally,
+    numbers: Tally,
     boards: Tally,
 }
 
@@ -63,6 +66,7 @@ impl Tallies {
         let low = random.byte() / 2;
         let high = low + 1 + random.byte() / 2;
         operator::short(&mut self.operators)
+            && number::short(&mut self.numbers)
             && refine::rare(&mut self.seeds)
             && list::longest(&mut self.lists, random)
             && board::longest(&mut self.boards, random)
@@ -78,6 +82,7 @@ impl Tallies {
     fn fresh(&mut self, random: &mut Random, kept: &mut Kept) -> bool {
         self.merges.tried(&merge::any(random))
             && self.boards.tried(&board::any(random))
+            && self.numbers.tried(&number::any(random))
             && self
                 .responses
                 .tried(&response::any(random, &mut kept.rings))
@@ -93,8 +98,9 @@ impl Tallies {
         let operators = self.operators.told::<operator::Operator>(to_the_end);
         let seeds = self.seeds.told::<refine::Refine>(to_the_end);
         let lists = self.lists.told::<list::List>(to_the_end);
+        let numbers = self.numbers.told::<number::Number>(to_the_end);
         let boards = self.boards.told::<board::Board>(to_the_end);
-        merges && responses && peaks && operators && seeds && lists && boards
+        merges && responses && peaks && operators && seeds && lists && numbers && boards
     }
 }
 

@@ -81,6 +81,11 @@ pub fn refine_with(
     }
 }
 
+/// The number for a reader of the old ones.
+pub fn old_number(number: u32) -> u32 {
+    chess_corners::old_number(number)
+}
+
 /// Document 01's number, 3 where there is no operator.
 pub fn fit_operator(
     radius: usize,

@@ -148,9 +148,12 @@ impl Refine {
             (0, false) => "0, not converged, singular",
             (1, _) => "1",
             (2, _) => "2",
-            (3, _) if self.scene.settings.radius == 0 => "3, radius 0",
             (3, _) => "3",
             (rules::BAD_SEED, _) => self.bad_seed_class(),
+            (rules::ABOVE_MARGIN, _) if self.small(want.score) => "5 before 6",
+            (rules::ABOVE_MARGIN, _) => "5",
+            (rules::TOO_SMALL, _) => "6",
+            (rules::NOT_FINITE, _) => "7",
             (10, _) => "10",
             (11, _) => "11",
             _ => "12",
@@ -199,6 +202,11 @@ impl Refine {
         } else {
             met
         }
+    }
+
+    /// A determinant that the test of 6 refuses too.
+    fn small(&self, det: f32) -> bool {
+        det.abs() < self.scene.settings.min_abs_det
     }
 
     fn bad_seed_class(&self) -> &'static str {
@@ -258,12 +266,15 @@ impl Trial for Refine {
         "1",
         "2",
         "3",
-        "3, radius 0",
         "4, NaN",
         "4, NaN at radius 0",
         "4, infinite",
         "4, infinite at radius 0",
         "10 to 12 before 4",
+        "5",
+        "5 before 6",
+        "6",
+        "7",
         "10",
         "11",
         "12",
@@ -431,12 +442,27 @@ pub fn faults_noticed() -> Result<(), String> {
         ..accepted.clone()
     };
     let flat = through(pictures::flat(9, 9, 7), 2, [4.0, 4.0]);
+    let no_operator = through(pictures::flat(9, 9, 7), 0, [4.0, 4.0]);
+    let mut small = accepted.clone();
+    small.scene.settings.min_abs_det = f32::MAX;
+    let mut above = small.clone();
+    above.scene.settings.det_margin = f32::MAX;
     let mut refused = accepted.clone();
     refused.scene.settings.max_offset = -1.0;
     let mut rejected = accepted.clone();
     rejected.scene.settings.max_offset = 0.0;
     trial::faults_noticed(
-        &[accepted, no_number, outside, flat, refused, rejected],
+        &[
+            accepted,
+            no_number,
+            outside,
+            flat,
+            no_operator,
+            small,
+            above,
+            refused,
+            rejected,
+        ],
         &[
             ("number", |l| l.with.number ^= 1),
             ("x", |l| flip(&mut l.with.place.part()[0])),

@@ -6,7 +6,7 @@ use crate::trial::{bits, crops};
 use oracle::lists::{self, refine_list};
 use oracle::random::Random;
 use oracle::types::{Image, Settings, View};
-use oracle::{calls, pictures, plain};
+use oracle::{calls, pictures, plain, rules};
 use std::fmt::{self, Display, Formatter};
 use std::rc::Rc;
 
@@ -170,7 +170,7 @@ fn tie(random: &mut Random, scene: &mut Scene) {
         ..scene.for_oracle()
     };
     let (first, _) = calls::refine_kept(scene.view(), &blind, seed, false);
-    if first.status != 3 || first.score >= 0.0 {
+    if first.status != rules::TOO_SMALL || first.score >= 0.0 {
         return;
     }
     let s = &mut scene.settings;

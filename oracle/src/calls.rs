@@ -161,8 +161,12 @@ fn seed_by(
             };
             (unmoved, Run::default(), true)
         }
-        Some((a, run)) => {
+        Some((mut a, run)) => {
             hold((a.status == 2) == outside, "rule and Rust part on status 2");
+            // The Rust has one status for no operator and for a refused fit.
+            if a.status == rules::ILL_CONDITIONED && s.radius != 0 {
+                a.status = rules::why_refused(s, a.score);
+            }
             (a, run.unwrap_or_default(), false)
         }
     }
@@ -375,8 +379,8 @@ pub fn peaks(
     (decision(refused, decided), peaks)
 }
 
-/// `solve`: the saddle, or the determinant and the test that fails first by
-/// the numbers of W-205.
+/// `solve`: the saddle, or the determinant and the number of the test that
+/// fails first.
 pub fn solve(s: &Settings, coefs: [f32; 5]) -> Result<Saddle, (f32, u32)> {
     plain::solve(s, coefs).map_err(|det| (det, rules::why_refused(s, det)))
 }

@@ -5,7 +5,7 @@ use crate::lists::refine;
 use crate::random::Random;
 use crate::rust_or_rule::run;
 use crate::types::*;
-use crate::{any_ring, checked, pictures, plain, rules};
+use crate::{any_ring, calls, checked, pictures, plain, rules};
 
 type Lines = Vec<(String, bool)>;
 
@@ -14,6 +14,7 @@ pub fn all() -> Lines {
     response(&mut out);
     far_seeds(&mut out);
     refiner(&mut out);
+    refused_fits(&mut out);
     peaks(&mut out);
     merge(&mut out);
     gradient(&mut out);
@@ -332,6 +333,42 @@ fn refiner(out: &mut Lines) {
         "F13: the inverse with the last of equal pivots is the Rust's at radius 0 to 7; with the first it is not at radius 1",
         agrees(true) == [0, 1, 2, 3, 4, 5, 6, 7] && agrees(false) == [0, 2, 3, 4, 5, 6, 7],
     );
+}
+
+/// First fits that are refused: one status in the Rust, and the same as without
+/// an operator; by document 01 the test that fails first.
+fn refused_fits(out: &mut Lines) {
+    let base = Settings::default();
+    let open = Settings {
+        det_margin: 0.0,
+        min_abs_det: 0.0,
+        ..base
+    };
+    let blind = Settings {
+        min_abs_det: f32::MAX,
+        ..base
+    };
+    let none = Settings { radius: 0, ..base };
+    let bowl = pictures::surface(9, 9, [4, 4], [2, 0, 2, 0, 0], 1);
+    let flat = pictures::flat(9, 9, 7);
+    for (name, image, s, number) in [
+        ("a bowl", &bowl, base, 5),
+        (
+            "a saddle, min_abs_det above it",
+            &refine::exact_saddle(),
+            blind,
+            6,
+        ),
+        ("a flat picture, thresholds 0", &flat, open, 7),
+        ("radius 0", &flat, none, 3),
+    ] {
+        let seed = [4.0, 4.0];
+        let rust = plain::Refiner::new(&s, true).refine(image, seed);
+        let (ours, _, _) = calls::refine_one(image.into(), &s, seed, true);
+        let line = format!("F22: {name}: the Rust 3, document 01 {number}, with the same score");
+        let same = ours.score.to_bits() == rust.score.to_bits();
+        out.push((line, rust.status == 3 && ours.status == number && same));
+    }
 }
 
 /// A picture and a seed whose run converges after more than nine fits, the

@@ -3,7 +3,7 @@
 
 use crate::lists::{merge, refine, response};
 use crate::types::*;
-use crate::{plain, rules};
+use crate::{calls, plain, rules};
 
 /// Everything that was run: a line each, and whether it held.
 pub fn all() -> Vec<(String, bool)> {
@@ -49,9 +49,12 @@ pub fn all() -> Vec<(String, bool)> {
         }
         Err(det) => say(format!("P9: refused with {det}"), false),
     }
-    match plain::solve(&open, [0.0; 5]) {
+    match calls::solve(&open, [0.0; 5]) {
         Ok(fit) => say(format!("P10: fitted at {:?}", fit.u), false),
-        Err(det) => say(format!("P10: refused with {det}"), det.to_bits() == 0),
+        Err((det, why)) => say(
+            format!("P10: refused, {why}, with {det}"),
+            det.to_bits() == 0 && why == rules::NOT_FINITE,
+        ),
     }
     for (name, corners, kept) in merge::examples() {
         let answer = plain::merge(&corners, 2.0);

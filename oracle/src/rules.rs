@@ -4,7 +4,11 @@
 
 use crate::types::*;
 
+pub const ILL_CONDITIONED: u32 = 3;
 pub const BAD_SEED: u32 = 4;
+pub const ABOVE_MARGIN: u32 = 5;
+pub const TOO_SMALL: u32 = 6;
+pub const NOT_FINITE: u32 = 7;
 pub const BAD_IMAGE: u32 = 10;
 pub const BAD_RADIUS: u32 = 11;
 pub const BAD_LIMIT: u32 = 12;
@@ -278,15 +282,22 @@ pub fn inverse_normal(radius: i32, last_wins: bool) -> Option<[[f64; 6]; 6]> {
 
 // --- solve ------------------------------------------------------------------
 
-/// Which test of `solve` fails first on a refused determinant, by the numbers
-/// of W-205: 5 above the margin, 6 too small, 7 offset not finite.
+/// W-205: which test of `solve` fails first on a refused determinant.
 pub fn why_refused(s: &Settings, det: f32) -> u32 {
     if det > -s.det_margin {
-        5
+        ABOVE_MARGIN
     } else if det.abs() < s.min_abs_det {
-        6
+        TOO_SMALL
     } else {
-        7
+        NOT_FINITE
+    }
+}
+
+/// W-205: the number for a reader of the old ones.
+pub fn old_number(number: u32) -> u32 {
+    match number {
+        ABOVE_MARGIN | TOO_SMALL | NOT_FINITE => ILL_CONDITIONED,
+        _ => number,
     }
 }
 

@@ -84,7 +84,7 @@ impl Default for Settings {
     }
 }
 
-/// One seed's answer. Status 0 to 4, or a refusal number from 10 up with
+/// One seed's answer. Status 0 to 7, or a refusal number from 10 up with
 /// nothing else set.
 #[derive(Clone, Copy, Debug, Default)]
 pub struct Refined {

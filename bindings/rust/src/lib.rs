@@ -82,6 +82,7 @@ pub mod raw {
             state: *mut u32,
             covariance: *mut f32,
         ) -> u32;
+        pub fn chess_corners_old_number(number: u32) -> u32;
         pub fn chess_corners_refine_list(
             img: *const u8,
             img_len: usize,
@@ -266,8 +267,8 @@ pub struct Estimate {
     pub covariance: Option<[f32; 3]>,
 }
 
-/// What became of a seed. The seed's own place is the caller's; the scores are
-/// the determinant of the first fit, 0.0 without one.
+/// What became of a seed. The seed's own place is the caller's; the score of one
+/// that is not accepted is the determinant of the first fit.
 #[derive(Clone, Copy, Debug)]
 pub enum Refined {
     Accepted(Estimate),
@@ -275,11 +276,45 @@ pub enum Refined {
         score: f32,
     },
     OutOfBounds,
-    IllConditioned {
-        score: f32,
-    },
+    /// No fit operator: radius 0.
+    IllConditioned,
     /// x or y of the seed is NaN or infinite.
     BadSeed,
+    /// The determinant is above -det_margin: no saddle, or a faint one.
+    AboveMargin {
+        score: f32,
+    },
+    /// The determinant's magnitude is below min_abs_det.
+    TooSmall {
+        score: f32,
+    },
+    /// The place of the saddle is not finite.
+    NotFinite {
+        score: f32,
+    },
+}
+
+impl Refined {
+    /// The number that the call returned.
+    pub fn number(&self) -> u32 {
+        match self {
+            Refined::Accepted(_) => 0,
+            Refined::Rejected { .. } => 1,
+            Refined::OutOfBounds => 2,
+            Refined::IllConditioned => 3,
+            Refined::BadSeed => 4,
+            Refined::AboveMargin { .. } => 5,
+            Refined::TooSmall { .. } => 6,
+            Refined::NotFinite { .. } => 7,
+        }
+    }
+}
+
+/// The number for a reader that knows one for every refused fit: 5, 6 and 7 are
+/// 3, every other is itself.
+pub fn old_number(number: u32) -> u32 {
+    // SAFETY: a number goes in and a number comes out.
+    unsafe { raw::chess_corners_old_number(number) }
 }
 
 /// A board of rows by columns of squares; nothing is tested here.
@@ -426,8 +461,11 @@ fn told(
         })),
         1 => Ok(Refined::Rejected { score }),
         2 => Ok(Refined::OutOfBounds),
-        3 => Ok(Refined::IllConditioned { score }),
+        3 => Ok(Refined::IllConditioned),
         4 => Ok(Refined::BadSeed),
+        5 => Ok(Refined::AboveMargin { score }),
+        6 => Ok(Refined::TooSmall { score }),
+        7 => Ok(Refined::NotFinite { score }),
         _ => Err(Refusal::of(number)),
     }
 }
@@ -665,6 +703,57 @@ mod tests {
         }
         let far = ask(1, 1.5, [f32::MAX, 1.0]);
         assert!(matches!(far, Ok(Refined::OutOfBounds)));
+    }
+
+    #[test]
+    fn a_seed_has_its_number_and_score() {
+        for number in 0..=7 {
+            let seed = told(number, [1.0, 2.0, -3.0], [0; 3], [0.0; 3]).unwrap();
+            assert_eq!(seed.number(), number);
+            let score = match seed {
+                Refined::Accepted(Estimate { score, .. })
+                | Refined::Rejected { score }
+                | Refined::AboveMargin { score }
+                | Refined::TooSmall { score }
+                | Refined::NotFinite { score } => Some(score),
+                Refined::OutOfBounds | Refined::IllConditioned | Refined::BadSeed => None,
+            };
+            let without = [2, 3, 4].contains(&number);
+            assert_eq!(score, (!without).then_some(-3.0));
+        }
+        for number in [8, 9] {
+            let told = told(number, [0.0; 3], [0; 3], [0.0; 3]);
+            assert_eq!(told.err(), Some(Refusal::Other(number)));
+        }
+    }
+
+    /// Through the library: which test refuses a flat image, by the limits, and
+    /// what a reader of the old numbers gets of it.
+    #[test]
+    fn the_library_says_why_a_fit_is_refused() {
+        let image = Image {
+            bytes: &[9; 9],
+            width: 3,
+            height: 3,
+        };
+        let ask = |radius, det_margin, min_abs_det| {
+            let config = SaddlePointConfig {
+                radius,
+                det_margin,
+                max_offset: 1.5,
+                min_abs_det,
+            };
+            refine(image, config, [1.0, 1.0], false).map(|seed| seed.number())
+        };
+        assert_eq!(ask(1, 1e-3, 1e-4), Ok(5));
+        assert_eq!(ask(1, 0.0, 1e-4), Ok(6));
+        assert_eq!(ask(1, 0.0, 0.0), Ok(7));
+        assert_eq!(ask(0, 0.0, 0.0), Ok(3));
+        for number in 0..=40 {
+            let old = if (5..=7).contains(&number) { 3 } else { number };
+            assert_eq!(old_number(number), old);
+        }
+        assert_eq!(old_number(u32::MAX), u32::MAX);
     }
 
     /// Through the library: (2, 2) and (3, 2) have the same value.

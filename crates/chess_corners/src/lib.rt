@@ -1,5 +1,5 @@
 // The public face for C and Rust: one exported function a call, over numbers, references and slices. Each returns the number of docs/RULES.md, 0 where it is
-// done. Further answers are written where the number is 0; one seed's place and score with 1 to 3 too, and the place at fault with 33 and 34.
+// done. Further answers are written where the number is 0; one seed's place and score with 1 to 7 too, and the place at fault with 33 and 34.
 mod seed;
 
 use board::Tie;
@@ -11,6 +11,7 @@ use refine_list::Refinements;
 use response::Response;
 use response::Roi;
 pub use seed::chess_corners_fit_operator;
+pub use seed::chess_corners_old_number;
 pub use seed::chess_corners_refine;
 pub use seed::chess_corners_refine_with;
 ghost use Rattle.imageview.specs.Image.{imageOf, sizesOf};

@@ -7,7 +7,7 @@ use refine_seed::Estimate;
 use refine_seed::Refined;
 ghost use mathlib.Core.Path.{_≡_};
 ghost use Rattle.imageview.specs.Image.{imageOf, sizesOf};
-ghost use Rattle.refine_seed.specs.Refine.{refineLent, refineOf};
+ghost use Rattle.refine_seed.specs.Refine.{refineLent, refineOf, oldNumber};
 ghost use Rattle.refine_seed.specs.declared.Refined.the-variants.{Accepted};
 ghost use Rattle.chess_corners.specs.Seed.{settings, asked, flag, Told, Operating};
 
@@ -78,6 +78,14 @@ pub extern "C" fn chess_corners_refine_with(
         overlap,
     );
     tell(answer, x, y, place, state, covariance)
+}
+
+// The number that stood for a seed's number while a refused fit had one: 3 for 5, 6 and 7, every other for itself.
+#[no_mangle]
+pub extern "C" fn chess_corners_old_number(number: u32) -> u32
+    ensures { λ r. ⌜ r ≡ oldNumber number ⌝ }
+{
+    refine_seed::old_number(number)
 }
 
 // Builds the operator of a radius; 0, 3 where there is none (radius 0), or 11.

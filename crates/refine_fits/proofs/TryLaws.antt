@@ -9,6 +9,7 @@ use Rattle.floats.specs.Magnitude.{magnitude}
 use Rattle.imageview.specs.Image.{Image}
 use Rattle.refine_formulas.specs.declared.SaddlePointConfig.{SaddlePointConfig}
 use Rattle.refine_formulas.specs.declared.PatchSaddle.{PatchSaddle}
+use Rattle.refine_formulas.specs.declared.Flaw.{Flaw}
 use Rattle.refine_formulas.specs.declared.Solved.{Solved}
 use Rattle.refine_formulas.specs.declared.Solved.the-variants.{Refused, Saddle}
 use Rattle.refine_formulas.specs.declared.Corners.{Corners}
@@ -48,8 +49,8 @@ module _ (cfg : SaddlePointConfig) (seed : Seed) (f : PatchSaddle) (ox oy : Floa
   unfolding nearSeed
   by-saddle g e img columns w p q = by-solved img columns w p q ∙ ap (λ (v : Solved). judged (taskAt img columns cfg seed) f ox oy w c v) e
 
-  pub refused : (d : Float) → s ≡ Refused d → Weighs cfg seed f ox oy c tx ty (record { taken = false; fit = f })
-  refused d e = record { is = λ img columns w p q. by-solved img columns w p q ∙ ap (λ (v : Solved). judged (taskAt img columns cfg seed) f ox oy w c v) e }
+  pub refused : (flaw : Flaw) (d : Float) → s ≡ Refused flaw d → Weighs cfg seed f ox oy c tx ty (record { taken = false; fit = f })
+  refused flaw d e = record { is = λ img columns w p q. by-solved img columns w p q ∙ ap (λ (v : Solved). judged (taskAt img columns cfg seed) f ox oy w c v) e }
 
   module _ (g : PatchSaddle) (n m : Float) (new : n ≡ norm2 g) (old : m ≡ norm2 f) (is : s ≡ Saddle g) where
     less : lt n m ≡ lt (norm2 g) (norm2 f)

@@ -55,7 +55,7 @@ pub data Tried : Type 0 where
   taken : Stand → Tried
 
 abbrev pub judged : Task → PatchSaddle → Float → Float → WindowPlace → Corners → Solved → Tried
-judged t f ox oy w c (Refused det) = passed
+judged t f ox oy w c (Refused flaw det) = passed
 judged t f ox oy w c (Saddle g) =
     cond (lt (norm2 g) (norm2 f) && nearSeed t (ox ⊕ g .ux) (oy ⊕ g .uy)) (taken (record { ox = ox; oy = oy; place = w; corners = c; fit = g })) passed
 

@@ -68,7 +68,7 @@ fn weigh(
 {
     let solved = solve::solve(cfg, between::blend(corners, tx, ty));
     match solved {
-        Solved::Refused(_) => Weighed {
+        Solved::Refused(_, _) => Weighed {
             taken: false,
             fit: f,
         },

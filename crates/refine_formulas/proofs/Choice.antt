@@ -1,17 +1,15 @@
--- Which way a choice by two tests goes, once the tests are known.
+-- Which way a choice goes, once its tests are known.
 use mathlib.Core.Path.{_≡_, sym, ap, _∙_}
-use mathlib.Core.Bool.{Bool, true, false, _&&_, _||_, cond}
+use mathlib.Core.Bool.{Bool, true, false, _&&_, cond}
+
+module _ {X : Type 0} (p : Bool) (x y : X) where
+  pub where-true : p ≡ true → x ≡ cond p x y
+  where-true h = ap (λ (z : Bool). cond z x y) (sym h)
+
+  pub where-false : p ≡ false → y ≡ cond p x y
+  where-false h = ap (λ (z : Bool). cond z x y) (sym h)
 
 module _ {X : Type 0} (p q : Bool) (x y : X) where
-  pub or-first : p ≡ true → x ≡ cond (p || q) x y
-  or-first h = ap (λ (z : Bool). cond (z || q) x y) (sym h)
-
-  pub or-second : p ≡ false → q ≡ true → x ≡ cond (p || q) x y
-  or-second h g = ap (λ (z : Bool). cond z x y) (sym g) ∙ ap (λ (z : Bool). cond (z || q) x y) (sym h)
-
-  pub or-neither : p ≡ false → q ≡ false → y ≡ cond (p || q) x y
-  or-neither h g = ap (λ (z : Bool). cond z x y) (sym g) ∙ ap (λ (z : Bool). cond (z || q) x y) (sym h)
-
   pub and-both : p ≡ true → q ≡ true → x ≡ cond (p && q) x y
   and-both h g = ap (λ (z : Bool). cond z x y) (sym g) ∙ ap (λ (z : Bool). cond (z && q) x y) (sym h)
 

@@ -1,6 +1,6 @@
 -- The ways out of `solve`, by its four tests; and that an accepted saddle has a determinant below zero and a score above it.
 use mathlib.Core.Path.{_≡_, refl, sym, ap, _∙_, subst}
-use mathlib.Core.Bool.{Bool, true, false, _&&_, _||_, cond, false≢true}
+use mathlib.Core.Bool.{Bool, true, false, _&&_, cond, false≢true}
 use Prim.Native.Nat.{ℕ, zero, suc, _+_, _*_, _<_}
 use native.Mathlib.Nat.{mul-pos, zero-mul, not-suc-le-zero}
 use native.Mathlib.Omega.{arith}
@@ -18,10 +18,12 @@ use Rattle.floats.proofs.NearestRoots.{sqrt-nearest}
 use Rattle.shapes.specs.Numbers.{plusZero, one, entry}
 use Rattle.refine_formulas.specs.declared.SaddlePointConfig.{SaddlePointConfig}
 use Rattle.refine_formulas.specs.declared.PatchSaddle.{PatchSaddle}
+use Rattle.refine_formulas.specs.declared.Flaw.{Flaw}
+use Rattle.refine_formulas.specs.declared.Flaw.the-variants.{AboveMargin, TooSmall, NotFinite}
 use Rattle.refine_formulas.specs.declared.Solved.the-variants.{Refused, Saddle}
 use Rattle.refine_formulas.specs.Numbers.{_⊗_, _⊘_, four}
-use Rattle.refine_formulas.specs.Solve.{determinant, offsetX, offsetY, saddleOf, solvedFrom, solve, goodLimit, scoreOf}
-use Rattle.refine_formulas.proofs.Choice.{or-first, or-second, or-neither, and-both, and-first, and-second}
+use Rattle.refine_formulas.specs.Solve.{determinant, aboveMargin, tooSmall, offsetX, offsetY, saddleOf, solvedFrom, solve, goodLimit, scoreOf}
+use Rattle.refine_formulas.proofs.Choice.{where-true, where-false, and-both, and-first, and-second}
 
 abbrev pub detOf : List Float → Float
 detOf l = determinant (entry l 0) (entry l 1) (entry l 2)
@@ -33,28 +35,31 @@ abbrev pub uyOf : List Float → Float
 uyOf l = offsetY l (one ⊘ detOf l)
 
 module _ (cfg : SaddlePointConfig) (l : List Float) where
-  pub above-margin : lt (neg (cfg .«det_margin»)) (detOf l) ≡ true → Refused (detOf l) ≡ solve cfg l
+  pub above-margin : aboveMargin cfg (detOf l) ≡ true → Refused AboveMargin (detOf l) ≡ solve cfg l
   unfolding solve
-  above-margin h = or-first _ _ _ _ h
+  above-margin h = where-true _ _ _ h
 
   -- m is the magnitude that was computed, and p and q the tests of the offsets
-  module _ (m : Float) (e : m ≡ magnitude (detOf l)) (h : lt (neg (cfg .«det_margin»)) (detOf l) ≡ false) where
-    pub too-small : lt m (cfg .«min_abs_det») ≡ true → Refused (detOf l) ≡ solve cfg l
+  module _ (m : Float) (e : m ≡ magnitude (detOf l)) (h : aboveMargin cfg (detOf l) ≡ false) where
+    small : (b : Bool) → lt m (cfg .«min_abs_det») ≡ b → tooSmall cfg (detOf l) ≡ b
+    small b g = ap (λ (z : Float). lt z (cfg .«min_abs_det»)) (sym e) ∙ g
+
+    pub too-small : lt m (cfg .«min_abs_det») ≡ true → Refused TooSmall (detOf l) ≡ solve cfg l
     unfolding solve
-    too-small g = or-second _ _ _ _ h (ap (λ (z : Float). lt z (cfg .«min_abs_det»)) (sym e) ∙ g)
+    too-small g = where-true _ _ _ (small true g) ∙ where-false _ _ _ h
 
-    not-flat : lt m (cfg .«min_abs_det») ≡ false → solvedFrom l (detOf l) (uxOf l) (uyOf l) ≡ solve cfg l
+    not-refused : lt m (cfg .«min_abs_det») ≡ false → solvedFrom l (detOf l) (uxOf l) (uyOf l) ≡ solve cfg l
     unfolding solve
-    not-flat g = or-neither _ _ _ _ h (ap (λ (z : Float). lt z (cfg .«min_abs_det»)) (sym e) ∙ g)
+    not-refused g = where-false _ _ _ (small false g) ∙ where-false _ _ _ h
 
-    pub endless-x : lt m (cfg .«min_abs_det») ≡ false → (p : Bool) → p ≡ finite (uxOf l) → p ≡ false → Refused (detOf l) ≡ solve cfg l
-    endless-x g p i n = and-first _ _ _ _ (sym i ∙ n) ∙ not-flat g
+    pub endless-x : lt m (cfg .«min_abs_det») ≡ false → (p : Bool) → p ≡ finite (uxOf l) → p ≡ false → Refused NotFinite (detOf l) ≡ solve cfg l
+    endless-x g p i n = and-first _ _ _ _ (sym i ∙ n) ∙ not-refused g
 
-    pub endless-y : lt m (cfg .«min_abs_det») ≡ false → (p : Bool) → p ≡ finite (uxOf l) → p ≡ true → (q : Bool) → q ≡ finite (uyOf l) → q ≡ false → Refused (detOf l) ≡ solve cfg l
-    endless-y g p i n q j o = and-second _ _ _ _ (sym i ∙ n) (sym j ∙ o) ∙ not-flat g
+    pub endless-y : lt m (cfg .«min_abs_det») ≡ false → (p : Bool) → p ≡ finite (uxOf l) → p ≡ true → (q : Bool) → q ≡ finite (uyOf l) → q ≡ false → Refused NotFinite (detOf l) ≡ solve cfg l
+    endless-y g p i n q j o = and-second _ _ _ _ (sym i ∙ n) (sym j ∙ o) ∙ not-refused g
 
     pub saddle : lt m (cfg .«min_abs_det») ≡ false → (p : Bool) → p ≡ finite (uxOf l) → p ≡ true → (q : Bool) → q ≡ finite (uyOf l) → q ≡ true → Saddle (saddleOf l (detOf l) (uxOf l) (uyOf l)) ≡ solve cfg l
-    saddle g p i n q j o = and-both _ _ _ _ (sym i ∙ n) (sym j ∙ o) ∙ not-flat g
+    saddle g p i n q j o = and-both _ _ _ _ (sym i ∙ n) (sym j ∙ o) ∙ not-refused g
 
 -- ---- the sign of an accepted determinant
 record Accepted (p a : Bool) (s f : PatchSaddle) : Type 0 where
@@ -62,16 +67,16 @@ record Accepted (p a : Bool) (s f : PatchSaddle) : Type 0 where
   ends : a ≡ true
   is : s ≡ f
 
-clash : {X : Type 0} (d : Float) (f : PatchSaddle) → Refused d ≡ Saddle f → X
-clash d f e = absurd (let z : _≡_ {A = ℕ} 0 1 = cc in omega arith)
+clash : {X : Type 0} (v : Flaw) (d : Float) (f : PatchSaddle) → Refused v d ≡ Saddle f → X
+clash v d f e = absurd (let z : _≡_ {A = ℕ} 0 1 = cc in omega arith)
 
 -- what was tested where the answer is a saddle
-accepted : (p q a b : Bool) (d : Float) (s f : PatchSaddle) → cond (p || q) (Refused d) (cond (a && b) (Saddle s) (Refused d)) ≡ Saddle f → Accepted p a s f
-accepted true q a b d s f e = clash d f e
-accepted false true a b d s f e = clash d f e
+accepted : (p q a b : Bool) (d : Float) (s f : PatchSaddle) → cond p (Refused AboveMargin d) (cond q (Refused TooSmall d) (cond (a && b) (Saddle s) (Refused NotFinite d))) ≡ Saddle f → Accepted p a s f
+accepted true q a b d s f e = clash AboveMargin d f e
+accepted false true a b d s f e = clash TooSmall d f e
 accepted false false true true d s f e = record { under = refl; ends = refl; is = cc }
-accepted false false true false d s f e = clash d f e
-accepted false false false b d s f e = clash d f e
+accepted false false true false d s f e = clash NotFinite d f e
+accepted false false false b d s f e = clash NotFinite d f e
 
 -- nothing times a NaN or an infinity is finite
 times-nan : (y : Float) → finite (y ⊗ nan) ≡ false
@@ -121,9 +126,9 @@ below-zero (fin true zero d) (fin false (suc n) e) y g h k = absurd (false≢tru
     over d n e = lt-ltb _ _ (subst (λ (z : ℕ). z < suc n * up e * down d) (sym (ap (λ (z : ℕ). z * down e) (zero-mul (up d)) ∙ zero-mul (down e))) (scaled n e (down d) (down-pos d)))
 below-zero (fin true (suc a) d) (fin false (suc n) e) y g h k = absurd (false≢true (sym (not-true _ g) ∙ some (suc a * up d * 1) (0 * 1 * down d) (scaled a d 1 (omega arith))))
 
-tested : (cfg : SaddlePointConfig) (l : List Float) (f : PatchSaddle) → solve cfg l ≡ Saddle f → Accepted (lt (neg (cfg .«det_margin»)) (detOf l)) (finite (uxOf l)) (saddleOf l (detOf l) (uxOf l) (uyOf l)) f
+tested : (cfg : SaddlePointConfig) (l : List Float) (f : PatchSaddle) → solve cfg l ≡ Saddle f → Accepted (aboveMargin cfg (detOf l)) (finite (uxOf l)) (saddleOf l (detOf l) (uxOf l) (uyOf l)) f
 unfolding solve
-tested cfg l f e = accepted _ (lt (magnitude (detOf l)) (cfg .«min_abs_det»)) _ (finite (uyOf l)) (detOf l) _ f e
+tested cfg l f e = accepted _ (tooSmall cfg (detOf l)) _ (finite (uyOf l)) (detOf l) _ f e
 
 -- an accepted saddle's determinant is below zero
 pub det-below-zero : (cfg : SaddlePointConfig) (l : List Float) (f : PatchSaddle) → goodLimit (cfg .«det_margin») ≡ true → solve cfg l ≡ Saddle f → lt (f .«det_h») plusZero ≡ true

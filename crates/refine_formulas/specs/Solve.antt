@@ -1,5 +1,6 @@
--- The saddle of a fitted quadratic, or the determinant where it is refused: above minus the margin, too small, or with an offset that is not finite.
-use mathlib.Core.Bool.{Bool, _&&_, _||_, not, cond}
+-- The saddle of a fitted quadratic, or the first test that it did not pass and the determinant: above minus the margin, too small, or an offset that is not finite.
+-- A NaN determinant passes the first two, as no comparison with it holds, and not the third.
+use mathlib.Core.Bool.{Bool, _&&_, not, cond}
 use mathlib.Core.List.{List}
 use lib.Ieee.{Float, binary32, ofBits, lt, neg}
 use lib.Ieee.Scale.{finite}
@@ -8,6 +9,7 @@ use Rattle.floats.specs.Root.{sqrt}
 use Rattle.shapes.specs.Numbers.{plusZero, one, entry}
 use Rattle.refine_formulas.specs.declared.SaddlePointConfig.{SaddlePointConfig}
 use Rattle.refine_formulas.specs.declared.PatchSaddle.{PatchSaddle}
+use Rattle.refine_formulas.specs.declared.Flaw.the-variants.{AboveMargin, TooSmall, NotFinite}
 use Rattle.refine_formulas.specs.declared.Solved.{Solved}
 use Rattle.refine_formulas.specs.declared.Solved.the-variants.{Refused, Saddle}
 use Rattle.refine_formulas.specs.Numbers.{_⊕_, _⊖_, _⊗_, _⊘_, two, four}
@@ -17,8 +19,11 @@ abbrev pub determinant : Float → Float → Float → Float
 determinant a b c = four ⊗ a ⊗ c ⊖ b ⊗ b
 
 -- a tie at a limit is not refused
-abbrev pub flat : SaddlePointConfig → Float → Bool
-flat cfg det = lt (neg (cfg .«det_margin»)) det || lt (magnitude det) (cfg .«min_abs_det»)
+abbrev pub aboveMargin : SaddlePointConfig → Float → Bool
+aboveMargin cfg det = lt (neg (cfg .«det_margin»)) det
+
+abbrev pub tooSmall : SaddlePointConfig → Float → Bool
+tooSmall cfg det = lt (magnitude det) (cfg .«min_abs_det»)
 
 abbrev pub offsetX : List Float → Float → Float
 offsetX l inv = neg (two ⊗ entry l 2 ⊗ entry l 3 ⊖ entry l 1 ⊗ entry l 4) ⊗ inv
@@ -30,13 +35,15 @@ abbrev pub saddleOf : List Float → Float → Float → Float → PatchSaddle
 saddleOf l det x y = record { ux = x; uy = y; a = entry l 0; b = entry l 1; c = entry l 2; «det_h» = det }
 
 abbrev pub solvedFrom : List Float → Float → Float → Float → Solved
-solvedFrom l det x y = cond (finite x && finite y) (Saddle (saddleOf l det x y)) (Refused det)
+solvedFrom l det x y = cond (finite x && finite y) (Saddle (saddleOf l det x y)) (Refused NotFinite det)
 
 unfoldable pub solve : SaddlePointConfig → List Float → Solved
 solve cfg l =
     let det = determinant (entry l 0) (entry l 1) (entry l 2) in
     let inv = one ⊘ det in
-    cond (flat cfg det) (Refused det) (solvedFrom l det (offsetX l inv) (offsetY l inv))
+    cond (aboveMargin cfg det) (Refused AboveMargin det)
+    (cond (tooSmall cfg det) (Refused TooSmall det)
+    (solvedFrom l det (offsetX l inv) (offsetY l inv)))
 
 -- the root of minus the determinant
 abbrev pub scoreOf : PatchSaddle → Float

@@ -23,9 +23,16 @@ pub struct PatchSaddle {
     pub det_h: f32,
 }
 
-// What solving a fit gives: the determinant where it is refused.
+// Why a fit is refused: the first test that it did not pass.
+pub enum Flaw {
+    AboveMargin,
+    TooSmall,
+    NotFinite,
+}
+
+// What solving a fit gives: why and the determinant where it is refused.
 pub enum Solved {
-    Refused(f32),
+    Refused(Flaw, f32),
     Saddle(PatchSaddle),
 }
 

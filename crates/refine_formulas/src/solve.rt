@@ -1,4 +1,5 @@
 // The saddle of a fitted quadratic, and how near the window's centre it lies.
+use super::Flaw;
 use super::PatchSaddle;
 use super::SaddlePointConfig;
 use super::Solved;
@@ -16,10 +17,10 @@ pub fn solve(cfg: SaddlePointConfig, coefs: [f32; 5]) -> Solved
     let e = coefs[4];
     let det = 4.0 * a * c - b * b;
     if -cfg.det_margin < det {
-        return Solved::Refused(det);
+        return Solved::Refused(Flaw::AboveMargin, det);
     }
     if floats::magnitude_f32(det) < cfg.min_abs_det {
-        return Solved::Refused(det);
+        return Solved::Refused(Flaw::TooSmall, det);
     }
     let inv = 1.0 / det;
     let ux = -(2.0 * c * d - b * e) * inv;
@@ -36,7 +37,7 @@ pub fn solve(cfg: SaddlePointConfig, coefs: [f32; 5]) -> Solved
             });
         }
     }
-    Solved::Refused(det)
+    Solved::Refused(Flaw::NotFinite, det)
 }
 
 // |u|².

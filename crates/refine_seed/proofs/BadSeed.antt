@@ -10,6 +10,8 @@ use Rattle.imageview.specs.Image.{Image, isImage}
 use Rattle.imageview.specs.Patch.{supportsPatch}
 use Rattle.refine_operator.specs.Call as Operator
 use Rattle.refine_formulas.specs.declared.SaddlePointConfig.{SaddlePointConfig}
+use Rattle.refine_formulas.specs.declared.Flaw.{Flaw}
+use Rattle.refine_formulas.specs.declared.Flaw.the-variants.{AboveMargin, TooSmall, NotFinite}
 use Rattle.refine_formulas.specs.declared.Solved.{Solved}
 use Rattle.refine_formulas.specs.declared.Solved.the-variants.{Refused, Saddle}
 use Rattle.refine_formulas.specs.Solve.{solve}
@@ -20,7 +22,7 @@ use Rattle.refine_seed.specs.declared.Admitted.{Admitted}
 use Rattle.refine_seed.specs.declared.Estimate.{Estimate}
 use Rattle.refine_seed.specs.declared.Refined.{Refined}
 use Rattle.refine_seed.specs.declared.Refined.the-variants.{Accepted, Unmoved}
-use Rattle.refine_seed.specs.declared.Why.the-variants.{Rejected, IllConditioned, BadSeed}
+use Rattle.refine_seed.specs.declared.Why.the-variants.{Rejected, IllConditioned, BadSeed, Flawed}
 use Rattle.refine_seed.specs.Run.{runOf}
 use Rattle.refine_seed.specs.Refine.{goodLimits, isPlace, centreOf, seedOf, admitOf, answered, finished, fromSaddle, refineWith, withOperator, lentWith, refineOf, refineLent, numberOf}
 use Rattle.refine_seed.specs.Claims.{Usable, FourExactly, BadSeedExactly, LentBadSeedExactly}
@@ -44,8 +46,13 @@ ill d h = omega arith
 rejected : (d : Float) → NotFour (Unmoved Rejected d)
 rejected d h = omega arith
 
+flawed : (flaw : Flaw) (d : Float) → NotFour (Unmoved (Flawed flaw) d)
+flawed AboveMargin d h = omega arith
+flawed TooSmall d h = omega arith
+flawed NotFinite d h = omega arith
+
 from-saddle : (t : Task) (overlap : List Float) (wanted : Bool) (v : Solved) → NotFour (fromSaddle t overlap wanted v)
-from-saddle t overlap wanted (Refused d) = ill d
+from-saddle t overlap wanted (Refused flaw d) = flawed flaw d
 from-saddle t overlap wanted (Saddle f) = either (nearSeed t (f .ux) (f .uy)) (Accepted (finished t overlap wanted f (runOf t f))) (Unmoved Rejected (f .«det_h»)) (accepted (finished t overlap wanted f (runOf t f))) (rejected (f .«det_h»))
 
 with-fit : (img : Image) (cfg : SaddlePointConfig) (seed : Seed) (wanted : Bool) (columns overlap : List Float) → NotFour (refineWith img cfg seed wanted columns overlap)

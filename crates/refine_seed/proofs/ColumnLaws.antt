@@ -87,7 +87,7 @@ module _ (p q : Image) (a b : List Float) (cfg : SaddlePointConfig) (cx cy : ℤ
   judged-same f ox oy w (four c) = by (solve cfg (blend c (w .tx) (w .ty)))
     where
       by : (s : Solved) → judged ta f ox oy w c s ≡ judged tb f ox oy w c s
-      by (Refused d) = refl
+      by (Refused flaw d) = refl
       by (Saddle g) = refl
 
   candidate-same : (f : PatchSaddle) (ox oy : Float) → candidate ta f ox oy ≡ candidate tb f ox oy
@@ -134,7 +134,7 @@ module _ (p q : Image) (a b : List Float) (cfg : SaddlePointConfig) (cx cy : ℤ
 
   pub saddle-same : (overlap : List Float) (wanted : Bool) (s : Solved) → fromSaddle ta overlap wanted s ≡ fromSaddle tb overlap wanted s
   unfolding nearSeed
-  saddle-same overlap wanted (Refused d) = refl
+  saddle-same overlap wanted (Refused flaw d) = refl
   saddle-same overlap wanted (Saddle f) =
       ap (λ (e : Estimate). cond (nearSeed ta (f .ux) (f .uy)) (Accepted e) (Unmoved Rejected (f .«det_h»)))
       (ap (λ (e : Finish). finished ta overlap wanted f e) (run-same f) ∙ finished-same overlap wanted f (runOf tb f))

@@ -22,6 +22,7 @@ use Rattle.refine_formulas.specs.declared.SaddlePointConfig.{SaddlePointConfig}
 use Rattle.refine_formulas.specs.declared.PatchSaddle.{PatchSaddle}
 use Rattle.refine_fits.specs.declared.Seed.{Seed}
 use Rattle.refine_seed.specs.declared.Estimate.{Estimate}
+use Rattle.refine_formulas.specs.declared.Flaw.{Flaw}
 use Rattle.refine_formulas.specs.declared.Solved.{Solved}
 use Rattle.refine_formulas.specs.declared.Solved.the-variants as Solved
 use Rattle.refine_formulas.specs.declared.Solved.the-variants.{Saddle}
@@ -29,7 +30,7 @@ use Rattle.refine_seed.specs.declared.Admitted.{Admitted}
 use Rattle.refine_seed.specs.declared.Admitted.the-variants as Admitted
 use Rattle.refine_seed.specs.declared.Refined.{Refined}
 use Rattle.refine_seed.specs.declared.Refined.the-variants.{Accepted, Unmoved}
-use Rattle.refine_seed.specs.declared.Why.the-variants.{Rejected, OutOfBounds, IllConditioned, BadSeed}
+use Rattle.refine_seed.specs.declared.Why.the-variants.{Rejected, OutOfBounds, BadSeed, Flawed}
 use Rattle.refusals.specs.declared.Refusal.the-variants.{BadImage, BadRadius, BadLimit}
 use Rattle.refine_operator.specs.Call as Operator
 use Rattle.refine_formulas.specs.Solve.{solve}
@@ -159,8 +160,8 @@ module _ (img : Image) (columns overlap : List Float) (cfg : SaddlePointConfig) 
   by-solved : (v : Solved) → s ≡ v → whole ≡ fromSaddle task overlap wanted v
   by-solved v e = ap (λ (l : List Float). fromSaddle task overlap wanted (solve cfg l)) (sym fit) ∙ ap (λ (u : Solved). fromSaddle task overlap wanted u) (sym solved ∙ e)
 
-  pub seed-refused : (d : Float) → s ≡ Solved.Refused d → Unmoved IllConditioned d ≡ whole
-  seed-refused d e = sym (by-solved (Solved.Refused d) e)
+  pub seed-refused : (flaw : Flaw) (d : Float) → s ≡ Solved.Refused flaw d → Unmoved (Flawed flaw) d ≡ whole
+  seed-refused flaw d e = sym (by-solved (Solved.Refused flaw d) e)
 
   pub seed-accepted : (f : PatchSaddle) (b : Bool) (r : Estimate) → s ≡ Saddle f → b ≡ near f → b ≡ true → r ≡ finished task overlap wanted f (runOf task f) → Accepted r ≡ whole
   unfolding nearSeed

@@ -8,4 +8,5 @@ pub mod SpotLaws
 pub mod LentLaws
 pub mod Theorems
 pub mod BadSeed
+pub mod Before
 pub mod PixelsAlone

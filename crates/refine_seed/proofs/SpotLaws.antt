@@ -13,6 +13,7 @@ use Rattle.refine_formulas.specs.declared.SaddlePointConfig.{SaddlePointConfig}
 use Rattle.refine_formulas.specs.declared.PatchSaddle.{PatchSaddle}
 use Rattle.refine_formulas.specs.declared.Slope.{Slope}
 use Rattle.refine_fits.specs.declared.Seed.{Seed}
+use Rattle.refine_formulas.specs.declared.Flaw.{Flaw}
 use Rattle.refine_formulas.specs.declared.Solved.{Solved}
 use Rattle.refine_formulas.specs.declared.Solved.the-variants.{Refused, Saddle}
 use Rattle.refine_formulas.specs.declared.Covariance.{Covariance}
@@ -100,8 +101,8 @@ module _ (img : Image) (columns : List Float) (cfg : SaddlePointConfig) (seed : 
   abbrev answer : List Float → Bool → Refined
   answer overlap wanted = fromSaddle (taskAt img columns cfg seed) overlap wanted (solve cfg coef)
 
-  pub lands-refused : (d : Float) → s ≡ Refused d → Lands answer Nowhere
-  lands-refused d e = record { is = λ overlap wanted. ap spotOf (seed-refused img columns overlap cfg seed wanted here coef s fit solved d e) }
+  pub lands-refused : (flaw : Flaw) (d : Float) → s ≡ Refused flaw d → Lands answer Nowhere
+  lands-refused flaw d e = record { is = λ overlap wanted. ap spotOf (seed-refused img columns overlap cfg seed wanted here coef s fit solved flaw d e) }
 
   pub lands-accepted : (f : PatchSaddle) (b : Bool) (r : Spot) → s ≡ Saddle f → b ≡ near f → b ≡ true → Comes (taskAt img columns cfg seed) f r → Lands answer r
   lands-accepted f b r e n h k = record { is = λ overlap wanted. k .is overlap wanted ∙ ap spotOf (seed-accepted img columns overlap cfg seed wanted here coef s fit solved f b (finished (taskAt img columns cfg seed) overlap wanted f (runOf (taskAt img columns cfg seed) f)) e n h refl) }

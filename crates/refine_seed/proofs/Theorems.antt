@@ -54,7 +54,7 @@ module _ (t : Task) where
   by-fits f ox oy w (four c) = by-solved (solve (t .cfg) (blend c (w .tx) (w .ty))) refl
     where
       by-solved : (v : Solved) → solve (t .cfg) (blend c (w .tx) (w .ty)) ≡ v → OfTried t (judged t f ox oy w c v)
-      by-solved (Refused d) e = tt
+      by-solved (Refused flaw d) e = tt
       by-solved (Saddle g) e = by-tests f g ox oy w (record { ox = ox; oy = oy; place = w; corners = c; fit = g }) (lt (norm2 g) (norm2 f) && nearSeed t (ox ⊕ g .ux) (oy ⊕ g .uy)) (record { fit = blend c (w .tx) (w .ty); is = e }) refl
 
   candidate-boxed : (f : PatchSaddle) (ox oy : Float) → OfTried t (candidate t f ox oy)
@@ -162,7 +162,7 @@ module _ (t : Task) (overlap : List Float) (wanted : Bool) (good : goodLimit (t 
   by-box false e d p = tt
 
   saddle-sound : (v : Solved) (l : List Float) → solve (t .cfg) l ≡ v → Answers (fromSaddle t overlap wanted v)
-  saddle-sound (Refused d) l e = tt
+  saddle-sound (Refused flaw d) l e = tt
   saddle-sound (Saddle f) l e = by-box (nearSeed t (f .ux) (f .uy)) (finished t overlap wanted f (runOf t f)) (f .«det_h») (finished-sound f (runOf t f) (record { fit = l; is = e }) (boxed t f))
 
 -- ---- with the tests before it

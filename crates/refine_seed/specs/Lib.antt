@@ -7,3 +7,4 @@ pub mod Claims
 pub mod StepsEnding
 pub mod Spot
 pub mod StepsSpot
+pub mod Before

@@ -15,6 +15,8 @@ use Rattle.imageview.specs.Patch.{supportsPatch}
 use Rattle.refine_operator.specs.Call as Operator
 use Rattle.refine_formulas.specs.declared.SaddlePointConfig.{SaddlePointConfig}
 use Rattle.refine_formulas.specs.declared.PatchSaddle.{PatchSaddle}
+use Rattle.refine_formulas.specs.declared.Flaw.{Flaw}
+use Rattle.refine_formulas.specs.declared.Flaw.the-variants.{AboveMargin, TooSmall, NotFinite}
 use Rattle.refine_formulas.specs.declared.Solved.{Solved}
 use Rattle.refine_formulas.specs.declared.Solved.the-variants as Solved
 use Rattle.refine_formulas.specs.declared.Solved.the-variants.{Saddle}
@@ -27,7 +29,7 @@ use Rattle.refine_formulas.specs.declared.Covariance.the-variants.{Unknown}
 use Rattle.refine_seed.specs.declared.Refined.{Refined}
 use Rattle.refine_seed.specs.declared.Refined.the-variants.{Accepted, Unmoved, Refused}
 use Rattle.refine_seed.specs.declared.Why.{Why}
-use Rattle.refine_seed.specs.declared.Why.the-variants.{Rejected, OutOfBounds, IllConditioned, BadSeed}
+use Rattle.refine_seed.specs.declared.Why.the-variants.{Rejected, OutOfBounds, IllConditioned, BadSeed, Flawed}
 use Rattle.refine_seed.specs.declared.Admitted.{Admitted}
 use Rattle.refine_seed.specs.declared.Admitted.the-variants as Admitted
 use Rattle.refusals.specs.declared.Refusal.the-variants.{BadImage, BadRadius, BadLimit}
@@ -105,7 +107,7 @@ answered (Admitted.Refused r) go = Refused r
 
 -- ---- the first fit decides
 abbrev pub fromSaddle : Task → List Float → Bool → Solved → Refined
-fromSaddle t overlap wanted (Solved.Refused det) = Unmoved IllConditioned det
+fromSaddle t overlap wanted (Solved.Refused flaw det) = Unmoved (Flawed flaw) det
 fromSaddle t overlap wanted (Saddle f) = cond (nearSeed t (f .ux) (f .uy)) (Accepted (finished t overlap wanted f (runOf t f))) (Unmoved Rejected (f .«det_h»))
 
 -- a seed that passed its tests, with an operator
@@ -131,16 +133,26 @@ unfoldable pub refineOf : Image → SaddlePointConfig → Float → Float → Bo
 refineOf img cfg x y wanted = answered (admitOf img cfg x y) (λ seed. withOperator img cfg seed wanted (Operator.wayOf (cfg .radius)))
 
 -- ---- the number, place and score of each case; a refusal from 10 up has nothing else
+abbrev pub flawNumber : Flaw → ℕ
+flawNumber AboveMargin = 5
+flawNumber TooSmall = 6
+flawNumber NotFinite = 7
+
 abbrev pub whyNumber : Why → ℕ
 whyNumber Rejected = 1
 whyNumber OutOfBounds = 2
 whyNumber IllConditioned = 3
 whyNumber BadSeed = 4
+whyNumber (Flawed flaw) = flawNumber flaw
 
 abbrev pub numberOf : Refined → ℕ
 numberOf (Accepted e) = 0
 numberOf (Unmoved why score) = whyNumber why
 numberOf (Refused r) = Refusals.numberOf r
+
+-- the number that stood for a number while every refused fit had 3
+abbrev pub oldNumber : ℕ → ℕ
+oldNumber n = cond (leb 5 n && leb n 7) 3 n
 
 pub data Values : Type 0 where
   nothing : Values

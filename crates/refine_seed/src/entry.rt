@@ -7,6 +7,7 @@ use imageview::Sizes;
 use refine_fits::Seed;
 use refine_fits::fits;
 use refine_fits::tries;
+use refine_formulas::Flaw;
 use refine_formulas::SaddlePointConfig;
 use refine_formulas::Solved;
 use refine_formulas::solve;
@@ -15,7 +16,7 @@ use refusals::Refusal;
 ghost use mathlib.Core.Path.{_≡_};
 ghost use Rattle.imageview.specs.Image.{imageOf};
 ghost use Rattle.refine_formulas.specs.Solve.{goodLimit};
-ghost use Rattle.refine_seed.specs.Refine.{goodLimits, isPlace, whyNumber, admitOf, refineWith, withOperator, lentWith, refineLent, refineOf};
+ghost use Rattle.refine_seed.specs.Refine.{goodLimits, isPlace, flawNumber, whyNumber, oldNumber, admitOf, refineWith, withOperator, lentWith, refineLent, refineOf};
 ghost use Rattle.refine_fits.specs.StepsAdding.{PatchWithin};
 ghost use Rattle.refine_operator.specs.Call.{wayOf};
 
@@ -89,6 +90,29 @@ pub fn why_number(why: Why) -> u32
         Why::OutOfBounds => 2,
         Why::IllConditioned => 3,
         Why::BadSeed => 4,
+        Why::Flawed(flaw) => flaw_number(flaw),
+    }
+}
+
+// The number of the test that refused a fit.
+fn flaw_number(flaw: Flaw) -> u32
+    ensures { λ r. ⌜ r ≡ flawNumber flaw ⌝ }
+{
+    match flaw {
+        Flaw::AboveMargin => 5,
+        Flaw::TooSmall => 6,
+        Flaw::NotFinite => 7,
+    }
+}
+
+// The number that stood for this one while a refused fit had one number.
+pub fn old_number(number: u32) -> u32
+    ensures { λ r. ⌜ r ≡ oldNumber number ⌝ }
+{
+    if (5 <= number) & (number <= 7) {
+        3
+    } else {
+        number
     }
 }
 
@@ -192,7 +216,7 @@ fn refine_seed(
     let here = fits::fit_patch(img, sizes, cx, cy, radius, columns);
     let solved = solve::solve(cfg, here);
     match solved {
-        Solved::Refused(det) => Refined::Unmoved(Why::IllConditioned, det),
+        Solved::Refused(flaw, det) => Refined::Unmoved(Why::Flawed(flaw), det),
         Solved::Saddle(f) => {
             if tries::near_seed(cfg, seed, f.ux, f.uy) {
                 return Refined::Accepted(closing::estimate(

@@ -2,6 +2,7 @@
 use refine_fits::Seed;
 use refine_formulas::Corners;
 use refine_formulas::Covariance;
+use refine_formulas::Flaw;
 use refine_formulas::PatchSaddle;
 use refusals::Refusal;
 
@@ -11,6 +12,7 @@ mod spots;
 mod steps;
 
 pub use entry::good_limits;
+pub use entry::old_number;
 pub use entry::refine;
 pub use entry::refine_with;
 pub use entry::why_number;
@@ -61,12 +63,13 @@ pub struct Estimate {
     pub covariance: Covariance,
 }
 
-// Why a seed stays where it is, by the Rust's names; that a coordinate is no finite number is ours.
+// Why a seed stays where it is, by the Rust's names; that a coordinate is no finite number, and why a fit is refused, are ours. IllConditioned: there is no operator.
 pub enum Why {
     Rejected,
     OutOfBounds,
     IllConditioned,
     BadSeed,
+    Flawed(Flaw),
 }
 
 // How refining a seed ended. A seed that stays where it is has a score beside the reason: the determinant of the first fit, where there was one.

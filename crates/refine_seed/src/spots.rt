@@ -76,7 +76,7 @@ fn spot_of_seed(
     let here = fits::fit_patch(img, sizes, cx, cy, radius, columns);
     let solved = solve::solve(cfg, here);
     match solved {
-        Solved::Refused(det) => Spot::Nowhere,
+        Solved::Refused(_, _) => Spot::Nowhere,
         Solved::Saddle(f) => {
             if tries::near_seed(cfg, seed, f.ux, f.uy) {
                 return spot_from(img, sizes, columns, cfg, seed, f);

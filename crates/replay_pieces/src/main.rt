@@ -59,7 +59,7 @@ fn trial(tally: Tally, kind: u8, case: &mut [u8]) -> Tally {
 // The judged words of each list begin behind what is put in.
 fn spoil(kind: u8, turn: u32, case: &mut [u8]) -> Spoilt {
     match kind {
-        0 => solving::spoil(turn, case),
+        0 => spoil_from(28, 5, turn, case),
         1 => spoil_from(88, 15, turn, case),
         2 => moving::spoil_step(turn, case),
         3 => spoil_from(64, 14, turn, case),

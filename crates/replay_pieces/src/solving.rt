@@ -1,16 +1,16 @@
 // Solving a fit: five coefficients, the margin and the least determinant; the outcome, u, the determinant and the score.
 use crate::numbers;
+use refine_formulas::Flaw;
 use refine_formulas::PatchSaddle;
 use refine_formulas::SaddlePointConfig;
 use refine_formulas::Solved;
 use refine_formulas::solve;
-use replay::Spoilt;
 
 pub fn solve_holds(case: &[u8]) -> bool {
     let coefs = numbers::five(case, 0);
     let solved = solve::solve(limits(case), coefs);
     match solved {
-        Solved::Refused(det) => refused(case, det),
+        Solved::Refused(flaw, det) => refused(case, flaw, det),
         Solved::Saddle(f) => fitted(case, f),
     }
 }
@@ -24,20 +24,17 @@ fn limits(case: &[u8]) -> SaddlePointConfig {
     }
 }
 
-// Of the outcome only whether the fit is solved is ours to answer: the bits below the third tell the three refusals apart.
-pub fn spoil(turn: u32, case: &mut [u8]) -> Spoilt {
-    let word = replay::pick(turn, 5);
-    let low = if word == 0 { 2 } else { 0 };
-    replay::spoil_at(case, turn, 5, replay::place(28, word), low)
+// The outcome names the test that refused it.
+fn told(flaw: Flaw, outcome: u32) -> bool {
+    match flaw {
+        Flaw::AboveMargin => outcome == 5,
+        Flaw::TooSmall => outcome == 6,
+        Flaw::NotFinite => outcome == 7,
+    }
 }
 
-// Which of the three tests refused it is not ours to answer.
-fn refused(case: &[u8], det: f32) -> bool {
-    let outcome = words::word(case, 28);
-    if outcome < 5 {
-        return false;
-    }
-    if 7 < outcome {
+fn refused(case: &[u8], flaw: Flaw, det: f32) -> bool {
+    if !told(flaw, words::word(case, 28)) {
         return false;
     }
     if !replay::float_stands(case, 0, 10, det) {

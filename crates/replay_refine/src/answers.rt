@@ -36,7 +36,7 @@ pub fn are(
 fn given(case: &[u8], at: usize, number: u32) -> usize
     ensures { λ r. ⌜ r ≤ 9 ⌝ }
 {
-    if 4 < number {
+    if 7 < number {
         return 0;
     }
     if 0 < number {

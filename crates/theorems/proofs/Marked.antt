@@ -14,6 +14,7 @@ use Rattle.refine_formulas.specs.declared.SaddlePointConfig.{SaddlePointConfig}
 use Rattle.refine_formulas.specs.declared.Solved.{Solved}
 use Rattle.refine_formulas.specs.declared.Solved.the-variants.{Refused, Saddle}
 use Rattle.refine_formulas.specs.Solve.{solve, scoreOf}
+use Rattle.refine_seed.specs.Refine.{flawNumber}
 use Rattle.merge.specs.Meets.{near, neighbours, boxOf}
 use Rattle.merge.specs.Fold.{merged}
 use Rattle.merge.specs.Call.{wayOf, listAfter}
@@ -48,9 +49,9 @@ pub data Row : Type 0 where
   converted : List ℤ → Row
   -- the bits of a root
   root : ℕ → Row
-  -- the bits of u and the score, or of the determinant of a refusal
+  -- the bits of u and the score, or of the determinant of a refusal beside its number
   saddle : ℕ → ℕ → ℕ → Row
-  refused : ℕ → Row
+  refused : ℕ → ℕ → Row
   -- the bits of a list after the merge at radius 2, its freed tail zeros
   list : List ℕ → Row
 
@@ -58,7 +59,7 @@ abbrev responseAt : (ℕ → ℕ) → (ℕ → ℕ) → Row
 responseAt s c = response (subℕ (gain s) (loss s c)) (bits (responseOf s c))
 
 abbrev told : Solved → Row
-told (Refused det) = refused (bits det)
+told (Refused flaw det) = refused (flawNumber flaw) (bits det)
 told (Saddle f) = saddle (bits (f .ux)) (bits (f .uy)) (bits (scoreOf f))
 
 -- coefficients that are whole numbers, thresholds 0
@@ -98,7 +99,7 @@ answered =
     ∷ converted (pos 0 ∷ pos 2147483647 ∷ [])
     ∷ root 0x3FB504F3
     ∷ saddle (bits minusHalf) 0x80000000 (whole (pos 2))
-    ∷ refused (whole (pos 0))
+    ∷ refused 7 (whole (pos 0))
     ∷ list (corner 4 3 (corner 0 0 (corner 0 0 [])))
     ∷ list (corner 0 3 (corner 4 1 (corner 0 0 [])))
     ∷ []

@@ -53,7 +53,7 @@ pub const ENOUGH: usize = 120_000;
 /// The numbers of document 01 that each list must reach.
 const REACHED: &[(&str, &[u32])] = &[
     ("response", &[0, 10, 11, 13, 14, 15]),
-    ("refine", &[0, 1, 2, 3, 4, 10, 11, 12]),
+    ("refine", &[0, 1, 2, 3, 4, 5, 6, 7, 10, 11, 12]),
     ("refine_list", &[0, 10, 11, 12, 15, 16, 19]),
     ("fallback", &[0, 10, 11, 12, 15, 16, 19]),
     ("merge", &[0, 16, 17, 18, 19]),
@@ -99,15 +99,8 @@ pub fn missing(list: &List) -> Vec<String> {
             ]
             .map(String::from),
         ),
-        "solve" => wanted.extend(
-            [
-                "fitted",
-                "refused, 5 above the margin",
-                "refused, 6 too small",
-                "refused, 7 not finite",
-            ]
-            .map(String::from),
-        ),
+        "solve" => wanted
+            .extend(["fitted", "5 AboveMargin", "6 TooSmall", "7 NotFinite"].map(String::from)),
         "board" => wanted.extend(board::MET.map(String::from)),
         _ => {}
     }
@@ -169,6 +162,9 @@ fn number_name(number: u32) -> &'static str {
         2 => "2 OutOfBounds",
         3 => "3 IllConditioned",
         4 => "4 BadSeed",
+        5 => "5 AboveMargin",
+        6 => "6 TooSmall",
+        7 => "7 NotFinite",
         10 => "10 BadImage",
         11 => "11 BadRadius",
         12 => "12 BadLimit",

@@ -309,6 +309,11 @@ fn borders(list: &mut List) {
                     min_abs_det: -det,
                     ..s
                 },
+                Settings {
+                    det_margin: above(-det),
+                    min_abs_det: above(-det),
+                    ..s
+                },
             ] {
                 write(list, &image, &s, &[seed], true);
             }

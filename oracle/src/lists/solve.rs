@@ -31,11 +31,7 @@ fn write(list: &mut List, coefs: [f32; 5], det_margin: f32, min_abs_det: f32) {
         }
         Err((det, why)) => {
             case.word(why).floats(&[0.0, 0.0]).float(det).float(0.0);
-            list.tally(match why {
-                5 => "refused, 5 above the margin",
-                6 => "refused, 6 too small",
-                _ => "refused, 7 not finite",
-            });
+            list.tally(number_name(why));
         }
     }
     list.push(&case);

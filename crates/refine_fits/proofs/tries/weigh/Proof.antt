@@ -33,7 +33,7 @@ returns c =
 returns-2 : tie.Need-returns-2
 returns-2 c =
     let a = c .before .before .before .before .args in
-    refused (a .cfg) (a .seed) (a .f) (a .ox) (a .oy) (a .corners) (a .tx) (a .ty) (c .before .before .before .blend .result) (c .before .before .solve .result) (c .before .before .before .blend .ensures) (c .before .before .solve .ensures) _ (c .enum-told .given .1)
+    refused (a .cfg) (a .seed) (a .f) (a .ox) (a .oy) (a .corners) (a .tx) (a .ty) (c .before .before .before .blend .result) (c .before .before .solve .result) (c .before .before .before .blend .ensures) (c .before .before .solve .ensures) _ _ (c .enum-told .given .1)
 
 returns-3 : tie.Need-returns-3
 returns-3 c =

@@ -35,7 +35,7 @@ returns-2 c =
     let a = c .before .before .before .before .before .before .args in
     let fit = c .before .before .before .before .fit-patch in
     let solved = c .before .before .before .solve in
-    seed-refused (imageOf (a .img .now) (a .sizes)) (a .columns .now) (a .overlap .now) (a .cfg) (a .seed) (a .wanted) (fit .result) _ (solved .result) (fit .ensures) (solved .ensures) (c .before .solved .given .0 .0) (c .before .solved .given .1)
+    seed-refused (imageOf (a .img .now) (a .sizes)) (a .columns .now) (a .overlap .now) (a .cfg) (a .seed) (a .wanted) (fit .result) _ (solved .result) (fit .ensures) (solved .ensures) (c .before .solved .given .0 .0) (c .before .solved .given .0 .1 .0) (c .before .solved .given .1)
 
 returns-3 : tie.Need-returns-3
 returns-3 c =

@@ -11,11 +11,11 @@ fit-patch-requires c κs = search needs
 solve-requires : tie.Need-solve-requires
 solve-requires c κs = search needs
 
+enum-told : tie.Need-enum-told
+enum-told c = search needs
+
 enum-known-solved : tie.Need-enum-known-solved
 enum-known-solved c = search needs
-
-enum-known-solved-2 : tie.Need-enum-known-solved-2
-enum-known-solved-2 c = search needs
 
 near-seed-requires : tie.Need-near-seed-requires
 near-seed-requires c κs = search needs
@@ -28,21 +28,21 @@ returns c =
     let a = c .before .before .before .before .before .before .before .before .before .args in
     let fit = c .before .before .before .before .before .before .before .fit-patch in
     let solved = c .before .before .before .before .before .before .solve in
-    lands-accepted (imageOf (a .img .now) (a .sizes)) (a .columns .now) (a .cfg) (a .seed) (fit .result) _ (solved .result) (fit .ensures) (solved .ensures) (c .before .before .before .before .solved2 .given .0 .0) (c .before .before .near-seed .result) (c .spot-from .result) (c .before .before .before .before .solved2 .given .1) (c .before .before .near-seed .ensures) (c .before .if1 .taken) (c .spot-from .ensures)
+    lands-accepted (imageOf (a .img .now) (a .sizes)) (a .columns .now) (a .cfg) (a .seed) (fit .result) _ (solved .result) (fit .ensures) (solved .ensures) (c .before .before .before .before .solved .given .0 .0) (c .before .before .near-seed .result) (c .spot-from .result) (c .before .before .before .before .solved .given .1) (c .before .before .near-seed .ensures) (c .before .if1 .taken) (c .spot-from .ensures)
 
 returns-2 : tie.Need-returns-2
 returns-2 c =
-    let a = c .before .before .before .before .before .before .args in
-    let fit = c .before .before .before .before .fit-patch in
-    let solved = c .before .before .before .solve in
-    lands-refused (imageOf (a .img .now) (a .sizes)) (a .columns .now) (a .cfg) (a .seed) (fit .result) _ (solved .result) (fit .ensures) (solved .ensures) (c .before .solved .given .0 .0) (c .before .solved .given .1)
+    let a = c .before .before .before .before .before .args in
+    let fit = c .before .before .before .fit-patch in
+    let solved = c .before .before .solve in
+    lands-refused (imageOf (a .img .now) (a .sizes)) (a .columns .now) (a .cfg) (a .seed) (fit .result) _ (solved .result) (fit .ensures) (solved .ensures) _ _ (c .enum-told .given .1)
 
 returns-3 : tie.Need-returns-3
 returns-3 c =
     let a = c .before .before .before .before .before .before .before .before .args in
     let fit = c .before .before .before .before .before .before .fit-patch in
     let solved = c .before .before .before .before .before .solve in
-    lands-rejected (imageOf (a .img .now) (a .sizes)) (a .columns .now) (a .cfg) (a .seed) (fit .result) _ (solved .result) (fit .ensures) (solved .ensures) (c .before .before .before .solved2 .given .0 .0) (c .before .near-seed .result) (c .before .before .before .solved2 .given .1) (c .before .near-seed .ensures) (c .if1 .left)
+    lands-rejected (imageOf (a .img .now) (a .sizes)) (a .columns .now) (a .cfg) (a .seed) (fit .result) _ (solved .result) (fit .ensures) (solved .ensures) (c .before .before .before .solved .given .0 .0) (c .before .near-seed .result) (c .before .before .before .solved .given .1) (c .before .near-seed .ensures) (c .if1 .left)
 
 pub spot-of-seed-spec : {M : Type 1} → statement M
 spot-of-seed-spec =
@@ -50,8 +50,8 @@ spot-of-seed-spec =
     (tie.spec
     fit-patch-requires
     solve-requires
+    enum-told
     enum-known-solved
-    enum-known-solved-2
     near-seed-requires
     spot-from-requires
     returns
