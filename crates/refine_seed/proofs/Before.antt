@@ -15,10 +15,12 @@ use Rattle.refine_formulas.specs.declared.Flaw.the-variants.{AboveMargin, TooSm
 use Rattle.refine_formulas.specs.declared.Solved.{Solved}
 use Rattle.refine_formulas.specs.declared.Solved.the-variants as Solved
 use Rattle.refine_formulas.specs.declared.Solved.the-variants.{Saddle}
+use Rattle.refine_formulas.specs.declared.Corners.{Corners}
 use Rattle.refine_formulas.specs.Numbers.{_⊘_}
 use Rattle.refine_formulas.specs.Solve.{determinant, aboveMargin, tooSmall, offsetX, offsetY, saddleOf, solve}
 use Rattle.refine_fits.specs.declared.Seed.{Seed}
-use Rattle.refine_fits.specs.Candidate.{Task, taskAt, nearSeed}
+use Rattle.refine_fits.specs.Candidate.{Task, taskAt, nearSeed, judged}
+use Rattle.refine_fits.specs.Windows.{WindowPlace}
 use Rattle.refine_fits.specs.Fit.{coefficients}
 use Rattle.refine_seed.specs.declared.Estimate.{Estimate}
 use Rattle.refine_seed.specs.declared.Refined.{Refined}
@@ -26,7 +28,7 @@ use Rattle.refine_seed.specs.declared.Refined.the-variants.{Accepted, Un
 use Rattle.refine_seed.specs.declared.Why.the-variants.{Rejected, OutOfBounds, IllConditioned, BadSeed, Flawed}
 use Rattle.refine_seed.specs.Run.{runOf}
 use Rattle.refine_seed.specs.Refine.{goodLimits, isPlace, centreOf, seedOf, admitOf, answered, finished, fromSaddle, refineWith, withOperator, lentWith, refineOf, refineLent, numberOf, oldNumber, valuesOf}
-use Rattle.refine_seed.specs.Before.{Once, refused, saddle, solveOnce, fromOnce, seedOnce, withOnce, lentOnce, refineOnce, forgotten, AsBefore, RefinesAsBefore, LentAsBefore}
+use Rattle.refine_seed.specs.Before.{Once, refused, saddle, solveOnce, fromOnce, judgedOnce, seedOnce, withOnce, lentOnce, refineOnce, forgotten, AsBefore, CandidatesAsBefore, RefinesAsBefore, LentAsBefore}
 use Rattle.refine_seed.proofs.EntryLaws.{chosen}
 use Rattle.refine_seed.proofs.NumberLaws.{old-refusal}
 
@@ -49,6 +51,14 @@ solved-once cfg l =
     let x = offsetX l (one ⊘ det) in
     let y = offsetY l (one ⊘ det) in
     by-tests (aboveMargin cfg det) (tooSmall cfg det) (finite x && finite y) det (saddleOf l det x y)
+
+-- ---- a candidate
+judged-once : (t : Task) (f : PatchSaddle) (ox oy : Float) (w : WindowPlace) (c : Corners) (v : Solved) → judgedOnce t f ox oy w c (unnamed v) ≡ judged t f ox oy w c v
+judged-once t f ox oy w c (Solved.Refused flaw det) = refl
+judged-once t f ox oy w c (Saddle g) = refl
+
+pub candidates-as-before : CandidatesAsBefore
+candidates-as-before t f ox oy w c l = ap (λ (v : Once). judgedOnce t f ox oy w c v) (solved-once (t .cfg) l) ∙ judged-once t f ox oy w c (solve (t .cfg) l)
 
 -- ---- a seed that passed its tests
 by-box : (b : Bool) (e : Estimate) (d : Float) → cond b (Accepted e) (Unmoved Rejected d) ≡ forgotten (cond b (Accepted e) (Unmoved Rejected d))

@@ -1,20 +1,22 @@
 -- The refiner of one seed as it answered before a refused fit had a number for each test (5, 6, 7): every refused fit was 3. `refineOnce` and `lentOnce` are those
--- definitions; the claim is that they are what is answered now, with the names of the three tests forgotten. The steps pass over a refused candidate whatever test
--- refused it, so they are the same run. The proof is in proofs/Before.antt.
+-- definitions; the claim is that they are what is answered now, with the names of the three tests forgotten. A run is one
+-- definition for both: each candidate of its steps is taken or passed over as it was (`CandidatesAsBefore`). The proofs are in proofs/Before.antt.
 use mathlib.Core.Path.{_≡_}
 use mathlib.Core.Bool.{Bool, _&&_, _||_, cond}
 use mathlib.Core.List.{List}
-use lib.Ieee.{Float}
+use lib.Ieee.{Float, lt}
 use lib.Ieee.Scale.{finite}
 use Rattle.shapes.specs.Numbers.{plusZero, one, entry}
 use Rattle.imageview.specs.Image.{Image}
 use Rattle.refine_operator.specs.Call as Operator
 use Rattle.refine_formulas.specs.declared.SaddlePointConfig.{SaddlePointConfig}
 use Rattle.refine_formulas.specs.declared.PatchSaddle.{PatchSaddle}
-use Rattle.refine_formulas.specs.Numbers.{_⊘_}
-use Rattle.refine_formulas.specs.Solve.{determinant, aboveMargin, tooSmall, offsetX, offsetY, saddleOf}
+use Rattle.refine_formulas.specs.declared.Corners.{Corners}
+use Rattle.refine_formulas.specs.Numbers.{_⊕_, _⊘_}
+use Rattle.refine_formulas.specs.Solve.{determinant, aboveMargin, tooSmall, offsetX, offsetY, saddleOf, solve, norm2}
 use Rattle.refine_fits.specs.declared.Seed.{Seed}
-use Rattle.refine_fits.specs.Candidate.{Task, taskAt, nearSeed}
+use Rattle.refine_fits.specs.Candidate.{Task, taskAt, nearSeed, Tried, passed, taken, judged}
+use Rattle.refine_fits.specs.Windows.{WindowPlace}
 use Rattle.refine_fits.specs.Fit.{coefficients}
 use Rattle.refine_seed.specs.declared.Refined.{Refined}
 use Rattle.refine_seed.specs.declared.Refined.the-variants.{Accepted, Unmoved, Refused}
@@ -39,6 +41,12 @@ solveOnce cfg l =
 abbrev pub fromOnce : Task → List Float → Bool → Once → Refined
 fromOnce t overlap wanted (refused det) = Unmoved IllConditioned det
 fromOnce t overlap wanted (saddle f) = cond (nearSeed t (f .ux) (f .uy)) (Accepted (finished t overlap wanted f (runOf t f))) (Unmoved Rejected (f .«det_h»))
+
+-- a candidate of the steps: one that is refused is passed over
+abbrev pub judgedOnce : Task → PatchSaddle → Float → Float → WindowPlace → Corners → Once → Tried
+judgedOnce t f ox oy w c (refused det) = passed
+judgedOnce t f ox oy w c (saddle g) =
+    cond (lt (norm2 g) (norm2 f) && nearSeed t (ox ⊕ g .ux) (oy ⊕ g .uy)) (taken (record { ox = ox; oy = oy; place = w; corners = c; fit = g })) passed
 
 abbrev pub seedOnce : Image → SaddlePointConfig → Seed → Bool → List Float → List Float → Refined
 seedOnce img cfg seed wanted columns overlap =
@@ -74,6 +82,11 @@ pub record AsBefore (x y : Float) (now before : Refined) : Type 0 where
   pub same : before ≡ forgotten now
   pub number : numberOf before ≡ oldNumber (numberOf now)
   pub values : valuesOf x y before ≡ valuesOf x y now
+
+abbrev pub CandidatesAsBefore : Type 0
+CandidatesAsBefore =
+    (t : Task) (f : PatchSaddle) (ox oy : Float) (w : WindowPlace) (c : Corners) (l : List Float)
+    → judgedOnce t f ox oy w c (solveOnce (t .cfg) l) ≡ judged t f ox oy w c (solve (t .cfg) l)
 
 abbrev pub RefinesAsBefore : Type 0
 RefinesAsBefore = (img : Image) (cfg : SaddlePointConfig) (x y : Float) (wanted : Bool) → AsBefore x y (refineOf img cfg x y wanted) (refineOnce img cfg x y wanted)
