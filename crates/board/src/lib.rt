@@ -4,7 +4,7 @@ mod near;
 mod places;
 
 use refusals::Refusal;
-ghost use Rattle.board.specs.Call.{isBoard, isLimit, allFinite, Done};
+ghost use Rattle.board.specs.Call.{Done};
 
 // How the call ended. NoCorner and UsedTwice carry the number of the first place at fault, by row.
 pub enum Tie {

@@ -1,5 +1,4 @@
 // The places of a board: what can be used, and each tied to its corner.
-use crate::Nearest;
 use crate::Tie;
 use crate::near;
 ghost use mathlib.Core.Path.{_≡_};
