@@ -13,6 +13,10 @@
  * one of that many elements for as long as the call lasts, aligned for its type and not null, also where the
  * number is 0; and a buffer that is written must share no element with any other of the same call.
  *
+ * An image is bytes, the pixel (x, y) at y * pitch + x: each row begins pitch bytes after the one before it, and what
+ * stands behind its width pixels is padding, on which no answer depends. pitch: width where the rows have none, at most
+ * 8192. img_len: pitch times height, so that the last row has its padding too. A response has no pitch.
+ *
  * Stack, on x86-64, as compiled for release (docs/SPEED.md): response 1.4 KiB, peaks 17 KiB, fit_operator 11 KiB, refine 16.5 KiB,
  * refine_with 3 KiB, refine_list 17 KiB, merge 0.3 KiB, tie 2 KiB. No call recurses. Scratch: only the merge asks for any, heads and links.
  *
@@ -24,7 +28,8 @@
  *    5 AboveMargin: the determinant of the first fit is above -det_margin
  *    6 TooSmall: its magnitude is below min_abs_det
  *    7 NotFinite: the offset of the first fit is not finite
- *   10 BadImage: width or height outside 1..4096, or a count that is not width times height
+ *   10 BadImage: width or height outside 1..4096, pitch outside width..8192, or a count that is not pitch times height
+ *      (of a response: width times height)
  *   11 BadRadius: refiner radius above 7, ring radius outside 1..10, window radius outside 1..8
  *   12 BadLimit: a float setting that is not finite or below zero (the peak threshold may be below zero)
  *   13 BadRing: a ring component beyond the ring radius
@@ -83,7 +88,7 @@ uint32_t chess_corners_old_number(uint32_t number);
  * ring: sixteen pairs dx, dy. out: exactly the clamped region's elements, all of which are written, +0.0 where
  * the ring does not fit. out_width, out_height: the clamped size; both 0, with an empty out, where nothing of the
  * region lies in the image. Returns 0, 10, 11, 13, 14, 15. */
-uint32_t chess_corners_response(const uint8_t *img, size_t img_len, size_t width, size_t height,
+uint32_t chess_corners_response(const uint8_t *img, size_t img_len, size_t width, size_t height, size_t pitch,
                                 const int32_t ring[32], size_t radius,
                                 size_t x0, size_t y0, size_t x1, size_t y1,
                                 float *out, size_t out_len, size_t *out_width, size_t *out_height);
@@ -108,7 +113,7 @@ uint32_t chess_corners_fit_operator(size_t radius, float columns[1125], float ov
  * 1, 5, 6 and 7 the determinant of the first fit). 0 alone writes state: converged (0 or 1), tries (0 to 64), and whether there
  * is a covariance (0 or 1), and where there is one covariance: xx, xy and yy for unit noise.
  * Returns 0, 10, 11, 12, 4, 2, 3, 5, 6, 7, 1. */
-uint32_t chess_corners_refine(const uint8_t *img, size_t img_len, size_t width, size_t height,
+uint32_t chess_corners_refine(const uint8_t *img, size_t img_len, size_t width, size_t height, size_t pitch,
                               size_t radius, float det_margin, float max_offset, float min_abs_det,
                               float x, float y, uint32_t wanted,
                               float place[3], uint32_t state[3], float covariance[3]);
@@ -116,7 +121,7 @@ uint32_t chess_corners_refine(const uint8_t *img, size_t img_len, size_t width, 
 /* The same with an operator that was built before, so that many seeds share it. With the operator of the same
  * radius, built with 0, the answer is that of chess_corners_refine; with other contents it is the answer for
  * those. At radius 0 there is no operator, whatever is lent: 3, with the score 0.0, where 4 and 2 are not given. */
-uint32_t chess_corners_refine_with(const uint8_t *img, size_t img_len, size_t width, size_t height,
+uint32_t chess_corners_refine_with(const uint8_t *img, size_t img_len, size_t width, size_t height, size_t pitch,
                                    size_t radius, float det_margin, float max_offset, float min_abs_det,
                                    float x, float y, uint32_t wanted,
                                    const float columns[1125], const float overlap[225],
@@ -126,7 +131,7 @@ uint32_t chess_corners_refine_with(const uint8_t *img, size_t img_len, size_t wi
  * strength, to the front of out; its other elements stay. A corner that one seed's call answers with 1 to 7 is left out.
  * out_len: corners_len or more. count: how many.
  * Returns 0, 10, 11, 12, 19, 16, 15. */
-uint32_t chess_corners_refine_list(const uint8_t *img, size_t img_len, size_t width, size_t height,
+uint32_t chess_corners_refine_list(const uint8_t *img, size_t img_len, size_t width, size_t height, size_t pitch,
                                    size_t radius, float det_margin, float max_offset, float min_abs_det,
                                    const float *corners, size_t corners_len,
                                    float *out, size_t out_len, size_t *count);

@@ -4,6 +4,7 @@
 
 mod board;
 mod peaks;
+mod pitch;
 mod refine;
 
 use crate::port;
@@ -128,7 +129,8 @@ fn response(size: [usize; 2], radius: usize, repetitions: usize) -> bool {
     let mut rows = vec![1.0f32; w * h];
     let mut by_port = || {
         let mut got = [0; 2];
-        timed(|| port::response(&bytes, size, &flat, radius, region, &mut ours, &mut got)).0
+        let lent = port::Image::new(&bytes, w, h);
+        timed(|| port::response(lent, &flat, radius, region, &mut ours, &mut got)).0
     };
     let mut by_call = || {
         let roi = rust::Roi::new(0, 0, w, h).expect("a region");
@@ -237,7 +239,7 @@ fn responses() -> bool {
     for radius in [5, 10] {
         same &= response([4096, 4096], radius, 11);
     }
-    same
+    same & pitch::responses()
 }
 
 fn merges() -> bool {

@@ -1,30 +1,60 @@
 //! `chess_corners_refine_list` against `refine_corners_on_image` and
 //! document 01.
 
+use crate::picture::{self, OfImage, Twice};
 use crate::port;
 use crate::scene::{self, Scene};
 use crate::trial::{self, alike, bits, flip, Lent, Met, Tally, Trial, PAINT, PAINT_F};
 use oracle::lists::refine_list as known;
 use oracle::random::Random;
 use oracle::types::{Image, Settings, Triple};
-use oracle::{calls, rules};
+use oracle::{calls, padding, rules};
 use std::fmt::{self, Display, Formatter};
 use std::rc::Rc;
 
 #[derive(Clone)]
 pub struct List {
     scene: Scene,
+    /// The padding of each call.
+    paint: u64,
     floats: Vec<f32>,
     out: usize,
 }
 
-/// All that the call leaves.
+/// All that a call leaves.
 #[derive(Clone)]
-pub struct Left {
+pub struct Answer {
     number: u32,
     count: usize,
     corners: Lent<f32>,
     out: Lent<f32>,
+}
+
+impl Answer {
+    fn same_as(&self, other: &Answer) -> bool {
+        let bits = |f: &f32| f.to_bits();
+        let [ours, others] = [self, other].map(|a| a.out.inside().iter().map(bits));
+        self.number == other.number && self.count == other.count && ours.eq(others)
+    }
+
+    /// How it parts from what is expected.
+    fn held(&self, list: &List, number: u32, kept: &[Triple]) -> Result<(), String> {
+        let count = if number == 0 { kept.len() } else { PAINT };
+        trial::held("number", self.number, number)?;
+        trial::held("count", self.count, count)?;
+        let written = kept.concat();
+        for (k, got) in self.out.inside().iter().enumerate() {
+            let want = written.get(k).copied().unwrap_or(PAINT_F);
+            // A strength is copied, and what lies past the records is kept.
+            let worked_out = k < written.len() && k % 3 < 2;
+            if !(got.to_bits() == want.to_bits() || (worked_out && alike(*got, want))) {
+                let (got, want) = (bits(*got), bits(want));
+                return Err(format!("element {k} is {got}, expected {want}"));
+            }
+        }
+        self.out.outside_kept("the output")?;
+        self.corners.kept("the lent corners", &list.floats)
+    }
 }
 
 fn class_of(number: u32, seeds: usize, kept: usize) -> &'static str {
@@ -67,48 +97,38 @@ impl Trial for List {
         "longer output",
         "a seed that is no number",
     ];
-    type Left = Left;
+    const SHARED: &'static [&'static str] = &padding::KINDS;
+    type Left = Twice<Answer>;
 
-    fn by_port(&self) -> Left {
-        let mut left = Left {
-            number: 0,
-            count: PAINT,
-            corners: Lent::holding(&self.floats, PAINT_F),
-            out: Lent::painted(self.out, PAINT_F),
-        };
-        left.number = port::refine_list(
-            self.scene.lent(),
-            self.scene.settings,
-            left.corners.inside(),
-            left.out.part(),
-            &mut left.count,
-        );
-        left
+    fn by_port(&self) -> Self::Left {
+        Twice::of(&self.scene.image, self.paint, |image| {
+            let mut answer = Answer {
+                number: 0,
+                count: PAINT,
+                corners: Lent::holding(&self.floats, PAINT_F),
+                out: Lent::painted(self.out, PAINT_F),
+            };
+            answer.number = port::refine_list(
+                image,
+                self.scene.settings,
+                answer.corners.inside(),
+                answer.out.part(),
+                &mut answer.count,
+            );
+            answer
+        })
     }
 
-    fn judged(&self, left: &Left) -> Result<Met, String> {
+    fn judged(&self, left: &Self::Left) -> Result<Met, String> {
         let s = self.scene.for_oracle();
         let (number, kept) = calls::refine_list_kept(self.scene.view(), &s, &self.floats, self.out);
-        let count = if number == 0 { kept.len() } else { PAINT };
-        trial::held("number", left.number, number)?;
-        trial::held("count", left.count, count)?;
-        let written = kept.concat();
-        for (k, got) in left.out.inside().iter().enumerate() {
-            let want = written.get(k).copied().unwrap_or(PAINT_F);
-            // A strength is copied, and what lies past the records is kept.
-            let worked_out = k < written.len() && k % 3 < 2;
-            if !(got.to_bits() == want.to_bits() || (worked_out && alike(*got, want))) {
-                let (got, want) = (bits(*got), bits(want));
-                return Err(format!("element {k} is {got}, expected {want}"));
-            }
-        }
-        left.out.outside_kept("the output")?;
-        left.corners.kept("the lent corners", &self.floats)?;
+        left.held(|answer| answer.held(self, number, &kept), Answer::same_as)?;
         let seeds = self.floats.len() / 3;
         let mut met = Met::of(class_of(number, seeds, kept.len())).with_parts(match number {
             0 => seeds as u64,
             _ => 0,
         });
+        met = met.and(padding::kind(self.scene.view()));
         if number == 0 && seeds == rules::MOST {
             met = met.and("4,096 seeds");
         }
@@ -159,6 +179,18 @@ impl Trial for List {
     }
 }
 
+impl OfImage for List {
+    fn image(&self) -> &Image {
+        &self.scene.image
+    }
+
+    fn with_image(&self, image: Image) -> Self {
+        let mut other = self.clone();
+        other.scene.image = Rc::new(image);
+        other
+    }
+}
+
 fn any_count(random: &mut Random) -> usize {
     match random.below(2000) {
         0..=3 => random.pick(&[4095, 4096]),
@@ -181,7 +213,7 @@ fn any_seeds(random: &mut Random, count: usize) -> (Scene, Vec<Triple>) {
         return (scene, seeds);
     }
     let (board, corners) = known::board(random);
-    scene.image = Rc::new(board);
+    scene.image = Rc::new(picture::any_pitch(random, board));
     let near = |random: &mut Random, at: f32| at + random.unit() - 0.5;
     let seeds = (0..count).map(|k| match corners.get(k % corners.len().max(1)) {
         Some(c) => [near(random, c[0]), near(random, c[1]), c[2]],
@@ -204,9 +236,19 @@ fn usual(image: Image) -> List {
                 min_abs_det: s.min_abs_det,
             },
         },
+        paint: 0,
         floats: Vec::new(),
         out: 0,
     }
+}
+
+/// A pitch of every class, with the seeds of a board.
+pub fn pitches(tally: &mut Tally, random: &mut Random) -> bool {
+    let (board, corners) = known::board(random);
+    let mut list = usual(board);
+    list.floats = corners.concat();
+    list.out = list.floats.len();
+    picture::pitches(tally, random, &list)
 }
 
 /// As many seeds as a list may hold, and one more, on boards.
@@ -233,7 +275,12 @@ pub fn any(random: &mut Random) -> List {
     if random.once_in(40) {
         out = floats.len().saturating_sub(1 + random.below(4));
     }
-    List { scene, floats, out }
+    List {
+        scene,
+        paint: random.word64(),
+        floats,
+        out,
+    }
 }
 
 /// The driver notices each fault of an answer.
@@ -247,23 +294,26 @@ pub fn faults_noticed() -> Result<(), String> {
     written.out = written.floats.len() + 1;
     let mut refused = written.clone();
     refused.floats.push(1.0);
+    let padded = picture::faults_noticed(&written, |l| {
+        flip(&mut l.again.as_mut().expect("padding").out.part()[0]);
+    })?;
     trial::faults_noticed(
-        &[written, refused],
+        &[written, refused, padded],
         &[
-            ("number", |l| l.number ^= 1),
-            ("count", |l| l.count ^= 1),
-            ("x", |l| flip(&mut l.out.part()[0])),
-            ("a strength", |l| flip(&mut l.out.part()[2])),
+            ("number", |l| l.first.number ^= 1),
+            ("count", |l| l.first.count ^= 1),
+            ("x", |l| flip(&mut l.first.out.part()[0])),
+            ("a strength", |l| flip(&mut l.first.out.part()[2])),
             ("past the records", |l| {
-                let last = l.out.part().len() - 1;
-                l.out.part()[last] = 0.0;
+                let last = l.first.out.part().len() - 1;
+                l.first.out.part()[last] = 0.0;
             }),
             ("past the last record", |l| {
-                let last = l.out.part().len() - 4;
-                l.out.part()[last] = 0.0;
+                let last = l.first.out.part().len() - 4;
+                l.first.out.part()[last] = 0.0;
             }),
-            ("outside the output", |l| l.out.spoil()[0] = 0.0),
-            ("the lent corners", |l| flip(&mut l.corners.part()[0])),
+            ("outside the output", |l| l.first.out.spoil()[0] = 0.0),
+            ("the lent corners", |l| flip(&mut l.first.corners.part()[0])),
         ],
     )
 }

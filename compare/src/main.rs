@@ -9,6 +9,7 @@ mod merge;
 mod number;
 mod operator;
 mod peaks;
+mod picture;
 mod port;
 mod refine;
 mod response;
@@ -68,14 +69,17 @@ impl Tallies {
         operator::short(&mut self.operators)
             && number::short(&mut self.numbers)
             && refine::rare(&mut self.seeds)
+            && refine::pitches(&mut self.seeds, random)
             && list::longest(&mut self.lists, random)
+            && list::pitches(&mut self.lists, random)
             && board::longest(&mut self.boards, random)
             && board::short(&mut self.boards)
             && merge::short(&mut self.merges)
             && peaks::longest(&mut self.peaks, random)
             && peaks::short(&mut self.peaks)
-            && response::short(&mut self.responses, long, [0, 255])
-            && response::short(&mut self.responses, false, [low, high])
+            && response::pitches(&mut self.responses, random)
+            && response::short(&mut self.responses, long, [0, 255], 5)
+            && response::short(&mut self.responses, false, [low, high], 7)
     }
 
     /// Random inputs; `false` where one differs.

@@ -34,6 +34,7 @@ pub fn refine(
             image.bytes.len(),
             image.width,
             image.height,
+            image.pitch,
             s.radius,
             s.det_margin,
             s.max_offset,
@@ -65,6 +66,7 @@ pub fn refine_with(
             image.bytes.len(),
             image.width,
             image.height,
+            image.pitch,
             s.radius,
             s.det_margin,
             s.max_offset,
@@ -111,6 +113,7 @@ pub fn refine_list(
             image.bytes.len(),
             image.width,
             image.height,
+            image.pitch,
             s.radius,
             s.det_margin,
             s.max_offset,
@@ -138,8 +141,7 @@ pub fn flat(ring: &Ring) -> [i32; 32] {
 
 /// Document 01's number; `size` takes width and height.
 pub fn response(
-    bytes: &[u8],
-    [width, height]: [usize; 2],
+    image: Image<'_>,
     ring: &[i32; 32],
     radius: usize,
     region: Region,
@@ -151,10 +153,11 @@ pub fn response(
     // and no two of those that are written overlap.
     unsafe {
         raw::chess_corners_response(
-            bytes.as_ptr(),
-            bytes.len(),
-            width,
-            height,
+            image.bytes.as_ptr(),
+            image.bytes.len(),
+            image.width,
+            image.height,
+            image.pitch,
             ring.as_ptr(),
             radius,
             region.x0 as usize,

@@ -1,13 +1,14 @@
 //! `chess_corners_refine` and `chess_corners_refine_with` against
 //! `SaddlePointRefiner::refine`, its counted mirror and document 01.
 
+use crate::picture::{self, OfImage, Twice};
 use crate::port;
 use crate::scene::{self, Scene};
 use crate::trial::{self, alike, bits, flip, Lent, Met, Tally, Trial, PAINT_F};
 use oracle::lists::refine as known;
 use oracle::random::Random;
 use oracle::types::{Image, Refined, Run};
-use oracle::{calls, pictures, rules};
+use oracle::{calls, padding, pictures, rules};
 use std::fmt::{self, Display, Formatter};
 use std::rc::Rc;
 
@@ -19,6 +20,8 @@ const SEEDS: u32 = 48;
 #[derive(Clone)]
 pub struct Refine {
     scene: Scene,
+    /// The padding of each call.
+    paint: u64,
     seed: [f32; 2],
     wanted: u32,
     /// Also by the call that builds its own operator.
@@ -27,7 +30,7 @@ pub struct Refine {
 
 /// All that a call leaves.
 #[derive(Clone)]
-struct Answer {
+pub struct Answer {
     number: u32,
     place: Lent<f32>,
     state: Lent<u32>,
@@ -50,7 +53,7 @@ impl Answer {
 /// What the call with a lent operator leaves, and the one that builds its own.
 #[derive(Clone)]
 pub struct Left {
-    with: Answer,
+    with: Twice<Answer>,
     built: Option<Answer>,
 }
 
@@ -158,6 +161,7 @@ impl Refine {
             (11, _) => "11",
             _ => "12",
         });
+        let met = met.and(padding::kind(self.scene.view()));
         let met = match self.seed_class() {
             Some(class) => met.and(class),
             None => met,
@@ -305,20 +309,24 @@ impl Trial for Refine {
         "slope by fresh fits",
         "more than nine fits",
     ];
+    const SHARED: &'static [&'static str] = &padding::KINDS;
     type Left = Left;
 
     fn by_port(&self) -> Left {
-        let (image, s) = (self.scene.lent(), self.scene.settings);
+        let (image, s) = (&self.scene.image, self.scene.settings);
         let with = OPERATORS.with(|all| {
-            let op = &all[s.radius.min(8)];
-            self.asked(|answer| {
-                let Operator { columns, overlap } = op;
-                port::refine_with(image, s, self.seed, self.wanted, columns, overlap, answer)
+            let Operator { columns, overlap } = &all[s.radius.min(8)];
+            Twice::of(image, self.paint, |image| {
+                self.asked(|answer| {
+                    port::refine_with(image, s, self.seed, self.wanted, columns, overlap, answer)
+                })
             })
         });
-        let built = self
-            .both
-            .then(|| self.asked(|answer| port::refine(image, s, self.seed, self.wanted, answer)));
+        let alone = |image: port::Image<'_>| {
+            self.asked(|answer| port::refine(image, s, self.seed, self.wanted, answer))
+        };
+        let other = self.paint.rotate_left(32);
+        let built = self.both.then(|| picture::painted(image, other, alone));
         Left { with, built }
     }
 
@@ -326,11 +334,11 @@ impl Trial for Refine {
         let s = self.scene.for_oracle();
         let asked = self.wanted != 0;
         let (want, run) = calls::refine_kept(self.scene.view(), &s, self.seed, asked);
-        self.held(&left.with, &want, &run)?;
+        let held = |answer: &Answer| self.held(answer, &want, &run);
+        left.with.held(held, Answer::same_as)?;
         if let Some(built) = &left.built {
-            self.held(built, &want, &run)
-                .map_err(|how| format!("with its own operator: {how}"))?;
-            if !left.with.same_as(built) {
+            held(built).map_err(|how| format!("with its own operator: {how}"))?;
+            if !left.with.first.same_as(built) {
                 return Err("the two calls part".into());
             }
         }
@@ -372,6 +380,18 @@ impl Trial for Refine {
     }
 }
 
+impl OfImage for Refine {
+    fn image(&self) -> &Image {
+        &self.scene.image
+    }
+
+    fn with_image(&self, image: Image) -> Self {
+        let mut other = self.clone();
+        other.scene.image = Rc::new(image);
+        other
+    }
+}
+
 /// A seed on an image, with settings that let everything through.
 fn through(image: Image, radius: usize, seed: [f32; 2]) -> Refine {
     Refine {
@@ -384,10 +404,17 @@ fn through(image: Image, radius: usize, seed: [f32; 2]) -> Refine {
                 min_abs_det: 0.0,
             },
         },
+        paint: 0,
         seed,
         wanted: 1,
         both: true,
     }
+}
+
+/// A pitch of every class.
+pub fn pitches(tally: &mut Tally, random: &mut Random) -> bool {
+    let seed = through(known::plain_corner(), 2, [6.0, 6.0]);
+    picture::pitches(tally, random, &seed)
 }
 
 /// Rare runs that a search of the oracle met: windows hundreds of millions of
@@ -423,6 +450,7 @@ impl Scenes {
         self.left -= 1;
         Refine {
             seed: scene::any_seed(random, &self.scene),
+            paint: random.word64(),
             wanted: random.pick(&[0, 1, 1, 1, 2, 1 << 31, u32::MAX]),
             both: self.left == 0,
             scene: self.scene.clone(),
@@ -451,8 +479,13 @@ pub fn faults_noticed() -> Result<(), String> {
     refused.scene.settings.max_offset = -1.0;
     let mut rejected = accepted.clone();
     rejected.scene.settings.max_offset = 0.0;
+    let padded = picture::faults_noticed(&accepted, |l| {
+        let again = l.with.again.as_mut().expect("padding");
+        flip(&mut again.place.part()[0]);
+    })?;
     trial::faults_noticed(
         &[
+            padded,
             accepted,
             no_number,
             outside,
@@ -464,20 +497,20 @@ pub fn faults_noticed() -> Result<(), String> {
             rejected,
         ],
         &[
-            ("number", |l| l.with.number ^= 1),
-            ("x", |l| flip(&mut l.with.place.part()[0])),
-            ("y", |l| flip(&mut l.with.place.part()[1])),
-            ("score", |l| flip(&mut l.with.place.part()[2])),
-            ("converged", |l| l.with.state.part()[0] ^= 1),
-            ("tries", |l| l.with.state.part()[1] ^= 1),
-            ("covariance given", |l| l.with.state.part()[2] ^= 1),
-            ("xx", |l| flip(&mut l.with.covariance.part()[0])),
-            ("xy", |l| flip(&mut l.with.covariance.part()[1])),
-            ("yy", |l| flip(&mut l.with.covariance.part()[2])),
-            ("outside the place", |l| l.with.place.spoil()[3] = 0.0),
-            ("outside the state", |l| l.with.state.spoil()[3] = 0),
+            ("number", |l| l.with.first.number ^= 1),
+            ("x", |l| flip(&mut l.with.first.place.part()[0])),
+            ("y", |l| flip(&mut l.with.first.place.part()[1])),
+            ("score", |l| flip(&mut l.with.first.place.part()[2])),
+            ("converged", |l| l.with.first.state.part()[0] ^= 1),
+            ("tries", |l| l.with.first.state.part()[1] ^= 1),
+            ("covariance given", |l| l.with.first.state.part()[2] ^= 1),
+            ("xx", |l| flip(&mut l.with.first.covariance.part()[0])),
+            ("xy", |l| flip(&mut l.with.first.covariance.part()[1])),
+            ("yy", |l| flip(&mut l.with.first.covariance.part()[2])),
+            ("outside the place", |l| l.with.first.place.spoil()[3] = 0.0),
+            ("outside the state", |l| l.with.first.state.spoil()[3] = 0),
             ("outside the covariance", |l| {
-                l.with.covariance.spoil()[3] = 0.0
+                l.with.first.covariance.spoil()[3] = 0.0
             }),
             ("the other call", |l| {
                 l.built.as_mut().expect("both are called").number ^= 1;

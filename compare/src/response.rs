@@ -1,38 +1,44 @@
 //! `chess_corners_response` against `chess_response_u8_patch` and document 01.
 
+use crate::picture::{self, OfImage, Twice};
 use crate::port;
 use crate::trial::{self, bits, parts, Lent, Met, Tally, Trial, PAINT, PAINT_F};
 use oracle::random::Random;
-use oracle::types::{paper_ring, Region, Ring, View};
-use oracle::{calls, pictures, rules};
+use oracle::types::{paper_ring, Image, Region, Ring, View};
+use oracle::{calls, padding, pictures, rules};
 use std::fmt::{self, Display, Formatter};
+use std::rc::Rc;
 
 #[derive(Clone)]
 pub struct Response {
-    pub width: u64,
-    pub height: u64,
-    pub bytes: Vec<u8>,
-    pub ring: Ring,
-    pub radius: u64,
-    pub region: Region,
-    pub out: usize,
+    image: Rc<Image>,
+    /// The padding of each call.
+    paint: u64,
+    ring: Ring,
+    radius: u64,
+    region: Region,
+    out: usize,
 }
 
-/// All that the call leaves.
+/// All that a call leaves.
 #[derive(Clone)]
-pub struct Left {
+pub struct Answer {
     number: u32,
     size: [usize; 2],
     out: Lent<f32>,
 }
 
+impl Answer {
+    fn same_as(&self, other: &Answer) -> bool {
+        self.number == other.number
+            && self.size == other.size
+            && calls::same_floats(self.out.inside(), other.out.inside())
+    }
+}
+
 impl Response {
     fn view(&self) -> View<'_> {
-        View {
-            width: self.width,
-            height: self.height,
-            bytes: &self.bytes,
-        }
+        View::from(&*self.image)
     }
 
     /// The radius as the oracle takes it; all above the limit are refused.
@@ -59,10 +65,8 @@ impl Display for Response {
         let r = self.region;
         writeln!(
             f,
-            "  width {}, height {}, {} bytes, ring radius {}, region ({}, {}) to ({}, {}), {} floats lent",
-            self.width,
-            self.height,
-            self.bytes.len(),
+            "  {}, ring radius {}, region ({}, {}) to ({}, {}), {} floats lent",
+            picture::sizes(&self.image),
             self.radius,
             r.x0,
             r.y0,
@@ -71,11 +75,7 @@ impl Display for Response {
             self.out
         )?;
         writeln!(f, "  ring {:?}", self.ring)?;
-        let across = (self.width.max(1) as usize).min(64);
-        for row in self.bytes.chunks(across) {
-            writeln!(f, "  {row:?}")?;
-        }
-        Ok(())
+        picture::rows(&self.image, f)
     }
 }
 
@@ -91,28 +91,30 @@ impl Trial for Response {
         "14",
         "15",
     ];
+    const SHARED: &'static [&'static str] = &padding::KINDS;
 
-    type Left = Left;
+    type Left = Twice<Answer>;
 
-    fn by_port(&self) -> Left {
-        let mut left = Left {
-            number: 0,
-            size: [PAINT; 2],
-            out: Lent::painted(self.out, PAINT_F),
-        };
-        left.number = port::response(
-            &self.bytes,
-            [self.width as usize, self.height as usize],
-            &port::flat(&self.ring),
-            self.radius as usize,
-            self.region,
-            left.out.part(),
-            &mut left.size,
-        );
-        left
+    fn by_port(&self) -> Self::Left {
+        Twice::of(&self.image, self.paint, |image| {
+            let mut answer = Answer {
+                number: 0,
+                size: [PAINT; 2],
+                out: Lent::painted(self.out, PAINT_F),
+            };
+            answer.number = port::response(
+                image,
+                &port::flat(&self.ring),
+                self.radius as usize,
+                self.region,
+                answer.out.part(),
+                &mut answer.size,
+            );
+            answer
+        })
     }
 
-    fn judged(&self, left: &Left) -> Result<Met, String> {
+    fn judged(&self, left: &Self::Left) -> Result<Met, String> {
         let refused = rules::response_refusal(
             self.view(),
             self.radius(),
@@ -134,18 +136,8 @@ impl Trial for Response {
                 (0, [w as usize, h as usize], values)
             }
         };
-        trial::held("number", left.number, number)?;
-        trial::held("size", left.size, size)?;
-        let got = left.out.inside();
-        if let Some(k) = parts(got, &want, |a, b| a.to_bits() == b.to_bits()) {
-            return Err(format!(
-                "element {k} is {}, expected {}",
-                bits(got[k]),
-                bits(want[k])
-            ));
-        }
-        left.out.outside_kept("the buffer")?;
-        Ok(Met::of(match number {
+        left.held(|answer| held(answer, number, size, &want), Answer::same_as)?;
+        let met = Met::of(match number {
             0 if want.is_empty() => "done, empty region",
             0 if want.iter().any(|v| v.to_bits() != 0) => "done",
             0 => "done, zeros",
@@ -154,11 +146,11 @@ impl Trial for Response {
             rules::BAD_RING => "13",
             rules::EMPTY_ROI => "14",
             _ => "15",
-        }))
+        });
+        Ok(met.and(padding::kind(self.view())))
     }
 
     fn size(&self) -> u64 {
-        let lit = self.bytes.iter().filter(|b| **b != 0).count() as u64;
         let ring: u64 = self
             .ring
             .iter()
@@ -169,24 +161,21 @@ impl Trial for Response {
             .iter()
             .map(|e| (*e).min(10_000))
             .sum();
-        10_000 * self.bytes.len() as u64 + 10 * lit + ring + self.out as u64 + self.radius + edges
+        picture::size(&self.image) + ring + self.out as u64 + self.radius + edges
     }
 
     fn simpler(&self) -> Vec<Self> {
         let mut out = Vec::new();
-        let (w, h) = (self.width as usize, self.height as usize);
-        for part in trial::crops(&self.bytes, w, h) {
+        for (image, [x, y]) in picture::simpler(&self.image) {
             let moved = |edge: u64, by: usize| edge.saturating_sub(by as u64);
             let r = self.region;
             let less = Response {
-                width: part.width as u64,
-                height: part.height as u64,
-                bytes: part.values,
+                image: Rc::new(image),
                 region: Region {
-                    x0: moved(r.x0, part.x),
-                    y0: moved(r.y0, part.y),
-                    x1: moved(r.x1, part.x),
-                    y1: moved(r.y1, part.y),
+                    x0: moved(r.x0, x),
+                    y0: moved(r.y0, y),
+                    x1: moved(r.x1, x),
+                    y1: moved(r.y1, y),
                 },
                 ..self.clone()
             };
@@ -205,11 +194,11 @@ impl Trial for Response {
                 ..r
             },
             Region {
-                x1: r.x1.min(self.width),
+                x1: r.x1.min(self.image.width),
                 ..r
             },
             Region {
-                y1: r.y1.min(self.height),
+                y1: r.y1.min(self.image.height),
                 ..r
             },
         ] {
@@ -230,13 +219,33 @@ impl Trial for Response {
                 ..self.clone()
             });
         }
-        for k in 0..self.bytes.len().min(1000) {
-            let mut less = self.clone();
-            less.bytes[k] = 0;
-            out.push(less);
-        }
         out
     }
+}
+
+impl OfImage for Response {
+    fn image(&self) -> &Image {
+        &self.image
+    }
+
+    fn with_image(&self, image: Image) -> Self {
+        Response {
+            image: Rc::new(image),
+            ..self.clone()
+        }
+    }
+}
+
+/// How an answer parts from what is expected.
+fn held(got: &Answer, number: u32, size: [usize; 2], want: &[f32]) -> Result<(), String> {
+    trial::held("number", got.number, number)?;
+    trial::held("size", got.size, size)?;
+    let values = got.out.inside();
+    if let Some(k) = parts(values, want, |a, b| a.to_bits() == b.to_bits()) {
+        let (got, want) = (bits(values[k]), bits(want[k]));
+        return Err(format!("element {k} is {got}, expected {want}"));
+    }
+    got.out.outside_kept("the buffer")
 }
 
 /// The sixteen pixels at distance 2 round the middle of 5 by 5, in a turn.
@@ -252,55 +261,68 @@ fn round() -> Ring {
     ring
 }
 
+/// The middle pixel of 5 by 5 alone.
+const MIDDLE: Region = Region {
+    x0: 2,
+    y0: 2,
+    x1: 3,
+    y1: 3,
+};
+
+/// Whether both sides answer alike in the middle of 5 by 5, the port by rows with
+/// padding. The oracle was lent the ring.
+fn same_in_the_middle(lent: port::Image<'_>, pixels: &[u8; 25], flat: &[i32; 32]) -> bool {
+    let mut out = [PAINT_F; 3];
+    let mut size = [PAINT; 2];
+    let number = port::response(lent, flat, 2, MIDDLE, &mut out[1..2], &mut size);
+    let view = View::new(5, 5, pixels);
+    let (w, h, want) = oracle::any_ring::response_patch(view, false, MIDDLE).expect("a region");
+    number == 0
+        && size == [w, h]
+        && [PAINT_F, want[0], PAINT_F].map(f32::to_bits) == out.map(f32::to_bits)
+}
+
 /// All two-valued images of 5 by 5 at ring radius 2, in the middle pixel. The
 /// ring is the outer sixteen pixels and the cross the five in the middle; the
-/// four that no sample reads follow the others, unless all is asked for.
-pub fn short(tally: &mut Tally, all: bool, levels: [u8; 2]) -> bool {
+/// four that no sample reads follow the others, unless all is asked for. Each
+/// image has other padding, where the pitch leaves room for any.
+pub fn short(tally: &mut Tally, all: bool, levels: [u8; 2], pitch: usize) -> bool {
     let unread = [6usize, 8, 16, 18];
     let read: Vec<usize> = (0..25).filter(|k| !unread.contains(k)).collect();
     let order: Vec<usize> = read.iter().chain(&unread).copied().collect();
     let ring = round();
     let flat = port::flat(&ring);
-    let region = Region {
-        x0: 2,
-        y0: 2,
-        x1: 3,
-        y1: 3,
-    };
     oracle::any_ring::lend_ring(2, &ring);
     let count: u32 = if all { 1 << 25 } else { 1 << 21 };
-    let mut bytes = [0u8; 25];
-    for image in 0..count {
+    let mut pixels = [0u8; 25];
+    let mut image = Image {
+        pitch: pitch as u64,
+        ..Image::new(5, 5, vec![0; 5 * pitch])
+    };
+    for number in 0..count {
         let bits = match all {
-            true => image,
-            false => image | (image.wrapping_mul(0x9E37_79B9) >> 28) << 21,
+            true => number,
+            false => number | (number.wrapping_mul(0x9E37_79B9) >> 28) << 21,
         };
         for (k, at) in order.iter().enumerate() {
-            bytes[*at] = levels[(bits >> k & 1) as usize];
+            pixels[*at] = levels[(bits >> k & 1) as usize];
         }
-        let mut out = [PAINT_F; 3];
-        let mut size = [PAINT; 2];
-        let number = port::response(&bytes, [5, 5], &flat, 2, region, &mut out[1..2], &mut size);
-        let view = View::new(5, 5, &bytes);
-        let (w, h, want) = oracle::any_ring::response_patch(view, false, region).expect("a region");
-        let same = number == 0
-            && size == [w, h]
-            && [PAINT_F, want[0], PAINT_F].map(f32::to_bits) == out.map(f32::to_bits);
-        if same {
-            tally.cases += 1;
-            tally.parts += 1;
-            continue;
+        for (row, five) in image.bytes.chunks_mut(pitch).zip(pixels.chunks(5)) {
+            row[..5].copy_from_slice(five);
+            row[5..].fill(number as u8 | 1);
         }
-        return tally.tried(&Response {
-            width: 5,
-            height: 5,
-            bytes: bytes.to_vec(),
-            ring,
-            radius: 2,
-            region,
-            out: 1,
-        });
+        if !same_in_the_middle(picture::lent(&image), &pixels, &flat) {
+            tally.tried(&Response {
+                region: MIDDLE,
+                out: 1,
+                ..whole(image, ring, 2)
+            });
+            tally.differ = true;
+            return false;
+        }
     }
+    tally.cases += u64::from(count);
+    tally.parts += u64::from(count);
     *tally.classes.entry("done").or_default() += u64::from(count);
     tally.exhaustive += u64::from(count);
     true
@@ -369,69 +391,58 @@ fn any_edge(random: &mut Random, radius: u64, size: u64) -> u64 {
     }
 }
 
-/// An image and a region about the borders of the rules.
-pub fn any(random: &mut Random, rings: &mut Rings) -> Response {
-    rings.next(random);
-    let (mut width, mut height) = (
-        any_size(random, rings.radius),
-        any_size(random, rings.radius),
-    );
+/// An image about the borders of the rules.
+fn any_image(random: &mut Random, radius: u64) -> Image {
+    let (mut width, mut height) = (any_size(random, radius), any_size(random, radius));
     if random.once_in(100) {
         (width, height) =
             random.pick(&[(4096, 1), (1, 4096), (4097, 1), (1, 4097), (0, 3), (3, 0)]);
     }
-    let picture = match random.below(4) {
-        0 => pictures::noise(random, width as usize, height as usize),
-        1 => pictures::few_levels(random, width as usize, height as usize, &[0, 255]),
-        2 if width * height < 1000 => pictures::any(random, width as usize, height as usize),
-        _ => pictures::few_levels(
-            random,
-            width as usize,
-            height as usize,
-            &[0, 1, 127, 254, 255],
-        ),
+    let (w, h) = (width as usize, height as usize);
+    let image = match random.below(4) {
+        0 => pictures::noise(random, w, h),
+        1 => pictures::few_levels(random, w, h, &[0, 255]),
+        2 if width * height < 1000 => pictures::any(random, w, h),
+        _ => pictures::few_levels(random, w, h, &[0, 1, 127, 254, 255]),
     };
-    let mut case = Response {
-        width,
-        height,
-        bytes: picture.bytes,
-        ring: rings.ring,
-        radius: rings.radius,
-        region: Region {
+    picture::any_pitch(random, image)
+}
+
+fn any_region(random: &mut Random, radius: u64, [width, height]: [u64; 2]) -> Region {
+    if random.once_in(4) {
+        return Region {
             x0: 0,
             y0: 0,
             x1: width,
             y1: height,
-        },
-        out: 0,
-    };
-    if !random.once_in(4) {
-        let edges = [width, height, width, height].map(|n| any_edge(random, rings.radius, n));
-        let [a, b, c, d] = edges;
-        case.region = if random.once_in(6) {
-            Region {
-                x0: a,
-                y0: b,
-                x1: c,
-                y1: d,
-            }
-        } else {
-            Region {
-                x0: a.min(c),
-                y0: b.min(d),
-                x1: a.max(c),
-                y1: b.max(d),
-            }
         };
     }
+    let [a, b, c, d] = [width, height, width, height].map(|n| any_edge(random, radius, n));
+    if random.once_in(6) {
+        return Region {
+            x0: a,
+            y0: b,
+            x1: c,
+            y1: d,
+        };
+    }
+    Region {
+        x0: a.min(c),
+        y0: b.min(d),
+        x1: a.max(c),
+        y1: b.max(d),
+    }
+}
+
+/// One thing of a call is wrong, now and then.
+fn spoilt(random: &mut Random, case: &mut Response) {
     match random.below(40) {
-        0 => case.bytes.push(7),
-        1 => drop(case.bytes.pop()),
+        0 => Rc::make_mut(&mut case.image).bytes.push(7),
+        1 => drop(Rc::make_mut(&mut case.image).bytes.pop()),
         // A product that wraps to the number of bytes there are.
         2 => {
-            (case.width, case.height) =
-                random.pick(&[(1 << 32, 1 << 32), (1 << 63, 2), (2, 1 << 63)]);
-            case.bytes.clear();
+            let (w, h) = random.pick(&[(1 << 32, 1 << 32), (1 << 63, 2), (2, 1 << 63)]);
+            case.image = Rc::new(Image::new(w, h, Vec::new()));
         }
         3 => case.radius = 0,
         4 => case.radius = random.pick(&[11, 12, 1 << 31, 1 << 32, (1 << 32) + 5, u64::MAX]),
@@ -447,6 +458,18 @@ pub fn any(random: &mut Random, rings: &mut Rings) -> Response {
         }
         _ => {}
     }
+}
+
+/// A call about the borders of the rules.
+pub fn any(random: &mut Random, rings: &mut Rings) -> Response {
+    rings.next(random);
+    let image = any_image(random, rings.radius);
+    let mut case = Response {
+        region: any_region(random, rings.radius, [image.width, image.height]),
+        paint: random.word64(),
+        ..whole(image, rings.ring, rings.radius)
+    };
+    spoilt(random, &mut case);
     case.out = case.fitting().min(1 << 16);
     match random.below(20) {
         0 => case.out += 1 + random.below(3),
@@ -456,15 +479,36 @@ pub fn any(random: &mut Random, rings: &mut Rings) -> Response {
     case
 }
 
+/// The whole of an image, with a buffer that fits.
+fn whole(image: Image, ring: Ring, radius: u64) -> Response {
+    let mut case = Response {
+        region: Region {
+            x0: 0,
+            y0: 0,
+            x1: image.width,
+            y1: image.height,
+        },
+        image: Rc::new(image),
+        paint: 0,
+        ring,
+        radius,
+        out: 0,
+    };
+    case.out = case.fitting();
+    case
+}
+
+/// A pitch of every class.
+pub fn pitches(tally: &mut Tally, random: &mut Random) -> bool {
+    let image = pictures::noise(random, 16, 14);
+    picture::pitches(tally, random, &whole(image, paper_ring(1), 5))
+}
+
 /// The driver notices each fault of an answer.
 pub fn faults_noticed() -> Result<(), String> {
     let mut random = Random::of(1, "faults");
+    let image = pictures::noise(&mut random, 12, 12);
     let written = Response {
-        width: 12,
-        height: 12,
-        bytes: pictures::noise(&mut random, 12, 12).bytes,
-        ring: paper_ring(1),
-        radius: 5,
         region: Region {
             x0: 4,
             y0: 4,
@@ -472,20 +516,24 @@ pub fn faults_noticed() -> Result<(), String> {
             y1: 8,
         },
         out: 16,
+        ..whole(image, paper_ring(1), 5)
     };
     let refused = Response {
         radius: 11,
         ..written.clone()
     };
+    let padded = picture::faults_noticed(&written, |l| {
+        l.again.as_mut().expect("padding").out.part()[5] += 1.0;
+    })?;
     trial::faults_noticed(
-        &[written, refused],
+        &[written, refused, padded],
         &[
-            ("number", |l| l.number ^= 1),
-            ("width", |l| l.size[0] ^= 1),
-            ("height", |l| l.size[1] ^= 1),
-            ("the sign of a zero", |l| l.out.part()[0] = -0.0),
-            ("a value", |l| l.out.part()[5] += 1.0),
-            ("outside the buffer", |l| l.out.spoil()[0] = 0.0),
+            ("number", |l| l.first.number ^= 1),
+            ("width", |l| l.first.size[0] ^= 1),
+            ("height", |l| l.first.size[1] ^= 1),
+            ("the sign of a zero", |l| l.first.out.part()[0] = -0.0),
+            ("a value", |l| l.first.out.part()[5] += 1.0),
+            ("outside the buffer", |l| l.first.out.spoil()[0] = 0.0),
         ],
     )
 }

@@ -1,8 +1,8 @@
 //! What the refiner is asked about: an image with settings, and seeds on it,
 //! about the borders of document 01's rules.
 
-use crate::port;
-use crate::trial::{bits, crops};
+use crate::trial::bits;
+use crate::{picture, port};
 use oracle::lists::{self, refine_list};
 use oracle::random::Random;
 use oracle::types::{Image, Settings, View};
@@ -21,14 +21,6 @@ impl Scene {
         View::from(&*self.image)
     }
 
-    pub fn lent(&self) -> port::Image<'_> {
-        port::Image {
-            bytes: &self.image.bytes,
-            width: self.image.width as usize,
-            height: self.image.height as usize,
-        }
-    }
-
     /// As the oracle takes them: all radii above the limit are refused.
     pub fn for_oracle(&self) -> Settings {
         let s = self.settings;
@@ -42,7 +34,6 @@ impl Scene {
 
     pub fn size(&self) -> u64 {
         let s = self.settings;
-        let lit = self.image.bytes.iter().filter(|b| **b != 0).count() as u64;
         let usual = Settings::default();
         let odd = [
             s.det_margin.to_bits() != usual.det_margin.to_bits(),
@@ -50,21 +41,19 @@ impl Scene {
             s.min_abs_det.to_bits() != usual.min_abs_det.to_bits(),
         ];
         let odd = odd.iter().filter(|o| **o).count() as u64;
-        10_000 * self.image.bytes.len() as u64 + 10 * lit + 5 * odd + s.radius.min(1 << 20) as u64
+        picture::size(&self.image) + 5 * odd + s.radius.min(1 << 20) as u64
     }
 
     /// Scenes a step simpler, and how far the places on them move.
     pub fn simpler(&self) -> Vec<(Scene, [f32; 2])> {
-        let (w, h) = (self.image.width as usize, self.image.height as usize);
-        let mut out: Vec<(Scene, [f32; 2])> = crops(&self.image.bytes, w, h)
+        let mut out: Vec<(Scene, [f32; 2])> = picture::simpler(&self.image)
             .into_iter()
-            .map(|part| {
-                let image = Rc::new(Image::new(part.width, part.height, part.values));
+            .map(|(image, moved)| {
                 let less = Scene {
-                    image,
+                    image: Rc::new(image),
                     ..self.clone()
                 };
-                (less, [part.x as f32, part.y as f32])
+                (less, moved.map(|by| by as f32))
             })
             .collect();
         let usual = Settings::default();
@@ -77,15 +66,6 @@ impl Scene {
         other(&|s| s.max_offset = usual.max_offset);
         other(&|s| s.min_abs_det = usual.min_abs_det);
         other(&|s| s.radius = s.radius.saturating_sub(1));
-        for k in 0..self.image.bytes.len().min(1000) {
-            let mut image = (*self.image).clone();
-            image.bytes[k] = 0;
-            let less = Scene {
-                image: Rc::new(image),
-                ..self.clone()
-            };
-            out.push((less, [0.0; 2]));
-        }
         out
     }
 }
@@ -95,20 +75,14 @@ impl Display for Scene {
         let (image, s) = (&self.image, self.settings);
         writeln!(
             f,
-            "  width {}, height {}, {} bytes, radius {}, det_margin {}, max_offset {}, min_abs_det {}",
-            image.width,
-            image.height,
-            image.bytes.len(),
+            "  {}, radius {}, det_margin {}, max_offset {}, min_abs_det {}",
+            picture::sizes(image),
             s.radius,
             bits(s.det_margin),
             bits(s.max_offset),
             bits(s.min_abs_det)
         )?;
-        let across = (image.width.max(1) as usize).min(64);
-        for row in image.bytes.chunks(across) {
-            writeln!(f, "  {row:?}")?;
-        }
-        Ok(())
+        picture::rows(image, f)
     }
 }
 
@@ -178,13 +152,35 @@ fn tie(random: &mut Random, scene: &mut Scene) {
         0 => s.det_margin = beside(random, -first.score),
         1 => s.min_abs_det = beside(random, -first.score),
         _ => {
-            let place = plain::first_fit(scene.view(), &scene.for_oracle(), seed);
+            let place = calls::without_padding(scene.view(), |whole| {
+                plain::first_fit(whole, &scene.for_oracle(), seed)
+            });
             let away = (place[0] - seed[0]).abs().max((place[1] - seed[1]).abs());
             if away.is_finite() {
                 scene.settings.max_offset = beside(random, away);
             }
         }
     }
+}
+
+/// An image at any pitch, now and then one that is refused.
+fn any_lent(random: &mut Random, radius: usize) -> Image {
+    let mut image = any_image(random, radius);
+    if random.once_in(100) {
+        let (w, h) = random.pick(&[(4096, 1), (1, 4096), (4097, 1), (1, 4097)]);
+        image = pictures::flat(w, h, 9);
+    }
+    let mut image = picture::any_pitch(random, image);
+    match random.below(100) {
+        0 => image.bytes.push(7),
+        1 => drop(image.bytes.pop()),
+        2 => {
+            let (w, h) = random.pick(&[(1 << 32, 1 << 32), (1 << 63, 2), (0, 0), (9, 0), (0, 9)]);
+            image = Image::new(w, h, Vec::new());
+        }
+        _ => {}
+    }
+    image
 }
 
 pub fn any(random: &mut Random) -> Scene {
@@ -195,23 +191,8 @@ pub fn any(random: &mut Random) -> Scene {
         _ => random.pick(&[1, 1, 1, 1, 2, 2, 2, 2, 3, 3, 4, 5, 6, 7]),
     };
     let usual = Settings::default();
-    let mut image = any_image(random, radius.min(8));
-    match random.below(100) {
-        0 => image.bytes.push(7),
-        1 => drop(image.bytes.pop()),
-        2 => {
-            (image.width, image.height) =
-                random.pick(&[(1 << 32, 1 << 32), (1 << 63, 2), (0, 0), (9, 0), (0, 9)]);
-            image.bytes.clear();
-        }
-        3 => {
-            let (w, h) = random.pick(&[(4096, 1), (1, 4096), (4097, 1), (1, 4097)]);
-            image = pictures::flat(w, h, 9);
-        }
-        _ => {}
-    }
     let mut scene = Scene {
-        image: Rc::new(image),
+        image: Rc::new(any_lent(random, radius.min(8))),
         settings: port::Settings {
             radius,
             det_margin: any_limit(random, usual.det_margin, &[0.0, 1e-30, 0.5, 4.0, 100.0]),

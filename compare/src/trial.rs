@@ -181,6 +181,8 @@ pub trait Trial: Sized + Clone + Display {
     const NAME: &'static str;
     /// Every class that a run must reach.
     const CLASSES: &'static [&'static str];
+    /// More of them, which several calls share.
+    const SHARED: &'static [&'static str] = &[];
     /// All that the call leaves.
     type Left: Clone;
 
@@ -274,6 +276,15 @@ pub fn faults_noticed<T: Trial>(cases: &[T], faults: &[Fault<T::Left>]) -> Resul
     Ok(())
 }
 
+/// The driver notices what another input leaves in the place of what this one
+/// should.
+pub fn other_noticed<T: Trial>(name: &str, case: &T, other: &T) -> Result<(), String> {
+    match case.judged(&other.by_port()) {
+        Err(_) => Ok(()),
+        Ok(_) => Err(format!("{}: a fault is not noticed: {name}", T::NAME)),
+    }
+}
+
 /// What was seen of one call.
 #[derive(Default)]
 pub struct Tally {
@@ -329,6 +340,7 @@ impl Tally {
         );
         let missed: Vec<&str> = T::CLASSES
             .iter()
+            .chain(T::SHARED)
             .filter(|class| !self.classes.contains_key(*class))
             .copied()
             .collect();

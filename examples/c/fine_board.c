@@ -48,13 +48,13 @@ static void predict(void) {
 /* The corners before any merge, to the front of list. */
 static int find(size_t *found) {
     size_t w, h;
-    uint32_t no = chess_corners_response(img, AREA, WIDTH, HEIGHT, RING, 3, 0, 0, WIDTH, HEIGHT, response, AREA, &w,
-                                         &h);
+    uint32_t no = chess_corners_response(img, AREA, WIDTH, HEIGHT, WIDTH, RING, 3, 0, 0, WIDTH, HEIGHT, response, AREA,
+                                         &w, &h);
     if (no != CHESS_CORNERS_ACCEPTED) return refused("response", no);
     no = chess_corners_peaks(response, AREA, w, h, 3, 2, 2, 200.0f, 2, peaks, 3 * MOST, found);
     if (no != CHESS_CORNERS_ACCEPTED) return refused("peaks", no);
-    no = chess_corners_refine_list(img, AREA, WIDTH, HEIGHT, 2, 1e-3f, 1.5f, 1e-4f, peaks, 3 * *found, list, 3 * MOST,
-                                   found);
+    no = chess_corners_refine_list(img, AREA, WIDTH, HEIGHT, WIDTH, 2, 1e-3f, 1.5f, 1e-4f, peaks, 3 * *found, list,
+                                   3 * MOST, found);
     if (no != CHESS_CORNERS_ACCEPTED) return refused("refine_list", no);
     return 0;
 }

@@ -1,6 +1,7 @@
 /* The whole road of a picture: response, peaks, refined list, merge.
  *   road FILE WIDTH HEIGHT
- * FILE holds WIDTH times HEIGHT bytes, row after row. A line a corner on standard output: x, y and strength as bit
+ * FILE holds WIDTH times HEIGHT bytes, row after row. They are put in rows of a multiple of 64 bytes, as a sensor with
+ * padded rows gives them. A line a corner on standard output: x, y and strength as bit
  * patterns, then `total` and the count; or `refused`, the call and its number. */
 #include "chess_corners.h"
 
@@ -30,13 +31,14 @@ static int refused(const char *call, uint32_t number) {
 }
 
 /* The corners of an image, or a refusal; response is a buffer of width times height. */
-static int road(const uint8_t *img, size_t len, size_t width, size_t height, float *response) {
-    size_t w, h, found, kept;
-    uint32_t no = chess_corners_response(img, len, width, height, RING, 5, 0, 0, width, height, response, len, &w, &h);
+static int road(const uint8_t *img, size_t width, size_t height, size_t pitch, float *response) {
+    size_t w, h, found, kept, len = pitch * height, area = width * height;
+    uint32_t no = chess_corners_response(img, len, width, height, pitch, RING, 5, 0, 0, width, height, response, area,
+                                         &w, &h);
     if (no != CHESS_CORNERS_ACCEPTED) return refused("response", no);
-    no = chess_corners_peaks(response, len, w, h, 5, 2, 2, 200.0f, 2, peaks, 3 * MOST, &found);
+    no = chess_corners_peaks(response, area, w, h, 5, 2, 2, 200.0f, 2, peaks, 3 * MOST, &found);
     if (no != CHESS_CORNERS_ACCEPTED) return refused("peaks", no);
-    no = chess_corners_refine_list(img, len, width, height, 2, 1e-3f, 1.5f, 1e-4f, peaks, 3 * found, corners,
+    no = chess_corners_refine_list(img, len, width, height, pitch, 2, 1e-3f, 1.5f, 1e-4f, peaks, 3 * found, corners,
                                    3 * MOST, &found);
     if (no != CHESS_CORNERS_ACCEPTED) return refused("refine_list", no);
     no = chess_corners_merge(corners, 3 * found, 2.0f, heads, HEADS, links, MOST, &kept);
@@ -48,6 +50,14 @@ static int road(const uint8_t *img, size_t len, size_t width, size_t height, flo
     return 0;
 }
 
+/* The rows of a file, each followed by padding; whatever that holds, the corners are the same. */
+static int read_rows(FILE *file, uint8_t *img, size_t width, size_t height, size_t pitch) {
+    memset(img, 0xA5, pitch * height);
+    for (size_t y = 0; y < height; y++)
+        if (fread(img + y * pitch, 1, width, file) != width) return 0;
+    return 1;
+}
+
 int main(int count, char **words) {
     if (count != 4) {
         fprintf(stderr, "usage: road FILE WIDTH HEIGHT\n");
@@ -55,15 +65,15 @@ int main(int count, char **words) {
     }
     size_t width = strtoul(words[2], NULL, 10), height = strtoul(words[3], NULL, 10);
     if (width == 0 || height == 0 || width > MOST || height > MOST) return refused("response", 10);
-    size_t len = width * height;
-    uint8_t *img = malloc(len);
-    float *response = malloc(len * sizeof *response);
+    size_t pitch = (width / 64 + 1) * 64, area = width * height;
+    uint8_t *img = malloc(pitch * height);
+    float *response = malloc(area * sizeof *response);
     FILE *file = fopen(words[1], "rb");
     int status = 2;
-    if (img == NULL || response == NULL || file == NULL || fread(img, 1, len, file) != len)
-        fprintf(stderr, "road: %s has not %zu bytes\n", words[1], len);
+    if (img == NULL || response == NULL || file == NULL || !read_rows(file, img, width, height, pitch))
+        fprintf(stderr, "road: %s has not %zu bytes\n", words[1], area);
     else
-        status = road(img, len, width, height, response);
+        status = road(img, width, height, pitch, response);
     if (file != NULL) fclose(file);
     free(response);
     free(img);

@@ -3,6 +3,7 @@
 //! functions over slices; the lists are written from them, and a driver that
 //! compares the port natively calls them too. For timing call `plain`.
 
+use crate::padding;
 use crate::rules::{self, Way};
 use crate::rust_or_rule::{accepted, broken, refusal, run, Decided};
 use crate::types::*;
@@ -44,6 +45,25 @@ pub fn triples(floats: &[f32]) -> Vec<Triple> {
     floats.chunks_exact(3).map(|c| [c[0], c[1], c[2]]).collect()
 }
 
+/// Asks the Rust, which knows no pitch, about the image with its padding taken
+/// out. `None` where a pitch that is not the width is refused: it cannot be asked.
+fn asked<T>(image: View<'_>, f: impl FnOnce(View<'_>) -> T) -> Option<T> {
+    if image.pitch != image.width && rules::bad_image(image) {
+        return None;
+    }
+    Some(without_padding(image, f))
+}
+
+/// The same of an image that no number refuses.
+pub fn without_padding<T>(image: View<'_>, f: impl FnOnce(View<'_>) -> T) -> T {
+    let bytes = padding::taken_out(image);
+    f(View {
+        pitch: image.width,
+        bytes: &bytes,
+        ..image
+    })
+}
+
 /// Whether `ImageView::from_u8_slice` says no as well as document 01.
 fn view_refused(image: View<'_>) -> bool {
     image.width.checked_mul(image.height) != Some(image.bytes.len() as u64)
@@ -59,22 +79,24 @@ pub fn response(
 ) -> (Decision, u64, u64, Vec<f32>) {
     any_ring::lend_ring(radius as u32, ring);
     checked::lend_ring(radius as u32, ring);
-    let by_plain = || any_ring::response_patch(image, false, region);
-    let by_checked = || checked::response_patch(image, false, region);
+    let by_plain = |whole: View<'_>| any_ring::response_patch(whole, false, region);
+    let by_checked = |whole: View<'_>| checked::response_patch(whole, false, region);
     let refused = rules::response_refusal(image, radius, ring, region, out);
     let (w, h, values) = match refused {
         Some(_) => (0, 0, Vec::new()),
         None => rules::response(image, radius, ring, region),
     };
-    let decided = match refused {
+    let same = |answer: &Option<(usize, usize, Vec<f32>)>| {
+        let (rw, rh, rv) = answer.as_ref().expect("the region is not empty");
+        (*rw as u64, *rh as u64) == (w, h) && same_floats(rv, &values)
+    };
+    let decided = asked(image, |whole| match refused {
         // `Roi::new` says no as well.
         Some(rules::EMPTY_ROI) => Decided::ByRust,
-        Some(_) => refusal(by_plain, by_checked),
-        None => accepted(by_plain, by_checked, |answer| {
-            let (rw, rh, rv) = answer.as_ref().expect("the region is not empty");
-            (*rw as u64, *rh as u64) == (w, h) && same_floats(rv, &values)
-        }),
-    };
+        Some(_) => refusal(|| by_plain(whole), || by_checked(whole)),
+        None => accepted(|| by_plain(whole), || by_checked(whole), same),
+    });
+    let decided = decided.unwrap_or(Decided::NotRun);
     hold(
         decided != Decided::OtherRule,
         "response: rule and Rust part",
@@ -105,19 +127,21 @@ pub fn refine_one(
     covariance: bool,
 ) -> (Refined, Run, Decided) {
     if let Some(number) = rules::seed_refusal(image, s, seed) {
-        let decided = if view_refused(image) {
-            Decided::ByRust
-        } else {
-            refusal(
-                || plain::Refiner::new(s, covariance).refine(image, seed),
-                || checked::Refiner::new(s, covariance).refine(image, seed),
-            )
-        };
+        let decided = asked(image, |whole| match view_refused(whole) {
+            true => Decided::ByRust,
+            false => refusal(
+                || plain::Refiner::new(s, covariance).refine(whole, seed),
+                || checked::Refiner::new(s, covariance).refine(whole, seed),
+            ),
+        });
+        let decided = decided.unwrap_or(Decided::NotRun);
         return (refused_seed(number, seed), Run::default(), decided);
     }
-    let by_checked = run(|| checked::refine_counted(image, s, seed, covariance));
-    let mut fresh = plain::Counted::new(s, covariance);
-    let (answer, run, panics) = seed_by(&mut fresh, image, s, seed);
+    let (by_checked, (answer, run, panics)) = without_padding(image, |whole| {
+        let by_checked = run(|| checked::refine_counted(whole, s, seed, covariance));
+        let mut fresh = plain::Counted::new(s, covariance);
+        (by_checked, seed_by(&mut fresh, whole, s, seed))
+    });
     let decided = match by_checked {
         _ if panics => Decided::RustPanics,
         Some(_) => Decided::ByRust,
@@ -184,7 +208,7 @@ pub fn refine_kept(
         return (refused_seed(number, seed), Run::default());
     }
     with_kept(s, covariance, |kept| {
-        let (answer, run, _) = seed_by(kept, image, s, seed);
+        let (answer, run, _) = without_padding(image, |whole| seed_by(kept, whole, s, seed));
         (answer, run)
     })
 }
@@ -200,20 +224,23 @@ pub fn refine_list_kept(
         return (number, Vec::new());
     }
     let corners = triples(floats);
-    with_kept(s, false, |kept| {
+    let of_whole = |whole: View<'_>, kept: &mut plain::Counted| {
         let one_by_one: Vec<Triple> = corners
             .iter()
             .filter(|c| !rules::bad_seed([c[0], c[1]]))
             .filter_map(|c| {
-                let (a, _, _) = seed_by(kept, image, s, [c[0], c[1]]);
+                let (a, _, _) = seed_by(kept, whole, s, [c[0], c[1]]);
                 (a.status == 0).then_some([a.x, a.y, c[2]])
             })
             .collect();
         // The Rust panics on some seeds that leave the image.
-        if let Some(all) = run(|| kept.refine_list(image, &corners)) {
+        if let Some(all) = run(|| kept.refine_list(whole, &corners)) {
             hold(same_triples(&all, &one_by_one), "a list is not its seeds");
         }
         (0, one_by_one)
+    };
+    with_kept(s, false, |kept| {
+        without_padding(image, |whole| of_whole(whole, kept))
     })
 }
 
@@ -237,25 +264,28 @@ pub fn refine_list(
     out: usize,
 ) -> (Decision, Vec<Triple>) {
     let corners = triples(floats);
-    let by_plain = || plain::Refiner::new(s, false).refine_list(image, &corners);
-    let by_checked = || checked::Refiner::new(s, false).refine_list(image, &corners);
     let refused = rules::refine_list_refusal(image, s, floats.len(), out);
-    let (answer, decided) = match refused {
-        Some(rules::BAD_LENGTH) => (Vec::new(), Decided::NotRun),
-        Some(_) if view_refused(image) => (Vec::new(), Decided::ByRust),
-        Some(_) => (Vec::new(), refusal(by_plain, by_checked)),
-        None => {
-            let one_by_one: Vec<Triple> = corners
-                .iter()
-                .filter_map(|c| {
-                    let (a, _, _) = refine_one(image, s, [c[0], c[1]], false);
-                    (a.status == 0).then_some([a.x, a.y, c[2]])
-                })
-                .collect();
-            let decided = decided_list(&one_by_one, by_plain, by_checked);
-            (one_by_one, decided)
+    let answered = asked(image, |whole| {
+        let by_plain = || plain::Refiner::new(s, false).refine_list(whole, &corners);
+        let by_checked = || checked::Refiner::new(s, false).refine_list(whole, &corners);
+        match refused {
+            Some(rules::BAD_LENGTH) => (Vec::new(), Decided::NotRun),
+            Some(_) if view_refused(whole) => (Vec::new(), Decided::ByRust),
+            Some(_) => (Vec::new(), refusal(by_plain, by_checked)),
+            None => {
+                let one_by_one: Vec<Triple> = corners
+                    .iter()
+                    .filter_map(|c| {
+                        let (a, _, _) = refine_one(whole, s, [c[0], c[1]], false);
+                        (a.status == 0).then_some([a.x, a.y, c[2]])
+                    })
+                    .collect();
+                let decided = decided_list(&one_by_one, by_plain, by_checked);
+                (one_by_one, decided)
+            }
         }
-    };
+    });
+    let (answer, decided) = answered.unwrap_or((Vec::new(), Decided::NotRun));
     (decision(refused, decided), answer)
 }
 
@@ -269,36 +299,43 @@ pub fn fallback(
     passes: usize,
 ) -> (Decision, Vec<Triple>, Vec<u8>) {
     let corners = triples(floats);
-    let by_plain = || {
-        let mut second = plain::Refiner::new(two, false);
-        plain::Refiner::new(one, false).refine_list_with_fallback(&mut second, image, &corners)
-    };
-    let by_checked = || {
-        let mut second = checked::Refiner::new(two, false);
-        checked::Refiner::new(one, false).refine_list_with_fallback(&mut second, image, &corners)
-    };
     let refused = rules::fallback_refusal(image, one, two, floats.len(), out, passes);
     let mut answer = Vec::new();
     let mut gave = Vec::new();
-    let decided = match refused {
-        Some(rules::BAD_LENGTH) => Decided::NotRun,
-        Some(_) if view_refused(image) => Decided::ByRust,
-        Some(_) => refusal(by_plain, by_checked),
-        None => {
-            for c in &corners {
-                for (pass, s) in [(1, one), (2, two)] {
-                    let (a, _, _) = refine_one(image, s, [c[0], c[1]], false);
-                    if a.status == 0 {
-                        answer.push([a.x, a.y, c[2]]);
-                        gave.push(pass);
-                        break;
-                    }
+    let decided = asked(image, |whole| {
+        let by_plain = || {
+            let mut second = plain::Refiner::new(two, false);
+            plain::Refiner::new(one, false).refine_list_with_fallback(&mut second, whole, &corners)
+        };
+        let by_checked = || {
+            let mut second = checked::Refiner::new(two, false);
+            let mut first = checked::Refiner::new(one, false);
+            first.refine_list_with_fallback(&mut second, whole, &corners)
+        };
+        match refused {
+            Some(rules::BAD_LENGTH) => Decided::NotRun,
+            Some(_) if view_refused(whole) => Decided::ByRust,
+            Some(_) => refusal(by_plain, by_checked),
+            None => {
+                for c in &corners {
+                    let tried = first_pass(whole, [one, two], [c[0], c[1]]);
+                    answer.extend(tried.map(|(_, [x, y])| [x, y, c[2]]));
+                    gave.extend(tried.map(|(pass, _)| pass));
                 }
+                decided_list(&answer, by_plain, by_checked)
             }
-            decided_list(&answer, by_plain, by_checked)
         }
-    };
+    });
+    let decided = decided.unwrap_or(Decided::NotRun);
     (decision(refused, decided), answer, gave)
+}
+
+/// The first of two passes that accepts a seed, 1 or 2, and where it puts it.
+fn first_pass(image: View<'_>, passes: [&Settings; 2], seed: [f32; 2]) -> Option<(u8, [f32; 2])> {
+    (1..).zip(passes).find_map(|(pass, s)| {
+        let (a, _, _) = refine_one(image, s, seed, false);
+        (a.status == 0).then_some((pass, [a.x, a.y]))
+    })
 }
 
 /// Whether the Rust's merge may be run: its grid asks for little memory, or

@@ -3,14 +3,15 @@
 
 use crate::lists::refine;
 use crate::random::Random;
-use crate::rust_or_rule::run;
+use crate::rust_or_rule::{run, Decided};
 use crate::types::*;
-use crate::{any_ring, calls, checked, pictures, plain, rules};
+use crate::{any_ring, calls, checked, padding, pictures, plain, rules};
 
 type Lines = Vec<(String, bool)>;
 
 pub fn all() -> Lines {
     let mut out = Vec::new();
+    pitch(&mut out);
     response(&mut out);
     far_seeds(&mut out);
     refiner(&mut out);
@@ -28,6 +29,24 @@ fn whole(image: &Image) -> Region {
         x1: image.width,
         y1: image.height,
     }
+}
+
+fn pitch(out: &mut Lines) {
+    let mut say = |line: &str, holds: bool| out.push((line.to_string(), holds));
+    let saddle = refine::exact_saddle();
+    let padded = padding::padded(&mut Random::of(1, "pitch"), &saddle, 64);
+    let (s, seed) = (Settings::default(), [4.0, 4.0]);
+    say(
+        "I4: 9 by 9 in rows of 64 bytes: the Rust takes no such bytes, and its response panics",
+        run(|| plain::Refiner::new(&s, true).refine(&padded, seed)).is_none()
+            && run(|| plain::response_patch(&padded, false, whole(&padded))).is_none(),
+    );
+    let (ours, _, decided) = calls::refine_one((&padded).into(), &s, seed, true);
+    let rust = plain::Refiner::new(&s, true).refine(&saddle, seed);
+    say(
+        "I4: with the padding taken out it gives the answer",
+        decided == Decided::ByRust && format!("{ours:?}") == format!("{rust:?}"),
+    );
 }
 
 fn response(out: &mut Lines) {
@@ -73,11 +92,7 @@ fn response(out: &mut Lines) {
         "R4: 0 by 0: the Rust answers 0 by 0",
         run(|| plain::response_patch(&none, false, one)) == Some(Some((0, 0, vec![]))),
     );
-    let huge = Image {
-        width: 1 << 32,
-        height: 1 << 32,
-        bytes: Vec::new(),
-    };
+    let huge = Image::new(1 << 32, 1 << 32, Vec::new());
     say(
         "R5: 2^32 by 2^32 with no bytes: the product wraps to 0 and the Rust answers; with checks it panics",
         run(|| plain::response_patch(&huge, false, one)) == Some(Some((1, 1, vec![0.0])))

@@ -6,6 +6,7 @@ pub mod differences;
 pub mod hunt;
 pub mod lists;
 pub mod marked;
+pub mod padding;
 pub mod pictures;
 pub mod random;
 pub mod road;

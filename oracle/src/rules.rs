@@ -30,9 +30,22 @@ pub const MOST: usize = 4096;
 
 // --- tests that several calls share ---------------------------------------
 
-/// Width or height outside 1..=4096, or count not width times height.
-fn bad_size(width: u64, height: u64, count: usize) -> bool {
-    !(1..=4096).contains(&width) || !(1..=4096).contains(&height) || width * height != count as u64
+/// Width or height outside 1..=4096.
+fn bad_sides(width: u64, height: u64) -> bool {
+    !(1..=4096).contains(&width) || !(1..=4096).contains(&height)
+}
+
+/// W-208: an image of such sides, or with a pitch outside width..=8192, or a
+/// count that is not pitch times height.
+pub fn bad_image(image: View<'_>) -> bool {
+    bad_sides(image.width, image.height)
+        || !(image.width..=8192).contains(&image.pitch)
+        || image.pitch * image.height != image.bytes.len() as u64
+}
+
+/// The same of a response, which has no pitch.
+fn bad_response(width: u64, height: u64, count: usize) -> bool {
+    bad_sides(width, height) || width * height != count as u64
 }
 
 /// A float setting that is not finite or is below zero; -0.0 is not.
@@ -78,10 +91,7 @@ pub fn response_refusal(
     let far = |d: i32| i64::from(d).abs() > i64::from(ring_radius);
     let (_, _, w, h) = clamped(image, region);
     first(&[
-        (
-            bad_size(image.width, image.height, image.bytes.len()),
-            BAD_IMAGE,
-        ),
+        (bad_image(image), BAD_IMAGE),
         (!(1..=10).contains(&ring_radius), BAD_RADIUS),
         (ring.iter().any(|&(dx, dy)| far(dx) || far(dy)), BAD_RING),
         (region.x0 >= region.x1 || region.y0 >= region.y1, EMPTY_ROI),
@@ -92,7 +102,7 @@ pub fn response_refusal(
 /// The samples under one pixel: the ring, and the cross.
 fn samples(image: View<'_>, ring: &Ring, x: i64, y: i64) -> ([i32; 16], [i32; 5]) {
     let at = |dx: i32, dy: i32| {
-        let place = (y + i64::from(dy)) * image.width as i64 + x + i64::from(dx);
+        let place = (y + i64::from(dy)) * image.pitch as i64 + x + i64::from(dx);
         i32::from(image.bytes[place as usize])
     };
     (
@@ -161,10 +171,7 @@ pub fn response(
 /// 10, 11, 12: what refuses every seed.
 pub fn refine_refusal(image: View<'_>, s: &Settings) -> Option<u32> {
     first(&[
-        (
-            bad_size(image.width, image.height, image.bytes.len()),
-            BAD_IMAGE,
-        ),
+        (bad_image(image), BAD_IMAGE),
         (bad_refiner_radius(s), BAD_RADIUS),
         (bad_settings(s), BAD_LIMIT),
     ])
@@ -217,10 +224,7 @@ pub fn fallback_refusal(
     passes: usize,
 ) -> Option<u32> {
     first(&[
-        (
-            bad_size(image.width, image.height, image.bytes.len()),
-            BAD_IMAGE,
-        ),
+        (bad_image(image), BAD_IMAGE),
         (
             bad_refiner_radius(one) || bad_refiner_radius(two),
             BAD_RADIUS,
@@ -312,7 +316,7 @@ pub fn peaks_refusal(
     out: usize,
 ) -> Option<u32> {
     first(&[
-        (bad_size(width, height, response.len()), BAD_IMAGE),
+        (bad_response(width, height, response.len()), BAD_IMAGE),
         (
             !(1..=10).contains(&s.ring_radius)
                 || !(1..=8).contains(&s.window_radius)

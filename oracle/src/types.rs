@@ -18,37 +18,44 @@ pub fn paper_ring(scale: i32) -> Ring {
     ring
 }
 
-/// An image as it is handed in: nothing is checked yet.
+/// An image as it is handed in: nothing is checked yet. The pitch is how far a
+/// row begins from the one before it.
 #[derive(Clone, Debug)]
 pub struct Image {
     pub width: u64,
     pub height: u64,
+    pub pitch: u64,
     pub bytes: Vec<u8>,
 }
 
 impl Image {
+    /// Rows without padding.
     pub fn new(width: usize, height: usize, bytes: Vec<u8>) -> Self {
         Image {
             width: width as u64,
             height: height as u64,
+            pitch: width as u64,
             bytes,
         }
     }
 }
 
-/// The same, lent: bytes, width, height.
+/// The same, lent.
 #[derive(Clone, Copy, Debug)]
 pub struct View<'a> {
     pub width: u64,
     pub height: u64,
+    pub pitch: u64,
     pub bytes: &'a [u8],
 }
 
 impl<'a> View<'a> {
+    /// Rows without padding.
     pub fn new(width: usize, height: usize, bytes: &'a [u8]) -> Self {
         View {
             width: width as u64,
             height: height as u64,
+            pitch: width as u64,
             bytes,
         }
     }
@@ -59,6 +66,7 @@ impl<'a> From<&'a Image> for View<'a> {
         View {
             width: image.width,
             height: image.height,
+            pitch: image.pitch,
             bytes: &image.bytes,
         }
     }

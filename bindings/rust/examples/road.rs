@@ -36,6 +36,7 @@ fn corners(image: Image<'_>) -> Result<Vec<f32>, Refusal> {
         x1: image.width,
         y1: image.height,
     };
+    // The rows have no padding: as many values as bytes.
     let mut values = vec![0.0; image.bytes.len()];
     let (width, height) = response(image, &RING, 5, whole, &mut values)?;
     let settings = PeakSettings {
@@ -72,11 +73,7 @@ fn main() -> ExitCode {
         eprintln!("road: {file} cannot be read, or a size is no number");
         return ExitCode::from(2);
     };
-    match corners(Image {
-        bytes: &bytes,
-        width,
-        height,
-    }) {
+    match corners(Image::new(&bytes, width, height)) {
         Ok(list) => {
             for c in list.chunks_exact(3) {
                 let [x, y, s] = [c[0], c[1], c[2]].map(f32::to_bits);

@@ -18,6 +18,7 @@ pub mod raw {
             img_len: usize,
             width: usize,
             height: usize,
+            pitch: usize,
             ring: *const i32,
             radius: usize,
             x0: usize,
@@ -53,6 +54,7 @@ pub mod raw {
             img_len: usize,
             width: usize,
             height: usize,
+            pitch: usize,
             radius: usize,
             det_margin: f32,
             max_offset: f32,
@@ -69,6 +71,7 @@ pub mod raw {
             img_len: usize,
             width: usize,
             height: usize,
+            pitch: usize,
             radius: usize,
             det_margin: f32,
             max_offset: f32,
@@ -88,6 +91,7 @@ pub mod raw {
             img_len: usize,
             width: usize,
             height: usize,
+            pitch: usize,
             radius: usize,
             det_margin: f32,
             max_offset: f32,
@@ -219,12 +223,29 @@ fn done<T>(number: u32, answer: T) -> Result<T, Refusal> {
     }
 }
 
-/// Bytes, row after row, with a width and a height; nothing is tested here.
+/// Bytes, row after row, with a width and a height; nothing is tested here. Each
+/// row begins `pitch` bytes after the one before it, and no answer depends on
+/// what stands behind its `width` bytes.
 #[derive(Clone, Copy, Debug)]
 pub struct Image<'a> {
+    /// pitch times height of them.
     pub bytes: &'a [u8],
     pub width: usize,
     pub height: usize,
+    /// From the width up to 8192.
+    pub pitch: usize,
+}
+
+impl<'a> Image<'a> {
+    /// Rows without padding.
+    pub fn new(bytes: &'a [u8], width: usize, height: usize) -> Image<'a> {
+        Image {
+            bytes,
+            width,
+            height,
+            pitch: width,
+        }
+    }
 }
 
 /// From (x0, y0) up to but without (x1, y1).
@@ -397,6 +418,7 @@ pub fn response(
             image.bytes.len(),
             image.width,
             image.height,
+            image.pitch,
             ring.as_ptr(),
             radius,
             roi.x0,
@@ -485,6 +507,7 @@ pub fn refine(
             image.bytes.len(),
             image.width,
             image.height,
+            image.pitch,
             config.radius,
             config.det_margin,
             config.max_offset,
@@ -517,6 +540,7 @@ pub fn refine_with(
             image.bytes.len(),
             image.width,
             image.height,
+            image.pitch,
             operator.radius,
             config.det_margin,
             config.max_offset,
@@ -549,6 +573,7 @@ pub fn refine_list(
             image.bytes.len(),
             image.width,
             image.height,
+            image.pitch,
             config.radius,
             config.det_margin,
             config.max_offset,
@@ -679,11 +704,7 @@ mod tests {
     /// and before 2; a finite one, however far, is not.
     #[test]
     fn the_library_names_a_seed_that_is_no_number() {
-        let image = Image {
-            bytes: &[9; 9],
-            width: 3,
-            height: 3,
-        };
+        let image = Image::new(&[9; 9], 3, 3);
         let ask = |radius, max_offset, seed| {
             let config = SaddlePointConfig {
                 radius,
@@ -703,6 +724,93 @@ mod tests {
         }
         let far = ask(1, 1.5, [f32::MAX, 1.0]);
         assert!(matches!(far, Ok(Refined::OutOfBounds)));
+    }
+
+    /// A saddle of 9 by 9 at (4, 4), with its rows so far apart and that behind
+    /// them.
+    fn saddle(pitch: usize, padding: u8) -> Vec<u8> {
+        let mut bytes = vec![padding; 9 * pitch];
+        for y in 0..9 {
+            for x in 0..9 {
+                let (dx, dy) = (x as i32 - 4, y as i32 - 4);
+                bytes[y * pitch + x] = (128 + 2 * dx * dx - 2 * dy * dy) as u8;
+            }
+        }
+        bytes
+    }
+
+    fn config(radius: usize) -> SaddlePointConfig {
+        SaddlePointConfig {
+            radius,
+            det_margin: 1e-3,
+            max_offset: 1.5,
+            min_abs_det: 1e-4,
+        }
+    }
+
+    /// All that the four calls say of an image of 9 by 9.
+    fn seen(bytes: &[u8], pitch: usize) -> String {
+        let image = Image {
+            pitch,
+            ..Image::new(bytes, 9, 9)
+        };
+        let roi = Roi {
+            x0: 0,
+            y0: 0,
+            x1: 9,
+            y1: 9,
+        };
+        let (mut values, mut list) = ([7.0; 81], [7.0; 3]);
+        let ring = core::array::from_fn(|k| ([-3, -1, 2, 3][k / 4], [3, 1, -2, -3][k % 4]));
+        let size = response(image, &ring, 3, roi, &mut values);
+        let seed = [4.3, 3.8];
+        let one = refine(image, config(2), seed, true);
+        let with = refine_with(image, config(2), &Operator::new(2).unwrap(), seed, true);
+        let count = refine_list(image, config(2), &[seed[0], seed[1], 1.0], &mut list);
+        format!("{size:?} {values:?} {one:?} {with:?} {count:?} {list:?}")
+    }
+
+    /// Through the library: the same without padding and with any.
+    #[test]
+    fn the_library_does_not_see_padding() {
+        let whole = seen(&saddle(9, 0), 9);
+        assert!(whole.contains("Ok((9, 9))") && whole.contains("Ok(1)"));
+        for pitch in [10, 13, 64, 8192] {
+            for padding in [0, 1, 128, 255] {
+                assert_eq!(seen(&saddle(pitch, padding), pitch), whole);
+            }
+        }
+        let by_width = seen(&saddle(13, 1)[..81], 9);
+        assert_ne!(by_width, whole);
+    }
+
+    /// Through the library: each wrong pitch and count.
+    #[test]
+    fn the_library_refuses_a_wrong_pitch() {
+        let bytes = vec![9; 8 * 8193];
+        let ask = |pitch: usize, count: usize| {
+            let image = Image {
+                pitch,
+                ..Image::new(&bytes[..count], 9, 8)
+            };
+            refine(image, config(1), [4.0, 4.0], false).map(|seed| seed.number())
+        };
+        for pitch in [9, 10, 64, 8192] {
+            assert_eq!(ask(pitch, 8 * pitch), Ok(5));
+        }
+        for (pitch, count) in [
+            (8, 64),
+            (8193, 8 * 8193),
+            (10, 72),
+            (10, 79),
+            (10, 81),
+            (0, 0),
+            ((1 << 32) + 9, 72),
+            ((1 << 61) + 9, 72),
+            (usize::MAX, 72),
+        ] {
+            assert_eq!(ask(pitch, count), Err(Refusal::BadImage));
+        }
     }
 
     #[test]
@@ -731,11 +839,7 @@ mod tests {
     /// what a reader of the old numbers gets of it.
     #[test]
     fn the_library_says_why_a_fit_is_refused() {
-        let image = Image {
-            bytes: &[9; 9],
-            width: 3,
-            height: 3,
-        };
+        let image = Image::new(&[9; 9], 3, 3);
         let ask = |radius, det_margin, min_abs_det| {
             let config = SaddlePointConfig {
                 radius,

@@ -1,7 +1,7 @@
 //! The peak scan's rows: the response of a board, and noise.
 
 use super::{in_turn, ratio, timed};
-use crate::port;
+use crate::{picture, port};
 use oracle::plain::original as rust;
 use oracle::random::Random;
 use oracle::types::{paper_ring, Image, PeakSettings, Region};
@@ -31,7 +31,8 @@ fn of_image(image: Image) -> Vec<f32> {
     };
     let mut out = vec![0.0; w * h];
     let flat = port::flat(&paper_ring(1));
-    port::response(&image.bytes, SIZE, &flat, 5, region, &mut out, &mut [0; 2]);
+    let lent = picture::lent(&image);
+    port::response(lent, &flat, 5, region, &mut out, &mut [0; 2]);
     out
 }
 

@@ -1,7 +1,8 @@
 //! The refiner's rows: lists, operators, single seeds.
 
+use super::pitch::{self, Call};
 use super::{in_turn, of_rust, ratio, timed, Times};
-use crate::port;
+use crate::{picture, port};
 use oracle::plain::original as rust;
 use oracle::random::Random;
 use oracle::types::{Settings, Triple, View};
@@ -79,11 +80,7 @@ impl Board {
     }
 
     fn lent(&self) -> port::Image<'_> {
-        port::Image {
-            bytes: &self.image.bytes,
-            width: SIZE[0],
-            height: SIZE[1],
-        }
+        picture::lent(&self.image)
     }
 
     fn rust(&self) -> rust::ImageView<'_> {
@@ -163,6 +160,30 @@ fn list(board: &Board, near: bool, radius: i32) -> bool {
     );
     let (_, want) = calls::refine_list(board.view(), &s, &floats[0], 3 * SEEDS);
     count == want.len() && calls::same_floats(&out[..3 * count], &want.concat())
+}
+
+/// Lists near corners at several pitches.
+fn padded_list(board: &Board, radius: i32) -> bool {
+    let mut random = Random::of(3, "padded");
+    let (_, lent, _) = settings(radius);
+    let floats: Vec<Vec<f32>> = (0..LISTS)
+        .map(|_| board.seeds(&mut random, true).concat())
+        .collect();
+    let images = pitch::at_pitches(&board.image);
+    let mut outs = vec![vec![1.0f32; 3 * SEEDS]; 3];
+    let sides = images.iter().zip(&mut outs).map(|(image, out)| {
+        let (mut turn, mut count) = (0, 0);
+        let floats = &floats;
+        let call = move || {
+            turn += 1;
+            let seeds = &floats[turn % LISTS];
+            timed(|| port::refine_list(picture::lent(image), lent, seeds, out, &mut count)).0
+        };
+        Box::new(call) as Call<'_>
+    });
+    let name = format!("list near corners, radius {radius}: {SEEDS} seeds");
+    pitch::row(&name, &mut sides.collect::<Vec<_>>(), 10 * LISTS);
+    outs.iter().all(|out| calls::same_floats(out, &outs[0]))
 }
 
 /// Operators of a radius built in one timing.
@@ -281,6 +302,10 @@ pub fn tables() -> bool {
         for near in [true, false] {
             same &= list(&board, near, radius);
         }
+    }
+    pitch::head();
+    for radius in [2, 7] {
+        same &= padded_list(&board, radius);
     }
     println!("\nNanoseconds, by the medians.\n");
     println!("| call | ours | the Rust's | ours / Rust |");

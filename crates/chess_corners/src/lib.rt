@@ -25,6 +25,7 @@ pub extern "C" fn chess_corners_response(
     img: &[u8],
     width: usize,
     height: usize,
+    pitch: usize,
     ring: &[i32; 32],
     radius: usize,
     x0: usize,
@@ -35,11 +36,15 @@ pub extern "C" fn chess_corners_response(
     out_width: &mut usize,
     out_height: &mut usize,
 ) -> u32
-    ensures { λ r. ⌜ Responded (imageOf (now (img .entry)) (sizesOf width height)) (now (ring .entry)) radius (record { x0 = x0; y0 = y0; x1 = x1; y1 = y1 }) (now (out .entry)) (now («out_width» .entry)) (now («out_height» .entry)) r (now (out .exit)) (now («out_width» .exit)) (now («out_height» .exit)) ⌝ }
+    ensures { λ r. ⌜ Responded (imageOf (now (img .entry)) (sizesOf width height pitch)) (now (ring .entry)) radius (record { x0 = x0; y0 = y0; x1 = x1; y1 = y1 }) (now (out .entry)) (now («out_width» .entry)) (now («out_height» .entry)) r (now (out .exit)) (now («out_width» .exit)) (now («out_height» .exit)) ⌝ }
 {
     let answer = response::chess_response_u8_patch(
         img,
-        Sizes { width, height },
+        Sizes {
+            width,
+            height,
+            pitch,
+        },
         ring,
         radius,
         Roi { x0, y0, x1, y1 },
@@ -118,6 +123,7 @@ pub extern "C" fn chess_corners_refine_list(
     img: &[u8],
     width: usize,
     height: usize,
+    pitch: usize,
     radius: usize,
     det_margin: f32,
     max_offset: f32,
@@ -126,7 +132,7 @@ pub extern "C" fn chess_corners_refine_list(
     out: &mut [f32],
     count: &mut usize,
 ) -> u32
-    ensures { λ r. ⌜ Refining (imageOf (now (img .entry)) (sizesOf width height)) (settings radius «det_margin» «max_offset» «min_abs_det») (now (corners .entry)) (now (out .entry)) (now (count .entry)) r (now (out .exit)) (now (count .exit)) ⌝ }
+    ensures { λ r. ⌜ Refining (imageOf (now (img .entry)) (sizesOf width height pitch)) (settings radius «det_margin» «max_offset» «min_abs_det») (now (corners .entry)) (now (out .entry)) (now (count .entry)) r (now (out .exit)) (now (count .exit)) ⌝ }
 {
     let cfg = SaddlePointConfig {
         radius,
@@ -136,7 +142,11 @@ pub extern "C" fn chess_corners_refine_list(
     };
     let answer = refine_list::refine_corners_on_image(
         img,
-        Sizes { width, height },
+        Sizes {
+            width,
+            height,
+            pitch,
+        },
         cfg,
         corners,
         out,

@@ -11,12 +11,13 @@ ghost use Rattle.refine_seed.specs.Refine.{refineLent, refineOf, oldNumber};
 ghost use Rattle.refine_seed.specs.declared.Refined.the-variants.{Accepted};
 ghost use Rattle.chess_corners.specs.Seed.{settings, asked, flag, Told, Operating};
 
-// Refines one seed; 0 to 3, 10, 11 or 12. `place` takes x, y and score, `state` whether it converged, the tries and whether there is a covariance.
+// Refines one seed; 0 to 7, 10, 11 or 12. `place` takes x, y and score, `state` whether it converged, the tries and whether there is a covariance.
 #[no_mangle]
 pub extern "C" fn chess_corners_refine(
     img: &[u8],
     width: usize,
     height: usize,
+    pitch: usize,
     radius: usize,
     det_margin: f32,
     max_offset: f32,
@@ -28,7 +29,7 @@ pub extern "C" fn chess_corners_refine(
     state: &mut [u32; 3],
     covariance: &mut [f32; 3],
 ) -> u32
-    ensures { λ r. ⌜ Told (refineOf (imageOf (now (img .entry)) (sizesOf width height)) (settings radius «det_margin» «max_offset» «min_abs_det») x y (asked wanted)) x y (now (place .entry)) (now (state .entry)) (now (covariance .entry)) r (now (place .exit)) (now (state .exit)) (now (covariance .exit)) ⌝ }
+    ensures { λ r. ⌜ Told (refineOf (imageOf (now (img .entry)) (sizesOf width height pitch)) (settings radius «det_margin» «max_offset» «min_abs_det») x y (asked wanted)) x y (now (place .entry)) (now (state .entry)) (now (covariance .entry)) r (now (place .exit)) (now (state .exit)) (now (covariance .exit)) ⌝ }
 {
     let cfg = SaddlePointConfig {
         radius,
@@ -36,7 +37,12 @@ pub extern "C" fn chess_corners_refine(
         max_offset,
         min_abs_det,
     };
-    let answer = refine_seed::refine(img, Sizes { width, height }, cfg, x, y, wanted != 0);
+    let sizes = Sizes {
+        width,
+        height,
+        pitch,
+    };
+    let answer = refine_seed::refine(img, sizes, cfg, x, y, wanted != 0);
     tell(answer, x, y, place, state, covariance)
 }
 
@@ -46,6 +52,7 @@ pub extern "C" fn chess_corners_refine_with(
     img: &[u8],
     width: usize,
     height: usize,
+    pitch: usize,
     radius: usize,
     det_margin: f32,
     max_offset: f32,
@@ -59,7 +66,7 @@ pub extern "C" fn chess_corners_refine_with(
     state: &mut [u32; 3],
     covariance: &mut [f32; 3],
 ) -> u32
-    ensures { λ r. ⌜ Told (refineLent (imageOf (now (img .entry)) (sizesOf width height)) (settings radius «det_margin» «max_offset» «min_abs_det») x y (asked wanted) (now (columns .entry)) (now (overlap .entry))) x y (now (place .entry)) (now (state .entry)) (now (covariance .entry)) r (now (place .exit)) (now (state .exit)) (now (covariance .exit)) ⌝ }
+    ensures { λ r. ⌜ Told (refineLent (imageOf (now (img .entry)) (sizesOf width height pitch)) (settings radius «det_margin» «max_offset» «min_abs_det») x y (asked wanted) (now (columns .entry)) (now (overlap .entry))) x y (now (place .entry)) (now (state .entry)) (now (covariance .entry)) r (now (place .exit)) (now (state .exit)) (now (covariance .exit)) ⌝ }
 {
     let cfg = SaddlePointConfig {
         radius,
@@ -69,7 +76,11 @@ pub extern "C" fn chess_corners_refine_with(
     };
     let answer = refine_seed::refine_with(
         img,
-        Sizes { width, height },
+        Sizes {
+            width,
+            height,
+            pitch,
+        },
         cfg,
         x,
         y,

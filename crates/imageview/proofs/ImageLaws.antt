@@ -2,12 +2,12 @@
 use mathlib.Core.Path.{_≡_, refl, sym, ap, _∙_, subst}
 use mathlib.Core.Bool.{Bool, true, false, _&&_}
 use Prim.Native.Nat.{ℕ, suc, _+_, _*_, _^_, _≤_, _<_}
-use native.Mathlib.Nat.{mul-le-mul, mul-le-mul-right, mul-comm, suc-mul}
+use native.Mathlib.Nat.{mul-le-mul, mul-le-mul-right, mul-comm, suc-mul, le-trans}
 use native.Mathlib.Omega.{arith}
 use lib.Dec.{T, leb, eqb, leb→le, eqb→eq}
 use lib.ListN.{length}
 use lib.Ieee.Fits.{and-l, and-r}
-use Rattle.imageview.specs.Image.{Image, stride, isSize, sizesFit, isImage, most}
+use Rattle.imageview.specs.Image.{Image, isSize, isPitch, sizesFit, isImage, most, mostPitch}
 use Rattle.imageview.specs.Steps.{Sized, Tested}
 
 -- ---- the test of a count, by that of the sizes
@@ -43,28 +43,49 @@ pub counted : (n w h : ℕ) → T (sizesFit n w h) → Sized w h × (n ≡ w * h
 unfolding sizesFit
 counted n w h t = (sized w h (and-l (isSize w h) (eqb n (w * h)) t), eqb→eq n (w * h) (and-r (isSize w h) (eqb n (w * h)) t))
 
-pub image-is : (img : Image) → sizesFit (length (img .samples)) (img .width) (img .height) ≡ isImage img
-unfolding isImage
-image-is img = refl
+-- ---- the test of an image, by that of its sizes, and what an image that passes has
+module _ (img : Image) where
+  abbrev sizes : Bool
+  sizes = isSize (img .width) (img .height) && isPitch (img .width) (img .pitch)
 
-pub tested : (img : Image) → T (isImage img) → Tested img
-tested img t =
-    let c = counted (length (img .samples)) (img .width) (img .height) (subst T (sym (image-is img)) t) in
-    record { sized = c .0; count = c .1 }
+  abbrev counts : Bool
+  counts = eqb (length (img .samples)) (img .pitch * img .height)
 
--- so it has at most 2 ^ 24 samples
+  pub image-by-count : sizes ≡ true → counts ≡ isImage img
+  unfolding isImage
+  image-by-count e = sym (ap (λ (b : Bool). b && counts) e)
+
+  pub image-no-size : sizes ≡ false → false ≡ isImage img
+  unfolding isImage
+  image-no-size e = sym (ap (λ (b : Bool). b && counts) e)
+
+  pub sizes-told : T sizes → Sized (img .width) (img .height) × (img .width ≤ img .pitch) × (img .pitch ≤ mostPitch)
+  sizes-told t =
+      let s = isSize (img .width) (img .height) in
+      let p = isPitch (img .width) (img .pitch) in
+      let h = leb (img .width) (img .pitch) in
+      let m = leb (img .pitch) mostPitch in
+      (sized (img .width) (img .height) (and-l s p t), leb→le (img .width) (img .pitch) (and-l h m (and-r s p t)), leb→le (img .pitch) mostPitch (and-r h m (and-r s p t)))
+
+  pub tested : T (isImage img) → Tested img
+  unfolding isImage
+  tested t =
+      let s = sizes-told (and-l sizes counts t) in
+      record { sized = s .0; holds = s .1; pitch-most = s .2; count = eqb→eq (length (img .samples)) (img .pitch * img .height) (and-r sizes counts t) }
+
+-- so a list without padding has at most 2 ^ 24 entries, and an image at most 2 ^ 25 samples
 pub count-most : (w h : ℕ) → w ≤ most → h ≤ most → w * h ≤ 2 ^ 24
 count-most w h a b = mul-le-mul a b
 
-pub few : (img : Image) → Tested img → length (img .samples) ≤ 2 ^ 24
-few img t = subst (λ (n : ℕ). n ≤ 2 ^ 24) (sym (t .count)) (count-most (img .width) (img .height) (t .sized .width-most) (t .sized .height-most))
+pub samples-most : (p h : ℕ) → p ≤ mostPitch → h ≤ most → p * h ≤ 2 ^ 25
+samples-most p h a b = mul-le-mul a b
 
--- ---- the index y · stride + x: n samples of a row stand in the image
+-- ---- the index y · pitch + x: n samples of a row stand in the image
 row-stands : (s y x n h count : ℕ) → count ≡ s * h → x + n ≤ s → y < h → y * s + x + n ≤ count
 row-stands s y x n h count e a b = all (y * s) (suc y * s) (suc-mul y s) (subst (λ (z : ℕ). suc y * s ≤ z) (mul-comm h s ∙ sym e) (mul-le-mul-right s b))
   where
     all : (q m : ℕ) → m ≡ q + s → m ≤ count → q + x + n ≤ count
     all q m p l = omega arith
 
-pub index : (img : Image) → Tested img → (x y n : ℕ) → x + n ≤ img .width → y < img .height → y * stride img + x + n ≤ length (img .samples)
-index img t x y n a b = row-stands (stride img) y x n (img .height) (length (img .samples)) (t .count) a b
+pub index : (img : Image) → Tested img → (x y n : ℕ) → x + n ≤ img .width → y < img .height → y * img .pitch + x + n ≤ length (img .samples)
+index img t x y n a b = row-stands (img .pitch) y x n (img .height) (length (img .samples)) (t .count) (le-trans a (t .holds)) b

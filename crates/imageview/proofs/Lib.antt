@@ -2,3 +2,4 @@
 pub mod ImageLaws
 pub mod PatchLaws
 pub mod SameLaws
+pub mod Unpadded

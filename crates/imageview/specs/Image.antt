@@ -1,4 +1,5 @@
--- An image is its samples, row after row, with its sizes. Every definition that reads an image reads it through `pixel`.
+-- An image is its samples, row after row, with its sizes. A row may have padding behind it: its pitch says how far the next row begins.
+-- Every definition that reads an image reads it through `pixel`.
 use mathlib.Core.Bool.{Bool, _&&_}
 use mathlib.Core.List.{List}
 use Prim.Native.Nat.{ℕ, _+_, _*_}
@@ -10,33 +11,37 @@ pub record Image : Type 0 where
   pub samples : List ℕ
   pub width : ℕ
   pub height : ℕ
+  pub pitch : ℕ
 
 -- what a slice and its sizes stand for
 abbrev pub imageOf : List ℕ → Sizes → Image
-imageOf samples sizes = record { samples = samples; width = sizes .width; height = sizes .height }
+imageOf samples sizes = record { samples = samples; width = sizes .width; height = sizes .height; pitch = sizes .pitch }
 
-abbrev pub sizesOf : ℕ → ℕ → Sizes
-sizesOf width height = record { width = width; height = height }
-
--- how far a row begins from the one before it
-abbrev pub stride : Image → ℕ
-stride img = img .width
+abbrev pub sizesOf : ℕ → ℕ → ℕ → Sizes
+sizesOf width height pitch = record { width = width; height = height; pitch = pitch }
 
 unfoldable pub pixel : Image → ℕ → ℕ → ℕ
-pixel img x y = getD (img .samples) (y * stride img + x) 0
+pixel img x y = getD (img .samples) (y * img .pitch + x) 0
 
--- the greatest width and height
+-- the greatest width and height, and the greatest pitch
 abbrev pub most : ℕ
 most = 4096
+
+abbrev pub mostPitch : ℕ
+mostPitch = 8192
 
 -- a width and a height in 1..=4096
 abbrev pub isSize : ℕ → ℕ → Bool
 isSize width height = leb 1 width && leb width most && leb 1 height && leb height most
 
--- such a width and height, and a count of their product: else refusal 10
+-- a pitch that holds the width
+abbrev pub isPitch : ℕ → ℕ → Bool
+isPitch width pitch = leb width pitch && leb pitch mostPitch
+
+-- such a width, height and pitch, and a count of pitch times height: else refusal 10
+unfoldable pub isImage : Image → Bool
+isImage img = isSize (img .width) (img .height) && isPitch (img .width) (img .pitch) && eqb (length (img .samples)) (img .pitch * img .height)
+
+-- the test of a list that has no padding
 unfoldable pub sizesFit : ℕ → ℕ → ℕ → Bool
 sizesFit count width height = isSize width height && eqb count (width * height)
-
-unfoldable pub isImage : Image → Bool
-unfolding sizesFit
-isImage img = sizesFit (length (img .samples)) (img .width) (img .height)

@@ -2,7 +2,7 @@
 use mathlib.Core.Path.{_≡_}
 use Prim.Native.Nat.{ℕ, _*_, _≤_}
 use lib.ListN.{length}
-use Rattle.imageview.specs.Image.{Image, stride, most}
+use Rattle.imageview.specs.Image.{Image, most, mostPitch}
 
 -- sizes that passed their test
 pub record Sized (width height : ℕ) : Type 0 where
@@ -13,4 +13,6 @@ pub record Sized (width height : ℕ) : Type 0 where
 
 pub record Tested (img : Image) : Type 0 where
   pub sized : Sized (img .width) (img .height)
-  pub count : length (img .samples) ≡ stride img * img .height
+  pub holds : img .width ≤ img .pitch
+  pub pitch-most : img .pitch ≤ mostPitch
+  pub count : length (img .samples) ≡ img .pitch * img .height

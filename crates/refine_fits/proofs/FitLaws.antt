@@ -13,7 +13,7 @@ use lib.Ieee.{Float, binary32, ofInt}
 use Rattle.shapes.specs.Numbers.{plusZero, entry}
 use Rattle.shapes.specs.Turns.{turns}
 use Rattle.shapes.specs.Lists.{tabulated}
-use Rattle.imageview.specs.Image.{Image, stride, pixel}
+use Rattle.imageview.specs.Image.{Image, pixel}
 use Rattle.imageview.proofs.ImageLaws.{index}
 use Rattle.refine_operator.specs.Basis.{side, samples}
 use Rattle.refine_fits.specs.declared.Sums.{Sums}
@@ -36,14 +36,14 @@ row-more columns row centre from n s t u p q =
 place : (w x0 y0 row i : ℕ) → (y0 + row) * w + x0 + i ≡ (y0 + row) * w + (x0 + i)
 place w x0 y0 row i = add-assoc ((y0 + row) * w) x0 i
 
-pub row-sample : (img : Image) (radius x y row i : ℕ) → i < side radius → getD (take (side radius) (drop ((y - radius + row) * stride img + (x - radius)) (img .samples))) i 0 ≡ pixel img (x - radius + (row * side radius + i) % side radius) (y - radius + (row * side radius + i) / side radius)
+pub row-sample : (img : Image) (radius x y row i : ℕ) → i < side radius → getD (take (side radius) (drop ((y - radius + row) * img .pitch + (x - radius)) (img .samples))) i 0 ≡ pixel img (x - radius + (row * side radius + i) % side radius) (y - radius + (row * side radius + i) / side radius)
 unfolding pixel
 row-sample img radius x y row i h =
-    getD-take (side radius) (drop ((y - radius + row) * stride img + (x - radius)) (img .samples)) i 0 h
-    ∙ getD-drop ((y - radius + row) * stride img + (x - radius)) (img .samples) i 0
-    ∙ ap (λ (k : ℕ). getD (img .samples) k 0) (place (stride img) (x - radius) (y - radius) row i)
-    ∙ ap (λ (k : ℕ). getD (img .samples) ((y - radius + k) * stride img + (x - radius + i)) 0) (sym (digits-div row h))
-    ∙ ap (λ (k : ℕ). getD (img .samples) ((y - radius + (row * side radius + i) / side radius) * stride img + (x - radius + k)) 0) (sym (digits-mod row h))
+    getD-take (side radius) (drop ((y - radius + row) * img .pitch + (x - radius)) (img .samples)) i 0 h
+    ∙ getD-drop ((y - radius + row) * img .pitch + (x - radius)) (img .samples) i 0
+    ∙ ap (λ (k : ℕ). getD (img .samples) k 0) (place (img .pitch) (x - radius) (y - radius) row i)
+    ∙ ap (λ (k : ℕ). getD (img .samples) ((y - radius + k) * img .pitch + (x - radius + i)) 0) (sym (digits-div row h))
+    ∙ ap (λ (k : ℕ). getD (img .samples) ((y - radius + (row * side radius + i) / side radius) * img .pitch + (x - radius + k)) 0) (sym (digits-mod row h))
 
 -- the middle sample is the centre
 twice : (r p : ℕ) → (2 * p + (2 * r + 1)) / 2 ≡ p + r
@@ -54,7 +54,7 @@ middle r = ap (λ (n : ℕ). n / 2) (add-mul (2 * r) 1 (side r) ∙ ap (λ (n : 
 
 -- the sample entry column u of row v
 abbrev sampleAt : Image → ℕ → ℕ → Float
-sampleAt img u v = ofInt binary32 (pos (getD (img .samples) (v * stride img + u) 0))
+sampleAt img u v = ofInt binary32 (pos (getD (img .samples) (v * img .pitch + u) 0))
 
 pub centre-sample : (img : Image) (radius x y : ℕ) → radius ≤ x → radius ≤ y → ofInt binary32 (pos (pixel img x y)) ≡ sampleOf img radius x y (samples radius / 2)
 unfolding sampleOf pixel
@@ -78,7 +78,7 @@ sums-more img columns radius x y k z e =
     record { a = s .a ⊕ entry columns n ⊗ v; b = s .b ⊕ entry columns (5 * k + 1) ⊗ v; c = s .c ⊕ entry columns (5 * k + 2) ⊗ v; d = s .d ⊕ entry columns (5 * k + 3) ⊗ v; e = s .e ⊕ entry columns (5 * k + 4) ⊗ v })
     (sym (add-zero (5 * k)))
 
-along-row : (img : Image) (columns : List Float) (radius x y row n : ℕ) (part : List ℕ) (centre : Float) → part ≡ take (side radius) (drop ((y - radius + row) * stride img + (x - radius)) (img .samples)) → centre ≡ sampleOf img radius x y (samples radius / 2) → n ≤ side radius → rowAdded columns part centre (row * side radius) n (sumsOf img columns radius x y (row * side radius)) ≡ sumsOf img columns radius x y (row * side radius + n)
+along-row : (img : Image) (columns : List Float) (radius x y row n : ℕ) (part : List ℕ) (centre : Float) → part ≡ take (side radius) (drop ((y - radius + row) * img .pitch + (x - radius)) (img .samples)) → centre ≡ sampleOf img radius x y (samples radius / 2) → n ≤ side radius → rowAdded columns part centre (row * side radius) n (sumsOf img columns radius x y (row * side radius)) ≡ sumsOf img columns radius x y (row * side radius + n)
 unfolding rowAdded sampleOf
 along-row img columns radius x y row zero part centre p c h = ap (λ (k : ℕ). sumsOf img columns radius x y k) (sym (add-zero (row * side radius)))
 along-row img columns radius x y row (suc n) part centre p c h =
@@ -94,7 +94,7 @@ pub sums-none : (img : Image) (columns : List Float) (radius x y : ℕ) → reco
 unfolding turns
 sums-none img columns radius x y = ap (λ (n : ℕ). sumsOf img columns radius x y n) (sym (zero-mul (side radius)))
 
-pub row-done : (img : Image) (columns : List Float) (radius x y row : ℕ) (part : List ℕ) (centre : Float) (s r : Sums) → s ≡ sumsOf img columns radius x y (row * side radius) → part ≡ take (side radius) (drop ((y - radius + row) * stride img + (x - radius)) (img .samples)) → length part ≡ side radius → centre ≡ sampleOf img radius x y (samples radius / 2) → r ≡ rowAdded columns part centre (row * side radius) (length part) s → r ≡ sumsOf img columns radius x y ((row + 1) * side radius)
+pub row-done : (img : Image) (columns : List Float) (radius x y row : ℕ) (part : List ℕ) (centre : Float) (s r : Sums) → s ≡ sumsOf img columns radius x y (row * side radius) → part ≡ take (side radius) (drop ((y - radius + row) * img .pitch + (x - radius)) (img .samples)) → length part ≡ side radius → centre ≡ sampleOf img radius x y (samples radius / 2) → r ≡ rowAdded columns part centre (row * side radius) (length part) s → r ≡ sumsOf img columns radius x y ((row + 1) * side radius)
 row-done img columns radius x y row part centre s r e p l c q =
     q
     ∙ ap (λ (n : ℕ). rowAdded columns part centre (row * side radius) n s) l
@@ -108,7 +108,7 @@ all-rows img columns radius x y row s h e =
     ap (λ (t : Sums). t .a ∷ t .b ∷ t .c ∷ t .d ∷ t .e ∷ []) (e ∙ ap (λ (n : ℕ). sumsOf img columns radius x y (n * side radius)) h)
 
 -- ---- what lies in the image
-pub row-within : (img : Image) (radius x y row : ℕ) → PatchWithin img radius x y → row < side radius → (y - radius + row) * stride img + (x - radius) + side radius ≤ length (img .samples)
+pub row-within : (img : Image) (radius x y row : ℕ) → PatchWithin img radius x y → row < side radius → (y - radius + row) * img .pitch + (x - radius) + side radius ≤ length (img .samples)
 row-within img radius x y row w h =
     index img (w .sound .image) (x - radius) (y - radius + row) (side radius) (in-width x radius (img .width) (w .left) (w .right)) (in-height y radius row (img .height) (w .above) (w .below) h)
   where
@@ -118,7 +118,7 @@ row-within img radius x y row w h =
     in-width : (x radius width : ℕ) → radius ≤ x → x + radius < width → x - radius + (2 * radius + 1) ≤ width
     in-width x radius width p q = omega arith
 
-pub centre-within : (img : Image) (radius x y : ℕ) → PatchWithin img radius x y → y * stride img + x < length (img .samples)
+pub centre-within : (img : Image) (radius x y : ℕ) → PatchWithin img radius x y → y * img .pitch + x < length (img .samples)
 centre-within img radius x y w = omega (arith, index img (w .sound .image) x y 1 (omega (arith, w .right)) (omega (arith, w .below)))
 
 -- a row of the patch is whole, and its samples are numbered below 225

@@ -60,7 +60,7 @@ pub fn fit_patch(
     };
     let mut row: usize = 0;
     while row < side {
-        let part = imageview::patch_row(img, sizes.width, x - radius, y - radius + row, side);
+        let part = imageview::patch_row(img, sizes.pitch, x - radius, y - radius + row, side);
         sums = add_row(sums, columns, part, centre, row * side);
         row += 1;
     }

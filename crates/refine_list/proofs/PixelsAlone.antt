@@ -10,14 +10,15 @@ use Rattle.shapes.specs.Numbers.{entry}
 use Rattle.corners.specs.Corners.{whole, tooMany}
 use Rattle.refusals.specs.declared.Refusal.the-variants.{BadImage, BadRadius, BadLimit, BadLength, TooMany, BadOut}
 use Rattle.imageview.specs.Image.{Image, isImage}
-use Rattle.imageview.specs.Same.{SamePixels}
+use Rattle.imageview.specs.Same.{SamePixels, unpadded}
+use Rattle.imageview.proofs.Unpadded.{shows-unpadded}
 use Rattle.refine_formulas.specs.declared.SaddlePointConfig.{SaddlePointConfig}
 use Rattle.refine_seed.specs.declared.Spot.{Spot}
 use Rattle.refine_seed.specs.Refine.{goodLimits}
 use Rattle.refine_seed.specs.Spot.{spotOf}
 use Rattle.refine_seed.proofs.PixelsAlone as seed
 use Rattle.refine_list.specs.Refining.{recordOf, spotFor, recordsOf, Way, refused, wrote, wayOf}
-use Rattle.refine_list.specs.Alone.{ByPixels}
+use Rattle.refine_list.specs.Alone.{ByPixels, Unpadded}
 
 module _ (a b : Image) (s : SamePixels a b) (cfg : SaddlePointConfig) (corners : List Float) where
   spot-same : (i : ℕ) → spotFor a cfg corners i ≡ spotFor b cfg corners i
@@ -48,3 +49,6 @@ module _ (a b : Image) (s : SamePixels a b) (cfg : SaddlePointConfig) (corners :
 
 pub by-pixels : ByPixels
 by-pixels a b s cfg corners room = way-same a b s cfg corners room
+
+pub by-unpadded : Unpadded
+by-unpadded img is cfg corners room = by-pixels img (unpadded img) (shows-unpadded img is) cfg corners room

@@ -14,7 +14,9 @@ use Rattle.shapes.proofs.ListLaws.{tabulated-cong}
 use Rattle.shapes.proofs.TurnLaws.{turns-cong}
 use Rattle.imageview.specs.Image.{Image, pixel, isImage}
 use Rattle.imageview.specs.Patch.{inside, supportsPatch}
+use Rattle.imageview.specs.Same.{unpadded}
 use Rattle.imageview.proofs.SameLaws.{sized-is, shows, alike}
+use Rattle.imageview.proofs.Unpadded.{shows-unpadded}
 use Rattle.refine_operator.specs.Basis.{side, samples}
 use Rattle.refine_operator.specs.Call as Operator
 use Rattle.refine_formulas.specs.declared.SaddlePointConfig.{SaddlePointConfig}
@@ -28,7 +30,7 @@ use Rattle.refine_seed.specs.declared.Refined.{Refined}
 use Rattle.refine_seed.specs.declared.Admitted.{Admitted}
 use Rattle.refine_seed.specs.declared.Admitted.the-variants as Admitted
 use Rattle.refine_seed.specs.Refine.{goodLimits, isPlace, centreOf, seedOf, admitOf, answered, fromSaddle, refineWith, withOperator, lentWith, refineOf, refineLent}
-use Rattle.refine_seed.specs.Alone.{ByPixels, LentByPixels}
+use Rattle.refine_seed.specs.Alone.{ByPixels, LentByPixels, Unpadded, LentUnpadded}
 use Rattle.refine_seed.proofs.ColumnLaws.{SameFits, saddle-same}
 use Rattle.refine_seed.proofs.EntryLaws.{chosen, good-within}
 
@@ -65,9 +67,9 @@ module _ (a c : Image) (same : (x y : ℕ) → x < a .width → y < a .height �
     coefficients-same columns = tabulated-cong 5 (coefficient a columns radius x y) (coefficient c columns radius x y) (λ i h. coefficient-same columns i)
 
 -- ---- c has the sizes of a
-module _ (a : Image) (l : List ℕ) (same : (x y : ℕ) → x < a .width → y < a .height → pixel a x y ≡ pixel (record { samples = l; width = a .width; height = a .height }) x y) (both-images : isImage a ≡ isImage (record { samples = l; width = a .width; height = a .height })) where
+module _ (a : Image) (l : List ℕ) (p : ℕ) (same : (x y : ℕ) → x < a .width → y < a .height → pixel a x y ≡ pixel (record { samples = l; width = a .width; height = a .height; pitch = p }) x y) (both-images : isImage a ≡ isImage (record { samples = l; width = a .width; height = a .height; pitch = p })) where
   abbrev c : Image
-  c = record { samples = l; width = a .width; height = a .height }
+  c = record { samples = l; width = a .width; height = a .height; pitch = p }
 
   fit-same : (columns : List Float) (radius : ℕ) → SameFits a c columns columns radius
   unfolding fitAt supportsPatch
@@ -117,7 +119,14 @@ module _ (a : Image) (l : List ℕ) (same : (x y : ℕ) → x < a .width → y <
 
 -- ---- of any two images that show the same
 pub by-pixels : ByPixels
-by-pixels a b s cfg x y wanted = refine-same a (b .samples) (shows a b s) (alike a b s) cfg x y wanted ∙ ap (λ (v : Image). refineOf v cfg x y wanted) (sized-is a b s)
+by-pixels a b s cfg x y wanted = refine-same a (b .samples) (b .pitch) (shows a b s) (alike a b s) cfg x y wanted ∙ ap (λ (v : Image). refineOf v cfg x y wanted) (sized-is a b s)
 
 pub lent-by-pixels : LentByPixels
-lent-by-pixels a b s cfg x y wanted columns overlap = lent-same a (b .samples) (shows a b s) (alike a b s) cfg x y wanted columns overlap ∙ ap (λ (v : Image). refineLent v cfg x y wanted columns overlap) (sized-is a b s)
+lent-by-pixels a b s cfg x y wanted columns overlap = lent-same a (b .samples) (b .pitch) (shows a b s) (alike a b s) cfg x y wanted columns overlap ∙ ap (λ (v : Image). refineLent v cfg x y wanted columns overlap) (sized-is a b s)
+
+-- ---- so of an image and the one with its padding taken out
+pub by-unpadded : Unpadded
+by-unpadded img is cfg x y wanted = by-pixels img (unpadded img) (shows-unpadded img is) cfg x y wanted
+
+pub lent-by-unpadded : LentUnpadded
+lent-by-unpadded img is cfg x y wanted columns overlap = lent-by-pixels img (unpadded img) (shows-unpadded img is) cfg x y wanted columns overlap

@@ -56,7 +56,7 @@ pub record Going (t : Task) (first : PatchSaddle) (fits : IntegerFits) (f : Patc
 -- ---- the estimate
 -- a task of which only the centre is asked
 abbrev pub centred : Seed → Task
-centred seed = taskAt (imageOf [] (sizesOf 0 0)) [] (record { radius = 0; «det_margin» = plusZero; «max_offset» = plusZero; «min_abs_det» = plusZero }) seed
+centred seed = taskAt (imageOf [] (sizesOf 0 0 0)) [] (record { radius = 0; «det_margin» = plusZero; «max_offset» = plusZero; «min_abs_det» = plusZero }) seed
 
 -- closed at every place with these fractions
 pub record Closes (t : Task) (overlap : List Float) (wanted : Bool) (ox oy tx ty : Float) (f : PatchSaddle) (n : ℕ) (s : Slope) (r : Estimate) : Type 0 where

@@ -22,19 +22,19 @@ module _ {next : Next} {n : ℕ} (buf : List ℕ) (is : next ≡ Case n) (within
   case-length = sym (length-take-le n buf case-fits)
 
 -- ---- the image, by the number w of its bytes
-module _ (case : List ℕ) (w : ℕ) (is : w ≡ wordAt case 16) where
-  by-number : cond (ltb (length case) (20 + w)) [] (take w (drop 20 case)) ≡ imageIn case
+module _ (case : List ℕ) (w : ℕ) (is : w ≡ wordAt case 24) where
+  by-number : cond (ltb (length case) (28 + w)) [] (take w (drop 28 case)) ≡ imageIn case
   unfolding imageIn
-  by-number = ap (λ (n : ℕ). cond (ltb (length case) (20 + n)) [] (take n (drop 20 case))) is
+  by-number = ap (λ (n : ℕ). cond (ltb (length case) (28 + n)) [] (take n (drop 28 case))) is
 
-  pub image-cut : length case < 20 + w → [] ≡ imageIn case
-  image-cut h = sym (ap (λ (b : Bool). cond b [] (take w (drop 20 case))) (lt-ltb (length case) (20 + w) h)) ∙ by-number
+  pub image-cut : length case < 28 + w → [] ≡ imageIn case
+  image-cut h = sym (ap (λ (b : Bool). cond b [] (take w (drop 28 case))) (lt-ltb (length case) (28 + w) h)) ∙ by-number
 
-  pub image-whole : 20 + w ≤ length case → take (20 + w - 20) (drop 20 case) ≡ imageIn case
+  pub image-whole : 28 + w ≤ length case → take (28 + w - 28) (drop 28 case) ≡ imageIn case
   image-whole h =
-      ap (λ (n : ℕ). take n (drop 20 case)) (back w)
-      ∙ sym (ap (λ (b : Bool). cond b [] (take w (drop 20 case))) (le-ltb (length case) (20 + w) h))
+      ap (λ (n : ℕ). take n (drop 28 case)) (back w)
+      ∙ sym (ap (λ (b : Bool). cond b [] (take w (drop 28 case))) (le-ltb (length case) (28 + w) h))
       ∙ by-number
     where
-      back : (w : ℕ) → 20 + w - 20 ≡ w
+      back : (w : ℕ) → 28 + w - 28 ≡ w
       back w = omega arith

@@ -13,9 +13,9 @@ past = 0x1000_0000
 unfoldable pub placeOf : ℕ → ℕ → ℕ
 placeOf at i = cond (ltb past at) past (cond (ltb past i) past (at + 4 * i))
 
--- the bytes behind two longs and their number; none where they are not whole
+-- the bytes behind three longs and their number; none where they are not whole
 unfoldable pub imageIn : List ℕ → List ℕ
-imageIn case = cond (ltb (length case) (20 + wordAt case 16)) [] (take (wordAt case 16) (drop 20 case))
+imageIn case = cond (ltb (length case) (28 + wordAt case 24)) [] (take (wordAt case 24) (drop 28 case))
 
 unfoldable pub imageEnd : List ℕ → ℕ
-imageEnd case = placeOf 20 ((wordAt case 16 + 3) / 4)
+imageEnd case = placeOf 28 ((wordAt case 24 + 3) / 4)

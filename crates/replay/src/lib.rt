@@ -98,21 +98,21 @@ pub fn place(at: usize, i: usize) -> usize
     at + 4 * i
 }
 
-// The image of a case that begins with its sizes and the number of its bytes; empty where it is not whole. What follows begins at a whole word.
+// The image of a case that begins with its width, height and pitch and the number of its bytes; empty where it is not whole. What follows begins at a whole word.
 pub fn image(case: &[u8]) -> &[u8]
     ensures { λ r. ⌜ now r ≡ imageIn (now (case .entry)) ⌝ }
 {
-    let end = 20 + words::word(case, 16) as usize;
+    let end = 28 + words::word(case, 24) as usize;
     if case.len() < end {
         return &case[0..0];
     }
-    &case[20..end]
+    &case[28..end]
 }
 
 pub fn behind_image(case: &[u8]) -> usize
     ensures { λ r. ⌜ r ≡ imageEnd (now (case .entry)) ⌝ }
 {
-    place(20, (words::word(case, 16) as usize + 3) / 4)
+    place(28, (words::word(case, 24) as usize + 3) / 4)
 }
 
 // A bit of the word at a place of a case, which was flipped.

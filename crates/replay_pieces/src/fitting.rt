@@ -7,7 +7,7 @@ use refine_formulas::Covariance;
 use refine_formulas::Jacobian;
 use refine_formulas::noise;
 ghost use mathlib.Core.Path.{_≡_};
-ghost use Prim.Native.Nat.{_+_, _*_, _≤_};
+ghost use Prim.Native.Nat.{_+_, _*_, _≤_, _<_};
 ghost use lib.ListN.{length};
 
 // The radius, the fractions, J and M; whether it is finite, and its entries.
@@ -35,38 +35,49 @@ fn spread_is(case: &[u8], overlap: &[f32; 225], j: Jacobian) -> bool {
     }
 }
 
-// The radius and the patch, which is an image with nothing about it; the five coefficients, from a whole word on.
+// The radius, the pitch and the patch, which is an image with padding behind its rows; the five coefficients, from a whole word on.
 pub fn fit_holds(case: &[u8]) -> bool {
     let radius = words::word(case, 0) as usize;
+    let pitch = words::word(case, 4) as usize;
     if 7 < radius {
         return false;
     }
-    let n = samples_of(radius);
-    if case.len() < 4 + n {
+    if 8192 < pitch {
         return false;
     }
-    fit_is(case, &case[4..4 + n], radius)
+    if pitch <= 2 * radius {
+        return false;
+    }
+    let n = bytes_of(radius, pitch);
+    if case.len() < 8 + n {
+        return false;
+    }
+    fit_is(case, &case[8..8 + n], radius, pitch)
 }
 
 // Where the coefficients of a fit stand: behind the patch, at a whole word.
 pub fn coefficients(case: &[u8]) -> usize {
     let radius = words::word(case, 0) as usize;
+    let pitch = words::word(case, 4) as usize;
     if 7 < radius {
         return 0;
     }
-    replay::place(4, (samples_of(radius) + 3) / 4)
+    if 8192 < pitch {
+        return 0;
+    }
+    replay::place(8, (bytes_of(radius, pitch) + 3) / 4)
 }
 
-fn samples_of(radius: usize) -> usize
-    requires { ⌜ radius ≤ 7 ⌝ }
-    ensures { λ n. ⌜ (n ≤ 225) × (n ≡ (2 * radius + 1) * (2 * radius + 1)) ⌝ }
+fn bytes_of(radius: usize, pitch: usize) -> usize
+    requires { ⌜ (radius ≤ 7) × (pitch ≤ 8192) ⌝ }
+    ensures { λ n. ⌜ (n ≤ 122880) × (n ≡ pitch * (2 * radius + 1)) ⌝ }
 {
     let side = 2 * radius + 1;
-    side * side
+    pitch * side
 }
 
-fn fit_is(case: &[u8], patch: &[u8], radius: usize) -> bool
-    requires { ⌜ (radius ≤ 7) × (length (now patch) ≡ (2 * radius + 1) * (2 * radius + 1)) ⌝ }
+fn fit_is(case: &[u8], patch: &[u8], radius: usize, pitch: usize) -> bool
+    requires { ⌜ (radius ≤ 7) × (2 * radius < pitch) × (pitch ≤ 8192) × (length (now patch) ≡ pitch * (2 * radius + 1)) ⌝ }
 {
     let mut columns = [0.0f32; 1125];
     let mut overlap = [0.0f32; 225];
@@ -75,6 +86,7 @@ fn fit_is(case: &[u8], patch: &[u8], radius: usize) -> bool
     let sizes = Sizes {
         width: side,
         height: side,
+        pitch,
     };
     let coefs = fits::fit_patch(patch, sizes, radius, radius, radius, &columns);
     numbers::are(case, coefficients(case), coefs)

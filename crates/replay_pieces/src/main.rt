@@ -12,7 +12,7 @@ mod solving;
 const MOST: u32 = 20000;
 
 fn main() {
-    let mut case = [0u8; 256];
+    let mut case = [0u8; 25000];
     replay_list(b"solve.bin", 0, &mut case);
     replay_list(b"blend.bin", 1, &mut case);
     replay_list(b"newton.bin", 2, &mut case);

@@ -16,7 +16,7 @@ pub struct Both {
 }
 
 fn main() {
-    let mut case = [0u8; 5000];
+    let mut case = [0u8; 30000];
     replay_list(&mut case);
 }
 

@@ -8,7 +8,7 @@ use replay::Tally;
 const MOST: u32 = 2000;
 
 fn main() {
-    let mut case = [0u8; 5000];
+    let mut case = [0u8; 30000];
     let mut corners = [0f32; 16384];
     let mut out = [0f32; 16384];
     replay_list(&mut case, &mut corners, &mut out);
@@ -100,6 +100,7 @@ fn ask(case: &[u8], at: usize, corners: &[f32], out: &mut [f32], count: &mut usi
         replay::image(case),
         words::long(case, 0) as usize,
         words::long(case, 8) as usize,
+        words::long(case, 16) as usize,
         replay::word_from(case, at, 0) as usize,
         replay::float_from(case, at, 1),
         replay::float_from(case, at, 2),

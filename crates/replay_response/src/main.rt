@@ -111,6 +111,7 @@ fn ask(
         replay::image(case),
         words::long(case, 0) as usize,
         words::long(case, 8) as usize,
+        words::long(case, 16) as usize,
         &ring,
         replay::word_from(case, at, 0) as usize,
         replay::long_from(case, at, 33),

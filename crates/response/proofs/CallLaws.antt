@@ -133,19 +133,19 @@ module _ (img : Image) (ring : List ℤ) (offsets : List ℕ) (radius : ℕ) (o 
       let near : natAbs (getD ring k (pos 0)) ≤ 10 = le-trans (all-within radius ring w k) high in
       ap (λ (z : ℕ). x + z - 10) (o .each k h ∙ sym (inside (getD ring k (pos 0)) near)) ∙ moved-is x (getD ring k (pos 0)) near
 
-  ring-sample : (x y k : ℕ) → k < 16 → getD (img .samples) (startOf offsets (img .width) x y k) 0 ≡ ringSample img ring x y k
+  ring-sample : (x y k : ℕ) → k < 16 → getD (img .samples) (startOf offsets (img .pitch) x y k) 0 ≡ ringSample img ring x y k
   unfolding ringSample pixel
   ring-sample x y k h =
-      ap (λ (z : ℕ). getD (img .samples) (z * img .width + (x + getD offsets (2 * k) 0 - 10)) 0) (component y (2 * k + 1) (omega arith))
-      ∙ ap (λ (z : ℕ). getD (img .samples) (moved y (getD ring (2 * k + 1) (pos 0)) * img .width + z) 0) (component x (2 * k) (omega arith))
+      ap (λ (z : ℕ). getD (img .samples) (z * img .pitch + (x + getD offsets (2 * k) 0 - 10)) 0) (component y (2 * k + 1) (omega arith))
+      ∙ ap (λ (z : ℕ). getD (img .samples) (moved y (getD ring (2 * k + 1) (pos 0)) * img .pitch + z) 0) (component x (2 * k) (omega arith))
 
-  at : (x y k p q : ℕ) → getD offsets (2 * k) 0 ≡ p → getD offsets (2 * k + 1) 0 ≡ q → getD (img .samples) (startOf offsets (img .width) x y k) 0 ≡ getD (img .samples) ((y + q - 10) * img .width + (x + p - 10)) 0
-  at x y k p q e f = ap (λ (z : ℕ). getD (img .samples) ((y + getD offsets (2 * k + 1) 0 - 10) * img .width + (x + z - 10)) 0) e ∙ ap (λ (z : ℕ). getD (img .samples) ((y + z - 10) * img .width + (x + p - 10)) 0) f
+  at : (x y k p q : ℕ) → getD offsets (2 * k) 0 ≡ p → getD offsets (2 * k + 1) 0 ≡ q → getD (img .samples) (startOf offsets (img .pitch) x y k) 0 ≡ getD (img .samples) ((y + q - 10) * img .pitch + (x + p - 10)) 0
+  at x y k p q e f = ap (λ (z : ℕ). getD (img .samples) ((y + getD offsets (2 * k + 1) 0 - 10) * img .pitch + (x + z - 10)) 0) e ∙ ap (λ (z : ℕ). getD (img .samples) ((y + z - 10) * img .pitch + (x + p - 10)) 0) f
 
-  same-place : (x y p q u v : ℕ) → x + p - 10 ≡ u → y + q - 10 ≡ v → getD (img .samples) ((y + q - 10) * img .width + (x + p - 10)) 0 ≡ getD (img .samples) (v * img .width + u) 0
-  same-place x y p q u v e f = ap (λ (z : ℕ). getD (img .samples) ((y + q - 10) * img .width + z) 0) e ∙ ap (λ (z : ℕ). getD (img .samples) (z * img .width + u) 0) f
+  same-place : (x y p q u v : ℕ) → x + p - 10 ≡ u → y + q - 10 ≡ v → getD (img .samples) ((y + q - 10) * img .pitch + (x + p - 10)) 0 ≡ getD (img .samples) (v * img .pitch + u) 0
+  same-place x y p q u v e f = ap (λ (z : ℕ). getD (img .samples) ((y + q - 10) * img .pitch + z) 0) e ∙ ap (λ (z : ℕ). getD (img .samples) (z * img .pitch + u) 0) f
 
-  cross-sample : (x y k : ℕ) → k < 5 → getD (img .samples) (startOf offsets (img .width) x y (k + 16)) 0 ≡ crossSample img x y k
+  cross-sample : (x y k : ℕ) → k < 5 → getD (img .samples) (startOf offsets (img .pitch) x y (k + 16)) 0 ≡ crossSample img x y k
   unfolding crossSample pixel
   cross-sample x y zero h = at x y 16 10 10 (o .cross 0 (omega arith)) (o .cross 1 (omega arith)) ∙ same-place x y 10 10 x y (omega arith) (omega arith)
   cross-sample x y (suc zero) h = at x y 17 10 9 (o .cross 2 (omega arith)) (o .cross 3 (omega arith)) ∙ same-place x y 10 9 x (y - 1) (omega arith) (omega arith)
@@ -158,7 +158,7 @@ module _ (img : Image) (ring : List ℤ) (offsets : List ℕ) (radius : ℕ) (o 
   unfolding writtenAt startedAt
   shifted-is x y =
       ap (λ (v : Float). cond (ringFits img radius x y) v plusZero)
-      (response-cong (λ k. getD (img .samples) (startOf offsets (img .width) x y k) 0) (λ k. getD (img .samples) (startOf offsets (img .width) x y (k + 16)) 0) (ringSample img ring x y) (crossSample img x y)
+      (response-cong (λ k. getD (img .samples) (startOf offsets (img .pitch) x y k) 0) (λ k. getD (img .samples) (startOf offsets (img .pitch) x y (k + 16)) 0) (ringSample img ring x y) (crossSample img x y)
       (ring-sample x y) (cross-sample x y))
 
 -- ---- the list that is written

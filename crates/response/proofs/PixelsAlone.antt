@@ -13,14 +13,15 @@ use Rattle.shapes.specs.Numbers.{plusZero}
 use Rattle.shapes.proofs.ListLaws.{tabulated-cong}
 use Rattle.refusals.specs.declared.Refusal.the-variants.{BadImage, BadRadius, BadRing, EmptyRoi, BadOut}
 use Rattle.imageview.specs.Image.{Image, pixel, isImage}
-use Rattle.imageview.specs.Same.{SamePixels}
+use Rattle.imageview.specs.Same.{SamePixels, unpadded}
 use Rattle.imageview.proofs.SameLaws.{sizedAs, sized-is}
 use Rattle.imageview.proofs.SameLaws.{alike as images-alike}
+use Rattle.imageview.proofs.Unpadded.{shows-unpadded}
 use Rattle.pixel_response.specs.Samples.{responseOf}
 use Rattle.pixel_response.proofs.PixelLaws.{response-cong}
 use Rattle.response.specs.Region.{Region, moved, ringSample, crossSample, ringFits, writtenAt, written, widthOf, heightOf, clamped, isEmpty, ringWithin}
 use Rattle.response.specs.Call.{Way, refused, wrote, wayOf, answerOf, outAfter}
-use Rattle.response.specs.Alone.{SameResponse, ByPixels}
+use Rattle.response.specs.Alone.{SameResponse, ByPixels, Unpadded}
 
 -- ---- every component lies within the radius
 component : (radius : ℕ) (ring : List ℤ) (k : ℕ) → ringWithin radius ring ≡ true → natAbs (getD ring k (pos 0)) ≤ radius
@@ -131,3 +132,6 @@ module _ (a b : Image) (s : SamePixels a b) (ring : List ℤ) (radius : ℕ) (r 
 
 pub by-pixels : ByPixels
 by-pixels a b s ring radius r out = record { answers = ap answerOf (way-same a b s ring radius r out); leaves = leaves-same a b s ring radius r out }
+
+pub by-unpadded : Unpadded
+by-unpadded img is ring radius r out = by-pixels img (unpadded img) (shows-unpadded img is) ring radius r out

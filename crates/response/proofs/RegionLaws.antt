@@ -26,23 +26,23 @@ use Rattle.response.proofs.PassLaws.{lt-or-le, wrote-none, wrote-cong, 
 along : (p x o i : ℕ) → 10 ≤ x + o → p + (x + o - 10) + i ≡ p + (x + i + o - 10)
 along p x o i h = omega arith
 
-start-along : (offsets : List ℕ) (width x y k i : ℕ) → 10 ≤ x + getD offsets (2 * k) 0 → startOf offsets width x y k + i ≡ startOf offsets width (x + i) y k
-start-along offsets width x y k i h = along ((y + getD offsets (2 * k + 1) 0 - 10) * width) x (getD offsets (2 * k) 0) i h
+start-along : (offsets : List ℕ) (pitch x y k i : ℕ) → 10 ≤ x + getD offsets (2 * k) 0 → startOf offsets pitch x y k + i ≡ startOf offsets pitch (x + i) y k
+start-along offsets pitch x y k i h = along ((y + getD offsets (2 * k + 1) 0 - 10) * pitch) x (getD offsets (2 * k) 0) i h
 
-module _ (img offsets : List ℕ) (width x y : ℕ) (starts : List ℕ) (w : Wrote 0 21 0 (startOf offsets width x y) (replicate 21 0) starts) where
-  start-is : (k : ℕ) → k < 21 → getD starts k 0 ≡ startOf offsets width x y k
+module _ (img offsets : List ℕ) (pitch x y : ℕ) (starts : List ℕ) (w : Wrote 0 21 0 (startOf offsets pitch x y) (replicate 21 0) starts) where
+  start-is : (k : ℕ) → k < 21 → getD starts k 0 ≡ startOf offsets pitch x y k
   start-is k h = ap (λ (j : ℕ). getD starts j 0) (sym (zero-add k)) ∙ w .here k h
 
-  pub reaches : (n : ℕ) → Started img offsets width x y n → Reach img starts n
+  pub reaches : (n : ℕ) → Started img offsets pitch x y n → Reach img starts n
   reaches n s k h = subst (λ (z : ℕ). z + n ≤ length img) (sym (start-is k h)) (s k h)
 
-  sample-is : ((k : ℕ) → k < 42 → (10 ≤ x + getD offsets k 0) × (10 ≤ y + getD offsets k 0)) → (i k : ℕ) → k < 21 → sampleOf img starts i k ≡ getD img (startOf offsets width (x + i) y k) 0
-  sample-is clear i k h = ap (λ (z : ℕ). getD img z 0) (ap (λ (z : ℕ). z + i) (start-is k h) ∙ start-along offsets width x y k i (clear (2 * k) (omega arith) .0))
+  sample-is : ((k : ℕ) → k < 42 → (10 ≤ x + getD offsets k 0) × (10 ≤ y + getD offsets k 0)) → (i k : ℕ) → k < 21 → sampleOf img starts i k ≡ getD img (startOf offsets pitch (x + i) y k) 0
+  sample-is clear i k h = ap (λ (z : ℕ). getD img z 0) (ap (λ (z : ℕ). z + i) (start-is k h) ∙ start-along offsets pitch x y k i (clear (2 * k) (omega arith) .0))
 
-  pub started : ((k : ℕ) → k < 42 → (10 ≤ x + getD offsets k 0) × (10 ≤ y + getD offsets k 0)) → (i : ℕ) → valueAt img starts i ≡ startedAt img offsets width (x + i) y
+  pub started : ((k : ℕ) → k < 42 → (10 ≤ x + getD offsets k 0) × (10 ≤ y + getD offsets k 0)) → (i : ℕ) → valueAt img starts i ≡ startedAt img offsets pitch (x + i) y
   unfolding valueAt startedAt
   started clear i =
-      response-cong (sampleOf img starts i) (λ k. sampleOf img starts i (k + 16)) (λ k. getD img (startOf offsets width (x + i) y k) 0) (λ k. getD img (startOf offsets width (x + i) y (k + 16)) 0)
+      response-cong (sampleOf img starts i) (λ k. sampleOf img starts i (k + 16)) (λ k. getD img (startOf offsets pitch (x + i) y k) 0) (λ k. getD img (startOf offsets pitch (x + i) y (k + 16)) 0)
       (λ k h. sample-is clear i k (omega arith)) (λ k h. sample-is clear i (k + 16) (omega arith))
 
 -- ---- a row of three parts
@@ -56,18 +56,18 @@ right : {A : Type 0} (a b : A) (p q : Bool) → q ≡ false → b ≡ cond (p &&
 right a b true q e = sym (ap (λ (z : Bool). cond z a b) e)
 right a b false q e = refl
 
-module _ (img offsets : List ℕ) (width x0 y from to : ℕ) where
-  inside-ahead : (i : ℕ) → i < from → plusZero ≡ insideAt img offsets width x0 y from to i
-  inside-ahead i h = left (startedAt img offsets width (x0 + i) y) plusZero (leb from i) (ltb i to) (lt-leb from i h)
+module _ (img offsets : List ℕ) (pitch x0 y from to : ℕ) where
+  inside-ahead : (i : ℕ) → i < from → plusZero ≡ insideAt img offsets pitch x0 y from to i
+  inside-ahead i h = left (startedAt img offsets pitch (x0 + i) y) plusZero (leb from i) (ltb i to) (lt-leb from i h)
 
-  inside-on : (i : ℕ) → from ≤ i → i < to → startedAt img offsets width (x0 + i) y ≡ insideAt img offsets width x0 y from to i
-  inside-on i h l = picked (startedAt img offsets width (x0 + i) y) plusZero (leb from i) (ltb i to) (le-leb from i h) (lt-ltb i to l)
+  inside-on : (i : ℕ) → from ≤ i → i < to → startedAt img offsets pitch (x0 + i) y ≡ insideAt img offsets pitch x0 y from to i
+  inside-on i h l = picked (startedAt img offsets pitch (x0 + i) y) plusZero (leb from i) (ltb i to) (le-leb from i h) (lt-ltb i to l)
 
-  inside-past : (i : ℕ) → to ≤ i → plusZero ≡ insideAt img offsets width x0 y from to i
-  inside-past i h = right (startedAt img offsets width (x0 + i) y) plusZero (leb from i) (ltb i to) (le-ltb i to h)
+  inside-past : (i : ℕ) → to ≤ i → plusZero ≡ insideAt img offsets pitch x0 y from to i
+  inside-past i h = right (startedAt img offsets pitch (x0 + i) y) plusZero (leb from i) (ltb i to) (le-ltb i to h)
 
   abbrev row : ℕ → Float
-  row = insideAt img offsets width x0 y from to
+  row = insideAt img offsets pitch x0 y from to
 
   pub row-left : (a c : List Float) → from ≤ length a → Wrote plusZero (length (take (from - 0) (drop 0 a))) 0 (λ i. plusZero) (take (from - 0) (drop 0 a)) c
       → Wrote plusZero from 0 row a (take 0 a ++ (c ++ drop (from - 0) (drop 0 a)))
@@ -77,7 +77,7 @@ module _ (img offsets : List ℕ) (width x0 y from to : ℕ) where
       (λ i l. inside-ahead (0 + i) (omega (arith, part-count plusZero 0 from a (omega arith) h))) w)
 
   pub row-middle : (a b e : List Float) (starts : List ℕ) → ((k : ℕ) → k < 42 → (10 ≤ x0 + from + getD offsets k 0) × (10 ≤ y + getD offsets k 0)) → from ≤ to → to ≤ length a
-      → Wrote 0 21 0 (startOf offsets width (x0 + from) y) (replicate 21 0) starts → Wrote plusZero from 0 row a b
+      → Wrote 0 21 0 (startOf offsets pitch (x0 + from) y) (replicate 21 0) starts → Wrote plusZero from 0 row a b
       → Wrote plusZero (length (take (to - from) (drop from b))) 0 (valueAt img starts) (take (to - from) (drop from b)) e
       → Wrote plusZero to 0 row a (take from b ++ (e ++ drop (to - from) (drop from b)))
   row-middle a b e starts clear low high s v w =
@@ -85,7 +85,7 @@ module _ (img offsets : List ℕ) (width x0 y from to : ℕ) where
       wrote-next plusZero from to row a b e low h v
       (wrote-cong plusZero (length (take (to - from) (drop from b))) 0 (valueAt img starts) (λ i. row (from + i)) (take (to - from) (drop from b)) e
       (λ i l.
-      started img offsets width (x0 + from) y starts s clear i ∙ ap (λ (x : ℕ). startedAt img offsets width x y) (add-assoc x0 from i)
+      started img offsets pitch (x0 + from) y starts s clear i ∙ ap (λ (x : ℕ). startedAt img offsets pitch x y) (add-assoc x0 from i)
       ∙ inside-on (from + i) (omega arith) (omega (arith, part-count plusZero from to b low h)))
       w)
 
@@ -117,7 +117,7 @@ module _ (img : Image) (offsets : List ℕ) (radius x0 y : ℕ) where
   wanted i = shiftedAt img offsets radius (x0 + i) y
 
   abbrev value : ℕ → Float
-  value i = startedAt (img .samples) offsets (img .width) (x0 + i) y
+  value i = startedAt (img .samples) offsets (img .pitch) (x0 + i) y
 
   pub row-above : y < radius → (i : ℕ) → plusZero ≡ wanted i
   unfolding ringFits
@@ -145,21 +145,22 @@ module _ (img : Image) (offsets : List ℕ) (radius x0 y : ℕ) where
     pub row-narrow : to ≤ from → (i : ℕ) → i < w → plusZero ≡ wanted i
     row-narrow h i l = ⊎-elim (λ p. column-ahead i (f .ahead i p)) (λ p. column-past i (t .past i (omega arith) l)) (lt-or-le i from)
 
-    pub row-is : radius ≤ y → y + radius < img .height → (i : ℕ) → i < w → insideAt (img .samples) offsets (img .width) x0 y from to i ≡ wanted i
+    pub row-is : radius ≤ y → y + radius < img .height → (i : ℕ) → i < w → insideAt (img .samples) offsets (img .pitch) x0 y from to i ≡ wanted i
     row-is c d i l =
         ⊎-elim
-        (λ p. sym (inside-ahead (img .samples) offsets (img .width) x0 y from to i p) ∙ column-ahead i (f .ahead i p))
+        (λ p. sym (inside-ahead (img .samples) offsets (img .pitch) x0 y from to i p) ∙ column-ahead i (f .ahead i p))
         (λ p.
         ⊎-elim
-        (λ q. sym (inside-on (img .samples) offsets (img .width) x0 y from to i p q) ∙ fits-at i (f .on i p l) (t .inside i q p) c d)
-        (λ q. sym (inside-past (img .samples) offsets (img .width) x0 y from to i q) ∙ column-past i (t .past i q l)) (lt-or-le i to))
+        (λ q. sym (inside-on (img .samples) offsets (img .pitch) x0 y from to i p q) ∙ fits-at i (f .on i p l) (t .inside i q p) c d)
+        (λ q. sym (inside-past (img .samples) offsets (img .pitch) x0 y from to i q) ∙ column-past i (t .past i q l)) (lt-or-le i to))
         (lt-or-le i from)
 
     module _ (g : Framed img offsets radius x0 w) (c : radius ≤ y) (d : y + radius < img .height) (some : from < to) where
-      pub startable : Startable offsets (img .width) (x0 + from) y
+      pub startable : Startable offsets (img .width) (img .pitch) (x0 + from) y
       startable =
           record {
-            stride-most = g .image .sized .width-most;
+            holds = g .image .holds;
+            pitch-most = g .image .pitch-most;
             x-most = omega (arith, g .right, f .most, g .image .sized .width-most);
             y-most = omega (arith, g .image .sized .height-most);
             clear = λ k h.
@@ -177,7 +178,7 @@ module _ (img : Image) (offsets : List ℕ) (radius x0 y : ℕ) where
       lines : (k : ℕ) → k < 21 → y + getD offsets (2 * k + 1) 0 - 10 < img .height
       lines k h = let a = g .around (2 * k + 1) (omega arith) .1 in omega arith
 
-      pub started-all : Started (img .samples) offsets (img .width) (x0 + from) y (to - from)
+      pub started-all : Started (img .samples) offsets (img .pitch) (x0 + from) y (to - from)
       started-all k h =
           index img (g .image) (x0 + from + getD offsets (2 * k) 0 - 10) (y + getD offsets (2 * k + 1) 0 - 10) (to - from) (columns k h) (lines k h)
 

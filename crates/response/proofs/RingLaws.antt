@@ -153,5 +153,5 @@ tested ring offsets radius false o low high d = go (ringWithin radius ring) refl
     go false e = e
 
 -- ---- where a pixel stands
-pub place-most : (width x y : ℕ) → width ≤ 4096 → x ≤ 8192 → y ≤ 8192 → y * width + x ≤ 8192 * 4096 + 8192
-place-most width x y p q r = add-le-add (mul-le-mul r p) q
+pub place-most : (pitch x y : ℕ) → pitch ≤ 8192 → x ≤ 8192 → y ≤ 8192 → y * pitch + x ≤ 8192 * 8192 + 8192
+place-most pitch x y p q r = add-le-add (mul-le-mul r p) q

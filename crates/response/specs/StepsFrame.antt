@@ -7,7 +7,7 @@ use lib.Dec.{leb, ltb, eqb}
 use lib.ListN.{length}
 use lib.Ieee.{Float}
 use Rattle.shapes.specs.Numbers.{plusZero}
-use Rattle.imageview.specs.Image.{Image, stride}
+use Rattle.imageview.specs.Image.{Image}
 use Rattle.imageview.specs.Steps.{Tested}
 use Rattle.refusals.specs.declared.Refusal.the-variants.{BadOut}
 use Rattle.response.specs.declared.Response.{Response}
@@ -18,10 +18,10 @@ use Rattle.response.specs.StepsStarts.{Around, startedAt}
 
 -- a row in which the ring fits from column `from` on, up to `to`
 abbrev pub insideAt : List ℕ → List ℕ → ℕ → ℕ → ℕ → ℕ → ℕ → ℕ → Float
-insideAt img offsets stride x0 y from to i = cond (leb from i && ltb i to) (startedAt img offsets stride (x0 + i) y) plusZero
+insideAt img offsets pitch x0 y from to i = cond (leb from i && ltb i to) (startedAt img offsets pitch (x0 + i) y) plusZero
 
 abbrev pub shiftedAt : Image → List ℕ → ℕ → ℕ → ℕ → Float
-shiftedAt img offsets radius x y = cond (ringFits img radius x y) (startedAt (img .samples) offsets (stride img) x y) plusZero
+shiftedAt img offsets radius x y = cond (ringFits img radius x y) (startedAt (img .samples) offsets (img .pitch) x y) plusZero
 
 -- the columns of a region in which the ring fits
 pub record From (x0 w radius from : ℕ) : Type 0 where

@@ -29,24 +29,25 @@ pub record Offsets (ring : List ℤ) (offsets : List ℕ) : Type 0 where
 abbrev pub Around : ℕ → List ℕ → Type 0
 Around radius offsets = (k : ℕ) → k < 42 → (10 ≤ getD offsets k 0 + radius) × (getD offsets k 0 ≤ 10 + radius)
 
--- where sample k of the pixel (x, y) stands in an image of that stride
+-- where sample k of the pixel (x, y) stands in an image of that pitch
 abbrev pub startOf : List ℕ → ℕ → ℕ → ℕ → ℕ → ℕ
-startOf offsets stride x y k = (y + getD offsets (2 * k + 1) 0 - 10) * stride + (x + getD offsets (2 * k) 0 - 10)
+startOf offsets pitch x y k = (y + getD offsets (2 * k + 1) 0 - 10) * pitch + (x + getD offsets (2 * k) 0 - 10)
 
 -- sizes that no product wraps, and a pixel that the offsets do not take below 0
-pub record Startable (offsets : List ℕ) (stride x y : ℕ) : Type 0 where
-  pub stride-most : stride ≤ 4096
+pub record Startable (offsets : List ℕ) (width pitch x y : ℕ) : Type 0 where
+  pub holds : width ≤ pitch
+  pub pitch-most : pitch ≤ 8192
   pub x-most : x ≤ 4096
   pub y-most : y ≤ 4096
   pub clear : (k : ℕ) → k < 42 → (10 ≤ x + getD offsets k 0) × (10 ≤ y + getD offsets k 0)
 
 -- the response of the pixel (x, y)
 unfoldable pub startedAt : List ℕ → List ℕ → ℕ → ℕ → ℕ → Float
-startedAt img offsets stride x y = responseOf (λ k. getD img (startOf offsets stride x y k) 0) (λ k. getD img (startOf offsets stride x y (k + 16)) 0)
+startedAt img offsets pitch x y = responseOf (λ k. getD img (startOf offsets pitch x y k) 0) (λ k. getD img (startOf offsets pitch x y (k + 16)) 0)
 
 -- the image holds the n samples from each of the pixel's starts on
 abbrev pub Started : List ℕ → List ℕ → ℕ → ℕ → ℕ → ℕ → Type 0
-Started img offsets stride x y n = (k : ℕ) → k < 21 → startOf offsets stride x y k + n ≤ length img
+Started img offsets pitch x y n = (k : ℕ) → k < 21 → startOf offsets pitch x y k + n ≤ length img
 
 -- ---- pixels side by side: sample k of pixel i stands i past start k; the first 16 starts are the ring's, the rest the cross's
 abbrev pub sampleOf : List ℕ → List ℕ → ℕ → ℕ → ℕ

@@ -3,7 +3,7 @@ ghost use mathlib.Core.Path.{_≡_};
 ghost use Prim.Native.Nat.{_+_, _-_, _*_, _/_, _%_, min, _≤_, _<_};
 ghost use lib.ListN.{length};
 ghost use Rattle.shapes.specs.Numbers.{plusZero, lesser};
-ghost use Rattle.imageview.specs.Image.{imageOf, stride};
+ghost use Rattle.imageview.specs.Image.{imageOf};
 ghost use Rattle.response.specs.Region.{widthOf, heightOf};
 ghost use Rattle.response.specs.Call.{regionOf};
 ghost use Rattle.pixel_response.specs.Steps.{Wrote};
@@ -67,13 +67,12 @@ fn row_inside(
     out: &mut [f32],
 )
     requires { ⌜ (from < to) × (to ≤ length (now out)) × (x0 + from ≤ 4096) ⌝ }
-    requires { ⌜ Startable (now offsets) (stride (imageOf (now img) sizes)) (x0 + from) y ⌝ }
-    requires { ⌜ Started (now img) (now offsets) (stride (imageOf (now img) sizes)) (x0 + from) y (to - from) ⌝ }
-    ensures { λ _. ⌜ Wrote plusZero (length (now (out .entry))) 0 (insideAt (now (img .entry)) (now (offsets .entry)) (stride (imageOf (now (img .entry)) sizes)) x0 y from to) (now (out .entry)) (now (out .exit)) ⌝ }
+    requires { ⌜ Startable (now offsets) (sizes .width) (sizes .pitch) (x0 + from) y ⌝ }
+    requires { ⌜ Started (now img) (now offsets) (sizes .pitch) (x0 + from) y (to - from) ⌝ }
+    ensures { λ _. ⌜ Wrote plusZero (length (now (out .entry))) 0 (insideAt (now (img .entry)) (now (offsets .entry)) (sizes .pitch) x0 y from to) (now (out .entry)) (now (out .exit)) ⌝ }
 {
     let n = out.len();
-    let stride = sizes.width;
-    let starts = ring::starts_of(offsets, stride, x0 + from, y);
+    let starts = ring::starts_of(offsets, sizes, x0 + from, y);
     fill(&mut out[0..from]);
     row::write_row(img, &starts, &mut out[from..to]);
     fill(&mut out[to..n]);

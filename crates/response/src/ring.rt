@@ -1,4 +1,5 @@
 // The ring: its components as unsigned offsets, the test of them, and where the samples of a pixel stand in the image.
+use imageview::Sizes;
 ghost use mathlib.Core.Path.{_≡_};
 ghost use Prim.Native.Nat.{_+_, _-_, _*_, _≤_, _<_};
 ghost use lib.ListN.{length, replicate};
@@ -66,11 +67,11 @@ pub fn are_around(offsets: &[u8; 42], radius: usize) -> bool
 }
 
 // Where the pixel (x, y) stands.
-fn place(stride: usize, x: usize, y: usize) -> usize
-    requires { ⌜ (stride ≤ 4096) × (x ≤ 8192) × (y ≤ 8192) ⌝ }
-    ensures { λ r. ⌜ r ≡ y * stride + x ⌝ }
+fn place(sizes: Sizes, x: usize, y: usize) -> usize
+    requires { ⌜ (sizes .width ≤ sizes .pitch) × (sizes .pitch ≤ 8192) × (x ≤ 8192) × (y ≤ 8192) ⌝ }
+    ensures { λ r. ⌜ r ≡ y * sizes .pitch + x ⌝ }
 {
-    y * stride + x
+    y * sizes.pitch + x
 }
 
 // A coordinate moved by a component.
@@ -82,16 +83,16 @@ fn moved_by(x: usize, offset: u8) -> usize
 }
 
 // The 21 samples of the pixel (x, y).
-pub fn starts_of(offsets: &[u8; 42], stride: usize, x: usize, y: usize) -> [usize; 21]
-    requires { ⌜ Startable (now offsets) stride x y ⌝ }
-    ensures { λ r. ⌜ Wrote 0 21 0 (startOf (now (offsets .entry)) stride x y) (replicate 21 0) r ⌝ }
+pub fn starts_of(offsets: &[u8; 42], sizes: Sizes, x: usize, y: usize) -> [usize; 21]
+    requires { ⌜ Startable (now offsets) (sizes .width) (sizes .pitch) x y ⌝ }
+    ensures { λ r. ⌜ Wrote 0 21 0 (startOf (now (offsets .entry)) (sizes .pitch) x y) (replicate 21 0) r ⌝ }
 {
     let mut starts = [0usize; 21];
     let mut k: usize = 0;
     while k < 21 {
         let column = moved_by(x, offsets[2 * k]);
         let line = moved_by(y, offsets[2 * k + 1]);
-        starts[k] = place(stride, column, line);
+        starts[k] = place(sizes, column, line);
         k = k + 1;
     }
     starts

@@ -48,7 +48,7 @@ rest (Refused r) = []
 
 abbrev shown : List ℕ → ℕ → ℕ → ℕ → ℕ → ℕ → ℕ → Bool → ℕ → ℕ → List ℕ
 shown s w h r dm mo md c x y =
-    let a = refineOf (imageOf s (sizesOf w h)) (record { radius = r; «det_margin» = f32 dm; «max_offset» = f32 mo; «min_abs_det» = f32 md }) (f32 x) (f32 y) c in
+    let a = refineOf (imageOf s (sizesOf w h w)) (record { radius = r; «det_margin» = f32 dm; «max_offset» = f32 mo; «min_abs_det» = f32 md }) (f32 x) (f32 y) c in
     numberOf a ∷ rest a
 
 unsettled : shown (128 ∷ 126 ∷ 128 ∷ 129 ∷ 128 ∷ 131 ∷ 126 ∷ 126 ∷ 130 ∷ []) 3 3 1 0 1090519040 0 true 1065353216 1065353216 ≡ 0 ∷ 1061405636 ∷ 1064366321 ∷ 1082388603 ∷ 0 ∷ 4 ∷ 0 ∷ 0 ∷ 0 ∷ 0 ∷ []

@@ -41,7 +41,7 @@ module _ {M : Type 1} (𝓤 : URA M) (H : Heap 𝓤) (A : Atoms 𝓤) (W : Given
   L = T′.the-laws α
 
   abbrev vd : Values (D .parts)
-  vd = (d .«data», (d .width, (d .height, tt)))
+  vd = (d .«data», (d .width, (d .height, (d .pitch, tt))))
 
   pub apart : ent 𝓤 (sem 𝓤 H A (Own α d)) (sep 𝓤 (sem 𝓤 H A (Bytes α d)) (sem 𝓤 H A (Own α d)))
   apart =

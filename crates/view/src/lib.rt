@@ -1,4 +1,4 @@
-// An image as bytes that are borrowed, with width and height, after `imageview.rs`. The functions are thin: each takes the view apart and
+// An image as bytes that are borrowed, with width, height and pitch, after `imageview.rs`. The functions are thin: each takes the view apart and
 // calls the one on a plain slice and numbers, which does the work. The borrow checker covers no function over such a struct, so each is
 // proved by a walk by hand.
 mod plain;
@@ -19,16 +19,18 @@ pub struct ImageView<'a> {
     pub data: &'a [u8],
     pub width: usize,
     pub height: usize,
+    pub pitch: usize,
 }
 
 // The view as it is given; `is_image` tests it.
-pub fn from_u8_slice<'a>(data: &'a [u8], width: usize, height: usize) -> ImageView<'a>
-    ensures { λ r. ⌜ r ≡ record { «data» = «data» .entry; width = width; height = height } ⌝ }
+pub fn from_u8_slice<'a>(data: &'a [u8], width: usize, height: usize, pitch: usize) -> ImageView<'a>
+    ensures { λ r. ⌜ r ≡ record { «data» = «data» .entry; width = width; height = height; pitch = pitch } ⌝ }
 {
     ImageView {
         data,
         width,
         height,
+        pitch,
     }
 }
 
@@ -36,7 +38,7 @@ pub fn from_u8_slice<'a>(data: &'a [u8], width: usize, height: usize) -> ImageVi
 pub fn is_image<'a>(view: ImageView<'a>) -> bool
     ensures { λ r. ⌜ r ≡ isImage (imageIn (view .entry)) ⌝ }
 {
-    plain::is_image(view.data, view.width, view.height)
+    plain::is_image(view.data, view.width, view.height, view.pitch)
 }
 
 pub fn width<'a>(view: ImageView<'a>) -> usize
@@ -51,12 +53,19 @@ pub fn height<'a>(view: ImageView<'a>) -> usize
     view.height
 }
 
+// How far a row begins from the one before it.
+pub fn pitch<'a>(view: ImageView<'a>) -> usize
+    ensures { λ r. ⌜ r ≡ view .entry .pitch ⌝ }
+{
+    view.pitch
+}
+
 // One row of a patch, as a part of the image: side samples from column x0 of row y.
 pub fn patch_row<'a>(view: ImageView<'a>, x0: usize, y: usize, side: usize) -> &'a [u8]
-    requires { ⌜ y * view .width + x0 + side ≤ length (now (view .data)) ⌝ }
-    ensures { λ r. ⌜ now r ≡ take side (drop (y * view .entry .width + x0) (now (view .entry .data))) ⌝ }
+    requires { ⌜ y * view .pitch + x0 + side ≤ length (now (view .data)) ⌝ }
+    ensures { λ r. ⌜ now r ≡ take side (drop (y * view .entry .pitch + x0) (now (view .entry .data))) ⌝ }
 {
-    imageview::patch_row(view.data, view.width, x0, y, side)
+    imageview::patch_row(view.data, view.pitch, x0, y, side)
 }
 
 // The ChESS response of the view's image over a region.
@@ -69,7 +78,16 @@ pub fn response<'a>(
 ) -> Response
     ensures { λ r. ⌜ Done (imageIn (view .entry)) (now (ring .entry)) radius (regionOf roi) (now (out .entry)) r (now (out .exit)) ⌝ }
 {
-    plain::response(view.data, view.width, view.height, ring, radius, roi, out)
+    plain::response(
+        view.data,
+        view.width,
+        view.height,
+        view.pitch,
+        ring,
+        radius,
+        roi,
+        out,
+    )
 }
 
 // The refiner of one seed on the view's image.
@@ -82,7 +100,16 @@ pub fn refine<'a>(
 ) -> Refined
     ensures { λ r. ⌜ r ≡ refineOf (imageIn (view .entry)) cfg x y wanted ⌝ }
 {
-    plain::refine(view.data, view.width, view.height, cfg, x, y, wanted)
+    plain::refine(
+        view.data,
+        view.width,
+        view.height,
+        view.pitch,
+        cfg,
+        x,
+        y,
+        wanted,
+    )
 }
 
 // The same from plain bytes: the view is a local, so whoever calls this needs no walk by hand.
@@ -90,12 +117,13 @@ pub fn refine_bytes(
     data: &[u8],
     width: usize,
     height: usize,
+    pitch: usize,
     cfg: SaddlePointConfig,
     x: f32,
     y: f32,
     wanted: bool,
 ) -> Refined
-    ensures { λ r. ⌜ r ≡ refineOf (imageOf (now («data» .entry)) (sizesOf width height)) cfg x y wanted ⌝ }
+    ensures { λ r. ⌜ r ≡ refineOf (imageOf (now («data» .entry)) (sizesOf width height pitch)) cfg x y wanted ⌝ }
 {
-    refine(from_u8_slice(data, width, height), cfg, x, y, wanted)
+    refine(from_u8_slice(data, width, height, pitch), cfg, x, y, wanted)
 }

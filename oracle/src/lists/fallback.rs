@@ -37,6 +37,7 @@ fn write(list: &mut List, c: &Call) {
     list.push(&case);
     list.tally(number_name(decision.number));
     list.tally(decision.decided.name());
+    list.tally(padding::kind(image));
     for (pass, name) in [(1, "corners of pass 1"), (2, "corners of pass 2")] {
         list.tally_many(name, passes.iter().filter(|p| **p == pass).count());
     }
@@ -154,11 +155,43 @@ fn borders(list: &mut List) {
     }
 }
 
+/// Rows with padding, and pitches and counts that 10 refuses, before 11 too.
+fn pitches(list: &mut List) {
+    let mut random = Random::of(13, "pitches");
+    let good = Settings::default();
+    let small = Settings { radius: 1, ..good };
+    let big = Settings { radius: 5, ..good };
+    let call = |image: Image, one: Settings, floats: &[f32]| Call {
+        image,
+        one,
+        two: small,
+        floats: floats.to_vec(),
+        out: floats.len(),
+        passes: floats.len() / 3,
+    };
+    let (image, corners) = refine_list::board(&mut random);
+    for padded in padding::near(&mut random, &image) {
+        write(list, &call(padded, big, &corners.concat()));
+    }
+    let (low, floats) = refine_list::low();
+    for padded in padding::far(&mut random, &low) {
+        write(list, &call(padded, big, &floats));
+    }
+    for kind in 0..padding::WRONG {
+        for radius in [1, 8] {
+            let wrong = padding::wrong(&mut random, kind);
+            write(list, &call(wrong, Settings { radius, ..good }, &floats));
+        }
+    }
+}
+
 pub fn list(seed: u64) -> List {
     let mut list = List::new("fallback");
     borders(&mut list);
+    pitches(&mut list);
     let mut random = Random::of(seed, "fallback");
-    while list.size() < ENOUGH / 2 {
+    let mut beside = Random::of(seed, "fallback padding");
+    while list.size() < ENOUGH * 3 / 4 {
         let (image, corners) = refine_list::board(&mut random);
         let saturated = random.once_in(8);
         let floats = refine_list::places(&mut random, &image, corners, saturated);
@@ -171,7 +204,7 @@ pub fn list(seed: u64) -> List {
         let c = Call {
             out: floats.len() + random.below(3),
             passes: floats.len() / 3 + random.below(3),
-            image,
+            image: padding::at_times(&mut beside, image),
             one,
             two,
             floats,

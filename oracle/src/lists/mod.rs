@@ -1,6 +1,7 @@
 //! One module a list, and the table of all.
 
 use crate::calls::{self, same_floats, same_triples, triples, Decision};
+use crate::padding;
 use crate::random::Random;
 use crate::types::*;
 use crate::words::{bits32, Case, List};
@@ -47,7 +48,7 @@ pub const ALL: &[Writer] = &[
     ("covariance", pieces::covariance),
 ];
 
-/// Most words of a list.
+/// Most words of a list; with padding a quarter more.
 pub const ENOUGH: usize = 120_000;
 
 /// The numbers of document 01 that each list must reach.
@@ -62,6 +63,9 @@ const REACHED: &[(&str, &[u32])] = &[
     ("gradient", &[0, 10, 13, 15]),
     ("board", &[0, 30, 31, 32, 33, 34]),
 ];
+
+/// The lists that have an image in each case.
+const PADDED: &[&str] = &["response", "refine", "refine_list", "fallback"];
 
 /// What a list must reach and does not.
 pub fn missing(list: &List) -> Vec<String> {
@@ -105,7 +109,23 @@ pub fn missing(list: &List) -> Vec<String> {
         _ => {}
     }
     wanted.retain(|what| list.counted(what) == 0);
+    if PADDED.contains(&list.name) {
+        wanted.extend(missing_pitches(list));
+    }
     wanted
+}
+
+/// The same of pitches: every kind, and none in at least half of the cases.
+fn missing_pitches(list: &List) -> Vec<String> {
+    let kinds = padding::KINDS.into_iter();
+    let mut missing: Vec<String> = kinds
+        .filter(|kind| list.counted(kind) == 0)
+        .map(String::from)
+        .collect();
+    if 2 * list.counted(padding::KINDS[0]) < list.cases() {
+        missing.push("half of the cases without padding".into());
+    }
+    missing
 }
 
 // --- fields that several lists have ----------------------------------------
@@ -113,6 +133,7 @@ pub fn missing(list: &List) -> Vec<String> {
 fn put_image(case: &mut Case, image: &Image) {
     case.long(image.width)
         .long(image.height)
+        .long(image.pitch)
         .count(image.bytes.len())
         .bytes(&image.bytes);
 }

@@ -35,9 +35,28 @@ fn fraction(random: &mut Random) -> f32 {
     }
 }
 
+/// One fit: the rows of its patch are padded, and the Rust has the patch alone.
+fn put_fit(list: &mut List, patch: &Image, padded: &Image, radius: i32) {
+    let Some(coefs) = plain::fit(patch, radius, [radius, radius]) else {
+        return;
+    };
+    let mut case = Case::new();
+    case.int(radius)
+        .count(padded.pitch as usize)
+        .bytes(&padded.bytes)
+        .floats(&coefs);
+    list.push(&case);
+    list.tally(format!("radius {radius}"));
+    list.tally(padding::kind(padded.into()));
+    if coefs.iter().any(|c| c.to_bits() == 0x8000_0000) {
+        list.tally("a coefficient -0.0");
+    }
+}
+
 pub fn fit(seed: u64) -> List {
     let mut list = List::new("fit");
     let mut random = Random::of(seed, "fit");
+    let mut beside = Random::of(seed, "fit padding");
     for i in 0..420 {
         let radius = 1 + i % 7;
         let side = (2 * radius + 1) as usize;
@@ -47,16 +66,12 @@ pub fn fit(seed: u64) -> List {
             2 => pictures::few_levels(&mut random, side, side, &[0, 255]),
             _ => pictures::any(&mut random, side, side),
         };
-        let Some(coefs) = plain::fit(&image, radius, [radius, radius]) else {
-            continue;
-        };
-        let mut case = Case::new();
-        case.int(radius).bytes(&image.bytes).floats(&coefs);
-        list.push(&case);
-        list.tally(format!("radius {radius}"));
-        if coefs.iter().any(|c| c.to_bits() == 0x8000_0000) {
-            list.tally("a coefficient -0.0");
-        }
+        let padded = padding::at_times(&mut beside, image.clone());
+        put_fit(&mut list, &image, &padded, radius);
+    }
+    let patch = pictures::noise(&mut random, 3, 3);
+    for padded in padding::far(&mut beside, &patch) {
+        put_fit(&mut list, &patch, &padded, 1);
     }
     list
 }

@@ -81,6 +81,7 @@ fn write(list: &mut List, image: &Image, s: &Settings, seeds: &[[f32; 2]], covar
     }
     list.push(&case);
     list.tally(format!("cases of radius {}", s.radius));
+    list.tally(padding::kind(image.into()));
 }
 
 /// A saddle on 9 by 9 pixels, exact at (4, 4).
@@ -428,13 +429,9 @@ fn refusals(list: &mut List) {
         (1, 4096, 4096),
         (1 << 32, 1 << 32, 0),
         ((1 << 32) + 9, 9, 81),
-        (u64::MAX, 1, 1),
+        (usize::MAX, 1, 1),
     ] {
-        let image = Image {
-            width,
-            height,
-            bytes: vec![3; count],
-        };
+        let image = Image::new(width, height, vec![3; count]);
         write(list, &image, &base, &seeds[..2], true);
     }
     // The order: two numbers at once.
@@ -489,6 +486,35 @@ fn refusals(list: &mut List) {
     );
 }
 
+/// Rows with padding, and pitches and counts that 10 refuses, before 11 too.
+fn pitches(list: &mut List) {
+    let mut random = Random::of(13, "pitches");
+    let base = Settings::default();
+    let seeds = [
+        [6.0, 6.0],
+        [6.4, 5.7],
+        [2.0, 2.0],
+        [10.0, 10.0],
+        [10.4, 6.0],
+    ];
+    for padded in padding::near(&mut random, &plain_corner()) {
+        for radius in [1, 2, 5] {
+            write(list, &padded, &Settings { radius, ..base }, &seeds, true);
+        }
+    }
+    let (low, at) = refine_list::low();
+    let (one, seed) = (Settings { radius: 1, ..base }, [at[0], at[1]]);
+    for padded in padding::far(&mut random, &low) {
+        write(list, &padded, &one, &[seed, [7.0, 1.0], [8.0, 1.0]], true);
+    }
+    for kind in 0..padding::WRONG {
+        for radius in [1, 8] {
+            let wrong = padding::wrong(&mut random, kind);
+            write(list, &wrong, &Settings { radius, ..base }, &[seed], true);
+        }
+    }
+}
+
 /// What is rare about a run, if anything.
 fn rare(a: &Refined, run: &Run) -> Option<usize> {
     [
@@ -510,6 +536,7 @@ fn rare(a: &Refined, run: &Run) -> Option<usize> {
 /// Rare runs, looked for in pictures of few levels; so many of each kind.
 fn rare_runs(list: &mut List, seed: u64) {
     let mut random = Random::of(seed, "rare");
+    let mut beside = Random::of(seed, "rare padding");
     let mut left = [24usize; 10];
     for _ in 0..6_000 {
         let s = Settings {
@@ -534,6 +561,7 @@ fn rare_runs(list: &mut List, seed: u64) {
             }
         }
         if !seeds.is_empty() {
+            let image = padding::at_times(&mut beside, image);
             write(list, &image, &s, &seeds, true);
         }
     }
@@ -542,6 +570,7 @@ fn rare_runs(list: &mut List, seed: u64) {
 pub fn list(seed: u64) -> List {
     let mut list = List::new("refine");
     borders(&mut list);
+    pitches(&mut list);
     let (stuck, at) = stuck_corner();
     write(&mut list, &stuck, &stuck_settings(), &[at], true);
     for (image, radius, at) in met() {
@@ -555,14 +584,15 @@ pub fn list(seed: u64) -> List {
     }
     rare_runs(&mut list, seed);
     let mut random = Random::of(seed, "refine");
-    while list.size() < ENOUGH {
+    let mut beside = Random::of(seed, "refine padding");
+    while list.size() < ENOUGH + ENOUGH / 4 {
         let s = good_settings(&mut random);
         let least = (2 * s.radius + 1) as i64;
         let (w, h) = (
             random.between(least, least + 12) as usize,
             random.between(least + 3, least + 12) as usize,
         );
-        let image = pictures::any(&mut random, w, h);
+        let image = padding::at_times(&mut beside, pictures::any(&mut random, w, h));
         let seeds: Vec<[f32; 2]> = (0..random.between(4, 10))
             .map(|_| [place(&mut random, w as u64), place(&mut random, h as u64)])
             .collect();

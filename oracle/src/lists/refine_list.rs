@@ -22,6 +22,7 @@ fn write(list: &mut List, c: &Call) {
     list.push(&case);
     list.tally(number_name(decision.number));
     list.tally(decision.decided.name());
+    list.tally(padding::kind((&c.image).into()));
     if decision.number == 0 {
         list.tally(match answer.len() {
             0 => "accepted, none kept",
@@ -177,11 +178,7 @@ fn borders(list: &mut List) {
     }
     for (width, height, count) in [(0, 0, 0), (9, 9, 80), (4097, 1, 4097), (1, 1, 1)] {
         let mut c = call(floats[..6].to_vec(), base);
-        c.image = Image {
-            width,
-            height,
-            bytes: vec![7; count],
-        };
+        c.image = Image::new(width, height, vec![7; count]);
         write(list, &c);
     }
     // The order: each pair of numbers at once.
@@ -210,18 +207,53 @@ fn borders(list: &mut List) {
     }
 }
 
+/// A picture of three rows with a corner at (4, 1) and a seed near it.
+pub fn low() -> (Image, Vec<f32>) {
+    let image = pictures::surface(9, 3, [4, 1], [2, 1, -2, 1, 0], 1);
+    (image, vec![4.2, 1.0, 7.0])
+}
+
+/// Rows with padding, and pitches and counts that 10 refuses, before 11 too.
+fn pitches(list: &mut List) {
+    let mut random = Random::of(13, "pitches");
+    let base = Settings::default();
+    let one = Settings { radius: 1, ..base };
+    let call = |image: Image, settings: Settings, floats: &[f32]| Call {
+        image,
+        settings,
+        floats: floats.to_vec(),
+        out: floats.len(),
+    };
+    let (image, corners) = board(&mut random);
+    for padded in padding::near(&mut random, &image) {
+        write(list, &call(padded, base, &corners.concat()));
+    }
+    let (low, floats) = low();
+    for padded in padding::far(&mut random, &low) {
+        write(list, &call(padded, one, &floats));
+    }
+    for kind in 0..padding::WRONG {
+        for radius in [1, 8] {
+            let wrong = padding::wrong(&mut random, kind);
+            write(list, &call(wrong, Settings { radius, ..base }, &floats));
+        }
+    }
+}
+
 pub fn list(seed: u64) -> List {
     let mut list = List::new("refine_list");
     borders(&mut list);
+    pitches(&mut list);
     let mut random = Random::of(seed, "refine_list");
-    while list.size() < ENOUGH / 2 {
+    let mut beside = Random::of(seed, "refine_list padding");
+    while list.size() < ENOUGH * 3 / 4 {
         let (image, corners) = board(&mut random);
         let saturated = random.once_in(6);
         let floats = places(&mut random, &image, corners, saturated);
         let c = Call {
             out: floats.len() + random.below(4),
             settings: good_settings(&mut random),
-            image,
+            image: padding::at_times(&mut beside, image),
             floats,
         };
         write(&mut list, &c);

@@ -76,14 +76,15 @@ fn write(list: &mut List, c: &Call) {
     list.push(&case);
     list.tally(number_name(decision.number));
     list.tally(decision.decided.name());
+    list.tally(padding::kind((&c.image).into()));
 }
 
 /// The row kernel and the pixel function of the unchanged ring.rs give the
-/// same, the unchanged patch call does where the ring is its own, and each
-/// value lies as near to N as document 01 says.
+/// same with the pitch for their width, the unchanged patch call does where the
+/// ring is its own, and each value lies as near to N as document 01 says.
 fn check_more(list: &mut List, c: &Call, w: u64, h: u64, values: &[f32]) {
     let (x0, y0, _, _) = rules::clamped((&c.image).into(), c.region);
-    let width = c.image.width as usize;
+    let pitch = c.image.pitch as usize;
     for py in 0..h {
         let y = y0 + py;
         let fits: Vec<u64> = (x0..x0 + w)
@@ -95,7 +96,7 @@ fn check_more(list: &mut List, c: &Call, w: u64, h: u64, values: &[f32]) {
         let mut row = vec![0.0; fits.len()];
         plain::response_row(
             &c.image.bytes,
-            width,
+            pitch,
             y as i32,
             &c.ring,
             &mut row,
@@ -106,7 +107,7 @@ fn check_more(list: &mut List, c: &Call, w: u64, h: u64, values: &[f32]) {
         let part = &values[start..start + row.len()];
         assert!(same_floats(&row, part), "the row kernel parts");
         for (x, &v) in fits.iter().zip(part) {
-            let one = plain::response_at(&c.image.bytes, width, *x as i32, y as i32, &c.ring);
+            let one = plain::response_at(&c.image.bytes, pitch, *x as i32, y as i32, &c.ring);
             assert!(bits32(one) == bits32(v), "the pixel function parts");
             let n = i64::from(rules::whole_at(
                 (&c.image).into(),
@@ -134,8 +135,9 @@ fn check_more(list: &mut List, c: &Call, w: u64, h: u64, values: &[f32]) {
         (c.ring == paper_ring(1) && c.radius == 5) || (c.ring == paper_ring(2) && c.radius == 10);
     let narrow = c.image.width < c.radius as u64 || c.image.height < c.radius as u64;
     if own {
-        let (_, _, rv) =
-            plain::response_patch(&c.image, c.radius == 10, c.region).expect("a region");
+        let bytes = padding::taken_out((&c.image).into());
+        let whole = View::new(c.image.width as usize, c.image.height as usize, &bytes);
+        let (_, _, rv) = plain::response_patch(whole, c.radius == 10, c.region).expect("a region");
         assert!(same_floats(&rv, values), "the unchanged patch call parts");
         list.tally("also by the unchanged ring.rs");
     }
@@ -290,11 +292,8 @@ fn borders(list: &mut List) {
         write(list, &some);
     }
     // 10: sizes and counts.
-    let sized = |width: u64, height: u64, count: usize| Image {
-        width,
-        height,
-        bytes: vec![9; count],
-    };
+    let sized =
+        |width: usize, height: usize, count: usize| Image::new(width, height, vec![9; count]);
     for image in [
         sized(0, 0, 0),
         sized(0, 14, 0),
@@ -308,7 +307,7 @@ fn borders(list: &mut List) {
         sized(1, 4096, 4096),
         sized(1 << 32, 1 << 32, 0),
         sized((1 << 32) + 16, 14, 224),
-        sized(max, max, 1),
+        sized(usize::MAX, usize::MAX, 1),
     ] {
         let mut some = call(image, 5, five, at(0, 0, 1, 1));
         some.out = 1;
@@ -335,11 +334,47 @@ fn borders(list: &mut List) {
     }
 }
 
+/// Rows with padding, and pitches and counts that 10 refuses, before 11 too.
+fn pitches(list: &mut List) {
+    let mut random = Random::of(13, "pitches");
+    let image = pictures::noise(&mut random, 16, 14);
+    let at = |x0: u64, y0: u64, x1: u64, y1: u64| Region { x0, y0, x1, y1 };
+    for padded in padding::near(&mut random, &image) {
+        for region in [whole(&image), at(4, 4, 12, 10), at(10, 8, 99, 99)] {
+            write(list, &call(padded.clone(), 5, paper_ring(1), region));
+        }
+    }
+    // The ring fits on the middle one of three rows.
+    let low = pictures::noise(&mut random, 16, 3);
+    let ring = any_ring_of(&mut random, 1);
+    for padded in padding::far(&mut random, &low) {
+        write(list, &call(padded, 1, ring, whole(&low)));
+    }
+    let wide = pictures::noise(&mut random, 4096, 1);
+    for padded in padding::far(&mut random, &wide) {
+        write(list, &call(padded, 1, ring, at(4090, 0, 8192, 1)));
+    }
+    for kind in 0..padding::WRONG {
+        for radius in [1, 11] {
+            let mut wrong = call(
+                padding::wrong(&mut random, kind),
+                radius,
+                ring,
+                at(0, 0, 1, 1),
+            );
+            wrong.out = 1;
+            write(list, &wrong);
+        }
+    }
+}
+
 pub fn list(seed: u64) -> List {
     let mut list = List::new("response");
     borders(&mut list);
+    pitches(&mut list);
     let mut random = Random::of(seed, "response");
-    while list.size() < ENOUGH {
+    let mut beside = Random::of(seed, "response padding");
+    while list.size() < ENOUGH + ENOUGH / 4 {
         let radius = random.between(1, 10) as i32;
         let (w, h) = if random.once_in(12) {
             (
@@ -353,7 +388,7 @@ pub fn list(seed: u64) -> List {
                 random.between(1.max(r - 2), 2 * r + 8) as usize,
             )
         };
-        let image = pictures::any(&mut random, w, h);
+        let image = padding::at_times(&mut beside, pictures::any(&mut random, w, h));
         let ring = any_ring_of(&mut random, radius);
         let region = if random.once_in(3) {
             let (x0, y0) = (random.below(w + 1) as u64, random.below(h + 1) as u64);

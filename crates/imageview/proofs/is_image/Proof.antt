@@ -1,17 +1,40 @@
--- `imageview::is_image` meets its contract.
-use mathlib.Core.Path.{_∙_}
+-- `imageview::is_image` meets its contract: the count is asked of sizes that passed alone.
+use mathlib.Core.Path.{_≡_, sym, ap, _∙_}
+use mathlib.Core.Bool.{Bool, _&&_}
+use native.Mathlib.Omega.{arith}
+use mir.Facts.{fits-le, fits-lit}
 use borrow.Author.Needs.{needs}
 use denote.Ref.{now}
-use Rattle.imageview.specs.Image.{imageOf}
-use Rattle.imageview.proofs.ImageLaws.{image-is}
+use Rattle.imageview.specs.Image.{Image, imageOf, isSize, isPitch}
+use Rattle.imageview.proofs.ImageLaws.{image-by-count, image-no-size, sizes-told, passed, samples-most}
 use Rattle.imageview.proofs.is_image.Statement.{statement}
 use Rattle.imageview.proofs.is_image.Tie as tie
 
-fits-requires : tie.Need-fits-requires
-fits-requires c κs = search needs
+abbrev image : tie.After-is-pitch → Image
+image c = let a = c .before .before .before .args in imageOf (now (a .img)) (a .sizes)
+
+-- both tests together
+asked : (c : tie.After-is-pitch) → c .before .is-size .result && c .is-pitch .result ≡ isSize (image c .width) (image c .height) && isPitch (image c .width) (image c .pitch)
+asked c =
+    ap (λ (b : Bool). b && c .is-pitch .result) (c .before .is-size .ensures)
+    ∙ ap (λ (b : Bool). isSize (image c .width) (image c .height) && b) (c .is-pitch .ensures)
+
+is-size-requires : tie.Need-is-size-requires
+is-size-requires c κs = search needs
+
+is-pitch-requires : tie.Need-is-pitch-requires
+is-pitch-requires c κs = search needs
+
+mul-result : tie.Need-mul-result
+mul-result c =
+    let s = sizes-told (image (c .before .before)) (passed (sym (asked (c .before .before)) ∙ c .before .if1 .taken)) in
+    fits-le (samples-most _ _ (omega (arith, s .1, s .2)) (s .0 .height-most)) (fits-lit tt)
 
 returns : tie.Need-returns
-returns c = c .fits2 .ensures ∙ image-is (imageOf (now (c .before .before .args .img)) (c .before .before .args .sizes))
+returns c = image-by-count (image (c .before .before)) (sym (asked (c .before .before)) ∙ c .before .if1 .taken)
+
+returns-2 : tie.Need-returns-2
+returns-2 c = image-no-size (image (c .before)) (sym (asked (c .before)) ∙ c .if1 .left)
 
 pub is-image-spec : {M : Type 1} → statement M
-is-image-spec = tie.close (tie.spec fits-requires returns)
+is-image-spec = tie.close (tie.spec is-size-requires is-pitch-requires mul-result returns returns-2)

@@ -33,7 +33,7 @@ length-is from count = omega arith
 returns : tie.Need-returns
 returns c =
     let s = c .before .args in
-    let from = s .y * s .stride + s .x0 in
+    let from = s .y * s .pitch + s .x0 in
     ap (λ (n : ℕ). take n (drop from (now (s .img)))) (length-is from (s .side))
 
 pub patch-row-spec : {M : Type 1} → statement M

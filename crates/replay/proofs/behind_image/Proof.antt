@@ -20,7 +20,7 @@ place-requires c κs = search needs
 
 returns : tie.Need-returns
 unfolding imageEnd
-returns c = c .place .ensures ∙ ap (λ (w : ℕ). placeOf 20 ((w + 3) / 4)) (c .before .word .ensures)
+returns c = c .place .ensures ∙ ap (λ (w : ℕ). placeOf 28 ((w + 3) / 4)) (c .before .word .ensures)
 
 pub behind-image-spec : {M : Type 1} → statement M
 behind-image-spec = tie.close (tie.spec word-requires cast-place add-place place-requires returns)

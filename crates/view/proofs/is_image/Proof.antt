@@ -81,26 +81,26 @@ module _ {M : Type 1} (𝓤 : URA M) (H : Heap 𝓤) (A : Atoms 𝓤) (W : Given
 
   -- what the callee is passed
   abbrev passed : Vals test.signature (κ, tt)
-  passed = (bytesVal d ∷ [], (vint w64 (d .width) ∷ [], (vint w64 (d .height) ∷ [], tt)))
+  passed = (bytesVal d ∷ [], (vint w64 (d .width) ∷ [], (vint w64 (d .height) ∷ [], (vint w64 (d .pitch) ∷ [], tt))))
 
   abbrev to : Test 𝓤 H A mem run .Ghost
-  to = (((κ, tt), (q, tt), tt, (d .«data», (d .width, (d .height, tt))), passed), tt)
+  to = (((κ, tt), (q, tt), tt, (d .«data», (d .width, (d .height, (d .pitch, tt)))), passed), tt)
 
-  asked : ent 𝓤 (onEntry 𝓤 H A test.signature (κ, tt) (q, tt) (d .«data», (d .width, (d .height, tt))) passed) (Test 𝓤 H A mem run .pre to)
-  asked = qed W ((‵ (flft κ q) ⊛ ‵ ftrue) ∷ ‵ (owns (ShrSlice (named 0) κ u8 ∷ usize ∷ usize ∷ []) (d .«data», (d .width, (d .height, tt))) passed) ∷ []) ∵ join ! $ frame ! $ done !
+  asked : ent 𝓤 (onEntry 𝓤 H A test.signature (κ, tt) (q, tt) (d .«data», (d .width, (d .height, (d .pitch, tt)))) passed) (Test 𝓤 H A mem run .pre to)
+  asked = qed W ((‵ (flft κ q) ⊛ ‵ ftrue) ∷ ‵ (owns (ShrSlice (named 0) κ u8 ∷ usize ∷ usize ∷ usize ∷ []) (d .«data», (d .width, (d .height, (d .pitch, tt)))) passed) ∷ []) ∵ join ! $ frame ! $ done !
 
   -- what the view owns gives what the callee asks, and is kept
-  goes : d .width < 2 ^ 64 → d .height < 2 ^ 64 → ent 𝓤 (onEntry 𝓤 H A is-image.signature (κ, tt) (q, tt) (d, tt) (mach ∷ [], tt)) (sep 𝓤 (Test 𝓤 H A mem run .pre to) (sem 𝓤 H A (Own α d)))
-  goes w-fits h-fits =
+  goes : d .width < 2 ^ 64 → d .height < 2 ^ 64 → d .pitch < 2 ^ 64 → ent 𝓤 (onEntry 𝓤 H A is-image.signature (κ, tt) (q, tt) (d, tt) (mach ∷ [], tt)) (sep 𝓤 (Test 𝓤 H A mem run .pre to) (sem 𝓤 H A (Own α d)))
+  goes w-fits h-fits pitch-fits =
       qed W ((‵ (flft κ q) ⊛ ‵ ftrue) ∷ ‵ (owns (B (κ, tt) ∷ []) (d, tt) (mach ∷ [], tt)) ∷ []) ∵
       move ! (1 ∷ []) $ fsplit ! $ move ! (1 ∷ []) $ drop ! $ use1 W (‵ (Bytes α d) ⊛ ‵ (Own α d)) (apart 𝓤 H A W α d) $ split ! $
       -- [what the bytes own; what the view owns; the token]
-      nothing ! $ owned ! usize (Is usize) (uint-makes 𝓤 H A W w64) (d .height) _ (refl, h-fits) $ fjoin ! $ owned ! usize (Is usize) (uint-makes 𝓤 H A W w64) (d .width) _ (refl, w-fits) $ fjoin ! $
+      nothing ! $ owned ! usize (Is usize) (uint-makes 𝓤 H A W w64) (d .pitch) _ (refl, pitch-fits) $ fjoin ! $ owned ! usize (Is usize) (uint-makes 𝓤 H A W w64) (d .height) _ (refl, h-fits) $ fjoin ! $ owned ! usize (Is usize) (uint-makes 𝓤 H A W w64) (d .width) _ (refl, w-fits) $ fjoin ! $
       move ! (1 ∷ 0 ∷ []) $ fjoin ! $ move ! (2 ∷ 0 ∷ []) $ use2 W (raw (Test 𝓤 H A mem run .pre to)) asked $ frame ! $ done !
 
   -- of the callee's `ensured`, the clause alone: it has no `&mut`, so what is said of last values is dropped
-  said : (r : Bool) → ent 𝓤 (ensured 𝓤 H A test.ended (test.clauses 𝓤 H A mem run) (κ, tt) (d .«data», (d .width, (d .height, tt))) tt r) (fact 𝓤 (r ≡ found))
-  said r = exE 𝓤 _ (λ ws. snd∗ 𝓤 (sem 𝓤 H A (lasts test.ended (κ, tt) (d .«data», (d .width, (d .height, tt))) ws)) (fact 𝓤 (r ≡ found)))
+  said : (r : Bool) → ent 𝓤 (ensured 𝓤 H A test.ended (test.clauses 𝓤 H A mem run) (κ, tt) (d .«data», (d .width, (d .height, (d .pitch, tt)))) tt r) (fact 𝓤 (r ≡ found))
+  said r = exE 𝓤 _ (λ ws. snd∗ 𝓤 (sem 𝓤 H A (lasts test.ended (κ, tt) (d .«data», (d .width, (d .height, (d .pitch, tt)))) ws)) (fact 𝓤 (r ≡ found)))
 
   exits : (r : Bool) (u : Val) → r ≡ found → ent 𝓤 (⋆ 𝓤 H A (‵ (bool .own r (u ∷ [])) ∷ (‵ (flft κ q) ⊛ ‵ ftrue) ∷ ‵ (Own α d) ∷ [])) (Post u)
   exits r u e =
@@ -112,19 +112,20 @@ module _ {M : Type 1} (𝓤 : URA M) (H : Heap 𝓤) (A : Atoms 𝓤) (W : Given
     walk : Holds (hasTy (T′.mir (named 0)) mach) × WT mach → ent 𝓤 (onEntry 𝓤 H A is-image.signature (κ, tt) (q, tt) (d, tt) (mach ∷ [], tt)) (WpFn 𝓤 H C Λ code.function (mach ∷ []) Post)
     walk wt =
         qed W (raw (onEntry 𝓤 H A is-image.signature (κ, tt) (q, tt) (d, tt) (mach ∷ [], tt)) ∷ []) ∵ enter ! C Λ code.function (mach ∷ []) _ $
-        alloc1 ! (λ l₀. alloc1 ! (λ l₁. alloc1 ! (λ l₂. alloc1 ! (λ l₃. alloc1 ! (λ l₄. alloc0 ! $ params1 ! $ pass1 ! (init ! 6 refl wt) $ pass0 ! $
-        assigns ! (of-opd ! (load ! (from ! (fld ! refl (stop !))) (look-in ! 6 (sub ! 0 refl (whole !))))) (from ! (stop !)) (init ! 4 refl (tt, wt .1 .0)) $
-        assigns ! (of-opd ! (load ! (from ! (fld ! refl (stop !))) (look-in ! 6 (sub ! 1 refl (whole !))))) (from ! (stop !)) (init ! 2 refl (tt, wt .1 .1 .0)) $
-        assigns ! (of-opd ! (load ! (from ! (fld ! refl (stop !))) (look-in ! 6 (sub ! 2 refl (whole !))))) (from ! (stop !)) (init ! 0 refl (tt, wt .1 .1 .1 .0)) $
-        move ! (10 ∷ []) $ use1 W (raw (Test 𝓤 H A mem run .pre to) ⊛ ‵ (Own α d)) (goes (wt .1 .1 .0 .fits) (wt .1 .1 .1 .0 .fits)) $ split ! $
-        calls-at ! fm (Test 𝓤 H A mem run) known to (and-then ! (load ! (from ! (stop !)) (look ! 6 refl)) (and-then ! (load ! (from ! (stop !)) (look ! 4 refl)) (and-then ! (load ! (from ! (stop !)) (look ! 2 refl)) (no-more !)))) (λ u.
-        use1 W (later (some (λ (r : Bool). ((‵ (flft κ q) ⊛ ‵ ftrue) ⊛ ‵ (bool .own r (u ∷ []))) ⊛ raw (ensured 𝓤 H A test.ended (test.clauses 𝓤 H A mem run) (κ, tt) (d .«data», (d .width, (d .height, tt))) tt r)))) (id⊢ 𝓤 _) $ await ! tt $ pick ! (λ r.
+        alloc1 ! (λ l₀. alloc1 ! (λ l₁. alloc1 ! (λ l₂. alloc1 ! (λ l₃. alloc1 ! (λ l₄. alloc1 ! (λ l₅. alloc0 ! $ params1 ! $ pass1 ! (init ! 8 refl wt) $ pass0 ! $
+        assigns ! (of-opd ! (load ! (from ! (fld ! refl (stop !))) (look-in ! 8 (sub ! 0 refl (whole !))))) (from ! (stop !)) (init ! 6 refl (tt, wt .1 .0)) $
+        assigns ! (of-opd ! (load ! (from ! (fld ! refl (stop !))) (look-in ! 8 (sub ! 1 refl (whole !))))) (from ! (stop !)) (init ! 4 refl (tt, wt .1 .1 .0)) $
+        assigns ! (of-opd ! (load ! (from ! (fld ! refl (stop !))) (look-in ! 8 (sub ! 2 refl (whole !))))) (from ! (stop !)) (init ! 2 refl (tt, wt .1 .1 .1 .0)) $
+        assigns ! (of-opd ! (load ! (from ! (fld ! refl (stop !))) (look-in ! 8 (sub ! 3 refl (whole !))))) (from ! (stop !)) (init ! 0 refl (tt, wt .1 .1 .1 .1 .0)) $
+        move ! (12 ∷ []) $ use1 W (raw (Test 𝓤 H A mem run .pre to) ⊛ ‵ (Own α d)) (goes (wt .1 .1 .0 .fits) (wt .1 .1 .1 .0 .fits) (wt .1 .1 .1 .1 .0 .fits)) $ split ! $
+        calls-at ! fm (Test 𝓤 H A mem run) known to (and-then ! (load ! (from ! (stop !)) (look ! 8 refl)) (and-then ! (load ! (from ! (stop !)) (look ! 6 refl)) (and-then ! (load ! (from ! (stop !)) (look ! 4 refl)) (and-then ! (load ! (from ! (stop !)) (look ! 2 refl)) (no-more !))))) (λ u.
+        use1 W (later (some (λ (r : Bool). ((‵ (flft κ q) ⊛ ‵ ftrue) ⊛ ‵ (bool .own r (u ∷ []))) ⊛ raw (ensured 𝓤 H A test.ended (test.clauses 𝓤 H A mem run) (κ, tt) (d .«data», (d .width, (d .height, (d .pitch, tt)))) tt r)))) (id⊢ 𝓤 _) $ await ! tt $ pick ! (λ r.
         split ! $ move ! (1 ∷ []) $ use1 W (raw (fact 𝓤 (r ≡ found))) (said r) $ heard ! (r ≡ found) (λ e. split ! $ move ! (1 ∷ []) $
-        -- [the result; the token; what the view owns; _4; …; _3; …; _2; …; _1; …; room for _0; …]
+        -- [the result; the token; what the view owns; _5; …; _4; …; _3; …; _2; …; _1; …; room for _0; …]
         peeks ! bool (Is bool) (shows 𝓤 H A bool) r (u ∷ []) (λ is.
-        land ! (from ! (stop !)) (init ! 11 refl (bool-lawful 𝓤 H A W .typed r _ is .0)) $
-        returns ! (look ! 11 refl) $ forget ! 3 refl $ forget ! 5 refl $ forget ! 7 refl $ forget ! 9 refl $ forget ! 11 refl $
-        move ! (11 ∷ 12 ∷ []) $ free1 ! $ move ! (9 ∷ 10 ∷ []) $ free1 ! $ move ! (7 ∷ 8 ∷ []) $ free1 ! $ move ! (5 ∷ 6 ∷ []) $ free1 ! $ move ! (3 ∷ 4 ∷ []) $ free1 ! $ free0 ! $ by ! (exits r u e))))))))))
+        land ! (from ! (stop !)) (init ! 13 refl (bool-lawful 𝓤 H A W .typed r _ is .0)) $
+        returns ! (look ! 13 refl) $ forget ! 3 refl $ forget ! 5 refl $ forget ! 7 refl $ forget ! 9 refl $ forget ! 11 refl $ forget ! 13 refl $
+        move ! (13 ∷ 14 ∷ []) $ free1 ! $ move ! (11 ∷ 12 ∷ []) $ free1 ! $ move ! (9 ∷ 10 ∷ []) $ free1 ! $ move ! (7 ∷ 8 ∷ []) $ free1 ! $ move ! (5 ∷ 6 ∷ []) $ free1 ! $ move ! (3 ∷ 4 ∷ []) $ free1 ! $ free0 ! $ by ! (exits r u e)))))))))))
 
 module _ {M : Type 1} (𝓤 : URA M) (H : Heap 𝓤) (A : Atoms 𝓤) (W : Given 𝓤 H A) (mem : Memory → SProp 𝓤) (run : Routine → Fun 𝓤) where
   is-image-walks : (C : Calls 𝓤 H) (Λ : Loops 𝓤 H) → FmC 𝓤 H (W .laws) C → Triple 𝓤 (C #view·plain·is-image) (Test 𝓤 H A mem run)

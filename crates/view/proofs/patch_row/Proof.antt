@@ -1,4 +1,4 @@
--- `view::patch_row` meets its contract: a walk of its MIR, by hand. The view is taken apart, and `imageview::patch_row` is called on the bytes, the width and the numbers passed. All that the proof knows of it is that it meets its contract.
+-- `view::patch_row` meets its contract: a walk of its MIR, by hand. The view is taken apart, and `imageview::patch_row` is called on the bytes, the pitch and the numbers passed. All that the proof knows of it is that it meets its contract.
 -- The view is Copy: of what it owns the bytes' part goes to the callee (`Apart.antt`), beside the lifetime's token, which comes back, and the view is kept whole for the exit. The row that the callee hands back is the result, at the view's own lifetime.
 -- Assumes nothing.
 use mathlib.Core.Path.{_≡_, refl}
@@ -82,7 +82,7 @@ module _ {M : Type 1} (𝓤 : URA M) (H : Heap 𝓤) (A : Atoms 𝓤) (W : Given
 
   -- the row's samples
   abbrev found : List ℕ
-  found = take side (drop (y * d .width + x0) (now (d .«data»)))
+  found = take side (drop (y * d .pitch + x0) (now (d .«data»)))
 
   abbrev Post : Val → SProp 𝓤
   Post = walkOf 𝓤 H A patch-row.ended stayed (patch-row.clauses 𝓤 H A mem run) .post (((κ, tt), (q, tt), tt, a, vals), tt)
@@ -92,15 +92,15 @@ module _ {M : Type 1} (𝓤 : URA M) (H : Heap 𝓤) (A : Atoms 𝓤) (W : Given
   RowArg = RefT (List ℕ) × (ℕ × (ℕ × (ℕ × (ℕ × Unit {0}))))
 
   abbrev given : RowArg
-  given = (d .«data», (d .width, (x0, (y, (side, tt)))))
+  given = (d .«data», (d .pitch, (x0, (y, (side, tt)))))
 
   abbrev passed : Vals row.signature (κ, tt)
-  passed = (bytesVal d ∷ [], (vint w64 (d .width) ∷ [], (vint w64 x0 ∷ [], (vint w64 y ∷ [], (vint w64 side ∷ [], tt)))))
+  passed = (bytesVal d ∷ [], (vint w64 (d .pitch) ∷ [], (vint w64 x0 ∷ [], (vint w64 y ∷ [], (vint w64 side ∷ [], tt)))))
 
   abbrev to : Row 𝓤 H A mem run .Ghost
   to = (((κ, tt), (q, tt), tt, given, passed), tt)
 
-  asked : y * d .width + x0 + side ≤ length (now (d .«data»)) → ent 𝓤 (onEntry 𝓤 H A row.signature (κ, tt) (q, tt) given passed) (Row 𝓤 H A mem run .pre to)
+  asked : y * d .pitch + x0 + side ≤ length (now (d .«data»)) → ent 𝓤 (onEntry 𝓤 H A row.signature (κ, tt) (q, tt) given passed) (Row 𝓤 H A mem run .pre to)
   asked within = qed W ((‵ (flft κ q) ⊛ ‵ ftrue) ∷ ‵ (owns (ShrSlice (named 0) κ u8 ∷ usize ∷ usize ∷ usize ∷ usize ∷ []) given passed) ∷ []) ∵ says ! within $ frame ! $ done !
 
   -- what the numbers passed own is had for nothing
@@ -110,12 +110,12 @@ module _ {M : Type 1} (𝓤 : URA M) (H : Heap 𝓤) (A : Atoms 𝓤) (W : Given
       owned ! usize (Is usize) (uint-makes 𝓤 H A W w64) y _ (refl, y-fits) $ fjoin ! $ owned ! usize (Is usize) (uint-makes 𝓤 H A W w64) x0 _ (refl, x-fits) $ fjoin ! $ done !
 
   -- what the view owns gives what the callee asks, and is kept
-  goes : d .width < 2 ^ 64 → y * d .width + x0 + side ≤ length (now (d .«data»)) → ent 𝓤 (onEntry 𝓤 H A patch-row.signature (κ, tt) (q, tt) a vals) (sep 𝓤 (Row 𝓤 H A mem run .pre to) (sem 𝓤 H A (Own α d)))
-  goes w-fits within =
+  goes : d .pitch < 2 ^ 64 → y * d .pitch + x0 + side ≤ length (now (d .«data»)) → ent 𝓤 (onEntry 𝓤 H A patch-row.signature (κ, tt) (q, tt) a vals) (sep 𝓤 (Row 𝓤 H A mem run .pre to) (sem 𝓤 H A (Own α d)))
+  goes pitch-fits within =
       qed W ((‵ (flft κ q) ⊛ ‵ ftrue) ∷ ‵ (owns (B (κ, tt) ∷ usize ∷ usize ∷ usize ∷ []) a vals) ∷ []) ∵
       move ! (1 ∷ []) $ fsplit ! $ use1 W (‵ (Bytes α d) ⊛ ‵ (Own α d)) (apart 𝓤 H A W α d) $ split ! $
       -- [what the bytes own; what the view owns; what the numbers own; the token]
-      move ! (2 ∷ []) $ owned ! usize (Is usize) (uint-makes 𝓤 H A W w64) (d .width) _ (refl, w-fits) $ fjoin ! $
+      move ! (2 ∷ []) $ owned ! usize (Is usize) (uint-makes 𝓤 H A W w64) (d .pitch) _ (refl, pitch-fits) $ fjoin ! $
       move ! (1 ∷ 0 ∷ []) $ fjoin ! $ move ! (2 ∷ 0 ∷ []) $ use2 W (raw (Row 𝓤 H A mem run .pre to)) (asked within) $ frame ! $ done !
 
   -- of the callee's `ensured`, the clause alone: it has no `&mut`, so what is said of last values is dropped
@@ -129,14 +129,14 @@ module _ {M : Type 1} (𝓤 : URA M) (H : Heap 𝓤) (A : Atoms 𝓤) (W : Given
       move ! (1 ∷ []) $ frame ! $ nothing ! $ use1 W (‵ (owns (usize ∷ usize ∷ usize ∷ []) (x0, (y, (side, tt))) (vals .1))) numbers $ move ! (2 ∷ 0 ∷ []) $ fjoin ! $ frame ! $ done !
 
   module _ (C : Calls 𝓤 H) (Λ : Loops 𝓤 H) (fm : FmC 𝓤 H (W .laws) C) (known : Triple 𝓤 (C #imageview·patch-row) (Row 𝓤 H A mem run)) where
-    walk : Holds (hasTy (T′.mir (named 0)) mach) × WT mach → y * d .width + x0 + side ≤ length (now (d .«data»)) → ent 𝓤 (onEntry 𝓤 H A patch-row.signature (κ, tt) (q, tt) a vals) (WpFn 𝓤 H C Λ code.function (mach ∷ vint w64 x0 ∷ vint w64 y ∷ vint w64 side ∷ []) Post)
+    walk : Holds (hasTy (T′.mir (named 0)) mach) × WT mach → y * d .pitch + x0 + side ≤ length (now (d .«data»)) → ent 𝓤 (onEntry 𝓤 H A patch-row.signature (κ, tt) (q, tt) a vals) (WpFn 𝓤 H C Λ code.function (mach ∷ vint w64 x0 ∷ vint w64 y ∷ vint w64 side ∷ []) Post)
     walk wt within =
         qed W (raw (onEntry 𝓤 H A patch-row.signature (κ, tt) (q, tt) a vals) ∷ []) ∵ enter ! C Λ code.function (mach ∷ vint w64 x0 ∷ vint w64 y ∷ vint w64 side ∷ []) _ $
         alloc1 ! (λ l₀. alloc1 ! (λ l₁. alloc1 ! (λ l₂. alloc1 ! (λ l₃. alloc1 ! (λ l₄. alloc1 ! (λ l₅. alloc1 ! (λ l₆. alloc0 ! $ params1 ! $ pass1 ! (init ! 10 refl wt) $
         pass1 ! (init ! 8 refl (tt, record { fits = x-fits })) $ pass1 ! (init ! 6 refl (tt, record { fits = y-fits })) $ pass1 ! (init ! 4 refl (tt, record { fits = side-fits })) $ pass0 ! $
         assigns ! (of-opd ! (load ! (from ! (fld ! refl (stop !))) (look-in ! 10 (sub ! 0 refl (whole !))))) (from ! (stop !)) (init ! 2 refl (tt, wt .1 .0)) $
-        assigns ! (of-opd ! (load ! (from ! (fld ! refl (stop !))) (look-in ! 10 (sub ! 1 refl (whole !))))) (from ! (stop !)) (init ! 0 refl (tt, wt .1 .1 .0)) $
-        move ! (14 ∷ []) $ use1 W (raw (Row 𝓤 H A mem run .pre to) ⊛ ‵ (Own α d)) (goes (wt .1 .1 .0 .fits) within) $ split ! $
+        assigns ! (of-opd ! (load ! (from ! (fld ! refl (stop !))) (look-in ! 10 (sub ! 3 refl (whole !))))) (from ! (stop !)) (init ! 0 refl (tt, wt .1 .1 .1 .1 .0)) $
+        move ! (14 ∷ []) $ use1 W (raw (Row 𝓤 H A mem run .pre to) ⊛ ‵ (Own α d)) (goes (wt .1 .1 .1 .1 .0 .fits) within) $ split ! $
         -- [what the callee asks; what the view owns; _6; …; _5; …; _4; …; _3; …; _2; …; _1; …; room for _0; …]
         calls-at ! fm (Row 𝓤 H A mem run) known to (and-then ! (load ! (from ! (stop !)) (look ! 4 refl)) (and-then ! (load ! (from ! (stop !)) (look ! 2 refl)) (and-then ! (load ! (from ! (stop !)) (look ! 10 refl)) (and-then ! (load ! (from ! (stop !)) (look ! 8 refl)) (and-then ! (load ! (from ! (stop !)) (look ! 6 refl)) (no-more !)))))) (λ u.
         use1 W (later (some (λ (r : RefT (List ℕ)). ((‵ (flft κ q) ⊛ ‵ ftrue) ⊛ ‵ (ShrSlice (named 0) κ u8 .own r (u ∷ []))) ⊛ raw (ensured 𝓤 H A row.ended (row.clauses 𝓤 H A mem run) (κ, tt) given tt r)))) (id⊢ 𝓤 _) $ await ! tt $ pick ! (λ r.

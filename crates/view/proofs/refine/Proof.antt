@@ -94,25 +94,25 @@ module _ {M : Type 1} (𝓤 : URA M) (H : Heap 𝓤) (A : Atoms 𝓤) (W : Given
   Post = walkOf 𝓤 H A refine.ended stayed (refine.clauses 𝓤 H A mem run) .post (((κ, tt), (q, tt), tt, (d, further cfg x y wanted), vals), tt)
 
   -- what the callee is passed
-  abbrev given : RefT (List ℕ) × (ℕ × (ℕ × Further))
-  given = (d .«data», (d .width, (d .height, further cfg x y wanted)))
+  abbrev given : RefT (List ℕ) × (ℕ × (ℕ × (ℕ × Further)))
+  given = (d .«data», (d .width, (d .height, (d .pitch, further cfg x y wanted))))
 
   abbrev passed : Vals plain.signature (κ, tt)
-  passed = (bytesVal d ∷ [], (vint w64 (d .width) ∷ [], (vint w64 (d .height) ∷ [], furtherVals cfg x y wanted)))
+  passed = (bytesVal d ∷ [], (vint w64 (d .width) ∷ [], (vint w64 (d .height) ∷ [], (vint w64 (d .pitch) ∷ [], furtherVals cfg x y wanted))))
 
   abbrev to : Plain 𝓤 H A mem run .Ghost
   to = (((κ, tt), (q, tt), tt, given, passed), tt)
 
   asked : ent 𝓤 (onEntry 𝓤 H A plain.signature (κ, tt) (q, tt) given passed) (Plain 𝓤 H A mem run .pre to)
-  asked = qed W ((‵ (flft κ q) ⊛ ‵ ftrue) ∷ ‵ (owns (ShrSlice (named 0) κ u8 ∷ usize ∷ usize ∷ G.the-row ∷ f32 ∷ f32 ∷ bool ∷ []) given passed) ∷ []) ∵ join ! $ frame ! $ done !
+  asked = qed W ((‵ (flft κ q) ⊛ ‵ ftrue) ∷ ‵ (owns (ShrSlice (named 0) κ u8 ∷ usize ∷ usize ∷ usize ∷ G.the-row ∷ f32 ∷ f32 ∷ bool ∷ []) given passed) ∷ []) ∵ join ! $ frame ! $ done !
 
   -- what the view owns gives what the callee asks, and is kept
-  goes : d .width < 2 ^ 64 → d .height < 2 ^ 64 → ent 𝓤 (onEntry 𝓤 H A refine.signature (κ, tt) (q, tt) (d, further cfg x y wanted) vals) (sep 𝓤 (Plain 𝓤 H A mem run .pre to) (sem 𝓤 H A (Own α d)))
-  goes w-fits h-fits =
+  goes : d .width < 2 ^ 64 → d .height < 2 ^ 64 → d .pitch < 2 ^ 64 → ent 𝓤 (onEntry 𝓤 H A refine.signature (κ, tt) (q, tt) (d, further cfg x y wanted) vals) (sep 𝓤 (Plain 𝓤 H A mem run .pre to) (sem 𝓤 H A (Own α d)))
+  goes w-fits h-fits pitch-fits =
       qed W ((‵ (flft κ q) ⊛ ‵ ftrue) ∷ ‵ (owns (B (κ, tt) ∷ G.the-row ∷ f32 ∷ f32 ∷ bool ∷ []) (d, further cfg x y wanted) vals) ∷ []) ∵
       move ! (1 ∷ []) $ fsplit ! $ use1 W (‵ (Bytes α d) ⊛ ‵ (Own α d)) (apart 𝓤 H A W α d) $ split ! $
       -- [what the bytes own; what the view owns; what the rest own; the token]
-      move ! (2 ∷ []) $ owned ! usize (Is usize) (uint-makes 𝓤 H A W w64) (d .height) _ (refl, h-fits) $ fjoin ! $ owned ! usize (Is usize) (uint-makes 𝓤 H A W w64) (d .width) _ (refl, w-fits) $ fjoin ! $
+      move ! (2 ∷ []) $ owned ! usize (Is usize) (uint-makes 𝓤 H A W w64) (d .pitch) _ (refl, pitch-fits) $ fjoin ! $ owned ! usize (Is usize) (uint-makes 𝓤 H A W w64) (d .height) _ (refl, h-fits) $ fjoin ! $ owned ! usize (Is usize) (uint-makes 𝓤 H A W w64) (d .width) _ (refl, w-fits) $ fjoin ! $
       move ! (1 ∷ 0 ∷ []) $ fjoin ! $ move ! (2 ∷ 0 ∷ []) $ use2 W (raw (Plain 𝓤 H A mem run .pre to)) asked $ frame ! $ done !
 
   -- of the callee's `ensured`, the clause alone: it has no `&mut`, so what is said of last values is dropped
@@ -129,24 +129,25 @@ module _ {M : Type 1} (𝓤 : URA M) (H : Heap 𝓤) (A : Atoms 𝓤) (W : Given
     walk : Holds (hasTy (T′.mir (named 0)) mach) × WT mach → ent 𝓤 (onEntry 𝓤 H A refine.signature (κ, tt) (q, tt) (d, further cfg x y wanted) vals) (WpFn 𝓤 H C Λ code.function (mach ∷ G′.lowered cfg ∷ vfloat binary32 x ∷ vfloat binary32 y ∷ vbool wanted ∷ []) Post)
     walk wt =
         qed W (raw (onEntry 𝓤 H A refine.signature (κ, tt) (q, tt) (d, further cfg x y wanted) vals) ∷ []) ∵ enter ! C Λ code.function (mach ∷ G′.lowered cfg ∷ vfloat binary32 x ∷ vfloat binary32 y ∷ vbool wanted ∷ []) _ $
-        alloc1 ! (λ l₀. alloc1 ! (λ l₁. alloc1 ! (λ l₂. alloc1 ! (λ l₃. alloc1 ! (λ l₄. alloc1 ! (λ l₅. alloc1 ! (λ l₆. alloc1 ! (λ l₇. alloc1 ! (λ l₈. alloc0 ! $ params1 ! $ pass1 ! (init ! 14 refl wt) $
-        pass1 ! (init ! 12 refl (LL.lawful G.the-type G′.the-laws 𝓤 H A W .typed cfg _ (beside .cfg-is) .0)) $ pass1 ! (init ! 10 refl (float-lawful 𝓤 H A W binary32 .typed x _ (beside .x-is) .0)) $
-        pass1 ! (init ! 8 refl (float-lawful 𝓤 H A W binary32 .typed y _ (beside .y-is) .0)) $ pass1 ! (init ! 6 refl (tt, tt)) $ pass0 ! $
-        assigns ! (of-opd ! (load ! (from ! (fld ! refl (stop !))) (look-in ! 14 (sub ! 0 refl (whole !))))) (from ! (stop !)) (init ! 4 refl (tt, wt .1 .0)) $
-        assigns ! (of-opd ! (load ! (from ! (fld ! refl (stop !))) (look-in ! 14 (sub ! 1 refl (whole !))))) (from ! (stop !)) (init ! 2 refl (tt, wt .1 .1 .0)) $
-        assigns ! (of-opd ! (load ! (from ! (fld ! refl (stop !))) (look-in ! 14 (sub ! 2 refl (whole !))))) (from ! (stop !)) (init ! 0 refl (tt, wt .1 .1 .1 .0)) $
-        move ! (18 ∷ []) $ use1 W (raw (Plain 𝓤 H A mem run .pre to) ⊛ ‵ (Own α d)) (goes (wt .1 .1 .0 .fits) (wt .1 .1 .1 .0 .fits)) $ split ! $
-        -- [what the callee asks; what the view owns; _8; …; _7; …; _6; …; _5; …; _4; …; _3; …; _2; …; _1; …; room for _0; …]
-        calls-at ! fm (Plain 𝓤 H A mem run) known to (and-then ! (load ! (from ! (stop !)) (look ! 6 refl)) (and-then ! (load ! (from ! (stop !)) (look ! 4 refl)) (and-then ! (load ! (from ! (stop !)) (look ! 2 refl)) (and-then ! (load ! (from ! (stop !)) (look ! 14 refl))
-        (and-then ! (load ! (from ! (stop !)) (look ! 12 refl)) (and-then ! (load ! (from ! (stop !)) (look ! 10 refl)) (and-then ! (load ! (from ! (stop !)) (look ! 8 refl)) (no-more !)))))))) (λ u.
+        alloc1 ! (λ l₀. alloc1 ! (λ l₁. alloc1 ! (λ l₂. alloc1 ! (λ l₃. alloc1 ! (λ l₄. alloc1 ! (λ l₅. alloc1 ! (λ l₆. alloc1 ! (λ l₇. alloc1 ! (λ l₈. alloc1 ! (λ l₉. alloc0 ! $ params1 ! $ pass1 ! (init ! 16 refl wt) $
+        pass1 ! (init ! 14 refl (LL.lawful G.the-type G′.the-laws 𝓤 H A W .typed cfg _ (beside .cfg-is) .0)) $ pass1 ! (init ! 12 refl (float-lawful 𝓤 H A W binary32 .typed x _ (beside .x-is) .0)) $
+        pass1 ! (init ! 10 refl (float-lawful 𝓤 H A W binary32 .typed y _ (beside .y-is) .0)) $ pass1 ! (init ! 8 refl (tt, tt)) $ pass0 ! $
+        assigns ! (of-opd ! (load ! (from ! (fld ! refl (stop !))) (look-in ! 16 (sub ! 0 refl (whole !))))) (from ! (stop !)) (init ! 6 refl (tt, wt .1 .0)) $
+        assigns ! (of-opd ! (load ! (from ! (fld ! refl (stop !))) (look-in ! 16 (sub ! 1 refl (whole !))))) (from ! (stop !)) (init ! 4 refl (tt, wt .1 .1 .0)) $
+        assigns ! (of-opd ! (load ! (from ! (fld ! refl (stop !))) (look-in ! 16 (sub ! 2 refl (whole !))))) (from ! (stop !)) (init ! 2 refl (tt, wt .1 .1 .1 .0)) $
+        assigns ! (of-opd ! (load ! (from ! (fld ! refl (stop !))) (look-in ! 16 (sub ! 3 refl (whole !))))) (from ! (stop !)) (init ! 0 refl (tt, wt .1 .1 .1 .1 .0)) $
+        move ! (20 ∷ []) $ use1 W (raw (Plain 𝓤 H A mem run .pre to) ⊛ ‵ (Own α d)) (goes (wt .1 .1 .0 .fits) (wt .1 .1 .1 .0 .fits) (wt .1 .1 .1 .1 .0 .fits)) $ split ! $
+        -- [what the callee asks; what the view owns; _9; …; _8; …; _7; …; _6; …; _5; …; _4; …; _3; …; _2; …; _1; …; room for _0; …]
+        calls-at ! fm (Plain 𝓤 H A mem run) known to (and-then ! (load ! (from ! (stop !)) (look ! 8 refl)) (and-then ! (load ! (from ! (stop !)) (look ! 6 refl)) (and-then ! (load ! (from ! (stop !)) (look ! 4 refl)) (and-then ! (load ! (from ! (stop !)) (look ! 2 refl)) (and-then ! (load ! (from ! (stop !)) (look ! 16 refl))
+        (and-then ! (load ! (from ! (stop !)) (look ! 14 refl)) (and-then ! (load ! (from ! (stop !)) (look ! 12 refl)) (and-then ! (load ! (from ! (stop !)) (look ! 10 refl)) (no-more !))))))))) (λ u.
         use1 W (later (some (λ (r : Refined). ((‵ (flft κ q) ⊛ ‵ ftrue) ⊛ ‵ (S.the-row .own r (u ∷ []))) ⊛ raw (ensured 𝓤 H A plain.ended (plain.clauses 𝓤 H A mem run) (κ, tt) given tt r)))) (id⊢ 𝓤 _) $ await ! tt $ pick ! (λ r.
         split ! $ move ! (1 ∷ []) $ use1 W (raw (fact 𝓤 (r ≡ found))) (said r) $ heard ! (r ≡ found) (λ e. split ! $ move ! (1 ∷ []) $
-        -- [the result; the token; what the view owns; _8; …; room for _0; …]
+        -- [the result; the token; what the view owns; _9; …; room for _0; …]
         peeks ! S.the-row (Is S.the-row) (shows 𝓤 H A S.the-row) r (u ∷ []) (λ is.
-        land ! (from ! (stop !)) (init ! 19 refl (EL.lawful S.the-type S′.the-laws 𝓤 H A W tt .typed r _ is .0)) $
-        returns ! (look ! 19 refl) $ forget ! 3 refl $ forget ! 5 refl $ forget ! 7 refl $ forget ! 9 refl $ forget ! 11 refl $ forget ! 13 refl $ forget ! 15 refl $ forget ! 17 refl $ forget ! 19 refl $
-        move ! (19 ∷ 20 ∷ []) $ free1 ! $ move ! (17 ∷ 18 ∷ []) $ free1 ! $ move ! (15 ∷ 16 ∷ []) $ free1 ! $ move ! (13 ∷ 14 ∷ []) $ free1 ! $ move ! (11 ∷ 12 ∷ []) $ free1 ! $ move ! (9 ∷ 10 ∷ []) $ free1 ! $ move ! (7 ∷ 8 ∷ []) $ free1 ! $ move ! (5 ∷ 6 ∷ []) $ free1 ! $ move ! (3 ∷ 4 ∷ []) $ free1 ! $ free0 ! $
-        by ! (exits r u e))))))))))))))
+        land ! (from ! (stop !)) (init ! 21 refl (EL.lawful S.the-type S′.the-laws 𝓤 H A W tt .typed r _ is .0)) $
+        returns ! (look ! 21 refl) $ forget ! 3 refl $ forget ! 5 refl $ forget ! 7 refl $ forget ! 9 refl $ forget ! 11 refl $ forget ! 13 refl $ forget ! 15 refl $ forget ! 17 refl $ forget ! 19 refl $ forget ! 21 refl $
+        move ! (21 ∷ 22 ∷ []) $ free1 ! $ move ! (19 ∷ 20 ∷ []) $ free1 ! $ move ! (17 ∷ 18 ∷ []) $ free1 ! $ move ! (15 ∷ 16 ∷ []) $ free1 ! $ move ! (13 ∷ 14 ∷ []) $ free1 ! $ move ! (11 ∷ 12 ∷ []) $ free1 ! $ move ! (9 ∷ 10 ∷ []) $ free1 ! $ move ! (7 ∷ 8 ∷ []) $ free1 ! $ move ! (5 ∷ 6 ∷ []) $ free1 ! $ move ! (3 ∷ 4 ∷ []) $ free1 ! $ free0 ! $
+        by ! (exits r u e)))))))))))))))
 
 module _ {M : Type 1} (𝓤 : URA M) (H : Heap 𝓤) (A : Atoms 𝓤) (W : Given 𝓤 H A) (mem : Memory → SProp 𝓤) (run : Routine → Fun 𝓤) where
   refine-walks : (C : Calls 𝓤 H) (Λ : Loops 𝓤 H) → FmC 𝓤 H (W .laws) C → Triple 𝓤 (C #view·plain·refine) (Plain 𝓤 H A mem run)

@@ -122,27 +122,27 @@ module _ {M : Type 1} (𝓤 : URA M) (H : Heap 𝓤) (A : Atoms 𝓤) (W : Given
   Ring = ShrRef (named 1) κ′ (Array i32 32) .own ring (ring-val ∷ [])
 
   -- what the callee is passed
-  abbrev given : RefT (List ℕ) × (ℕ × (ℕ × Further))
-  given = (d .«data», (d .width, (d .height, further)))
+  abbrev given : RefT (List ℕ) × (ℕ × (ℕ × (ℕ × Further)))
+  given = (d .«data», (d .width, (d .height, (d .pitch, further))))
 
   abbrev passed : Vals patch.signature κs
-  passed = (bytesVal d ∷ [], (vint w64 (d .width) ∷ [], (vint w64 (d .height) ∷ [], vals .1)))
+  passed = (bytesVal d ∷ [], (vint w64 (d .width) ∷ [], (vint w64 (d .height) ∷ [], (vint w64 (d .pitch) ∷ [], vals .1))))
 
   abbrev to : Patch 𝓤 H A mem run .Ghost
   to = ((κs, qs, tt, given, passed), tt)
 
   asked : ent 𝓤 (onEntry 𝓤 H A patch.signature κs qs given passed) (Patch 𝓤 H A mem run .pre to)
-  asked = qed W ((‵ (flft κ q) ⊛ ‵ (flft κ′ q′) ⊛ ‵ (flft κ″ q″) ⊛ ‵ ftrue) ∷ ‵ (owns (ShrSlice (named 0) κ u8 ∷ usize ∷ usize ∷ ShrRef (named 1) κ′ (Array i32 32) ∷ usize ∷ G.the-row ∷ MutSlice (named 2) κ″ f32 ∷ []) given passed) ∷ []) ∵ join ! $ frame ! $ done !
+  asked = qed W ((‵ (flft κ q) ⊛ ‵ (flft κ′ q′) ⊛ ‵ (flft κ″ q″) ⊛ ‵ ftrue) ∷ ‵ (owns (ShrSlice (named 0) κ u8 ∷ usize ∷ usize ∷ usize ∷ ShrRef (named 1) κ′ (Array i32 32) ∷ usize ∷ G.the-row ∷ MutSlice (named 2) κ″ f32 ∷ []) given passed) ∷ []) ∵ join ! $ frame ! $ done !
 
   -- what the parameters own gives what the callee asks, and the view and the ring are kept
-  goes : d .width < 2 ^ 64 → d .height < 2 ^ 64 → ent 𝓤 (onEntry 𝓤 H A response.signature κs qs (d, further) vals) (sep 𝓤 (Patch 𝓤 H A mem run .pre to) (sep 𝓤 (sem 𝓤 H A Ring) (sem 𝓤 H A (Own α d))))
-  goes w-fits h-fits =
+  goes : d .width < 2 ^ 64 → d .height < 2 ^ 64 → d .pitch < 2 ^ 64 → ent 𝓤 (onEntry 𝓤 H A response.signature κs qs (d, further) vals) (sep 𝓤 (Patch 𝓤 H A mem run .pre to) (sep 𝓤 (sem 𝓤 H A Ring) (sem 𝓤 H A (Own α d))))
+  goes w-fits h-fits pitch-fits =
       qed W ((‵ (flft κ q) ⊛ ‵ (flft κ′ q′) ⊛ ‵ (flft κ″ q″) ⊛ ‵ ftrue) ∷ ‵ (owns (B κs ∷ ShrRef (named 1) κ′ (Array i32 32) ∷ usize ∷ G.the-row ∷ MutSlice (named 2) κ″ f32 ∷ []) (d, further) vals) ∷ []) ∵
       move ! (1 ∷ []) $ fsplit ! $ use1 W (‵ (Bytes α d) ⊛ ‵ (Own α d)) (apart 𝓤 H A W α d) $ split ! $
       -- [what the bytes own; what the view owns; what the rest own; the tokens]
       move ! (2 ∷ []) $ fsplit ! $ use1 W (‵ Ring ⊛ ‵ Ring) (shr-copy 𝓤 H A W (named 1) κ′ (Array i32 32) .twice ring (ring-val ∷ [])) $ split ! $ move ! (0 ∷ 2 ∷ []) $ fjoin ! $
       -- [what the rest own; what the ring owns; what the bytes own; what the view owns; the tokens]
-      owned ! usize (Is usize) (uint-makes 𝓤 H A W w64) (d .height) _ (refl, h-fits) $ fjoin ! $ owned ! usize (Is usize) (uint-makes 𝓤 H A W w64) (d .width) _ (refl, w-fits) $ fjoin ! $
+      owned ! usize (Is usize) (uint-makes 𝓤 H A W w64) (d .pitch) _ (refl, pitch-fits) $ fjoin ! $ owned ! usize (Is usize) (uint-makes 𝓤 H A W w64) (d .height) _ (refl, h-fits) $ fjoin ! $ owned ! usize (Is usize) (uint-makes 𝓤 H A W w64) (d .width) _ (refl, w-fits) $ fjoin ! $
       move ! (2 ∷ 0 ∷ []) $ fjoin ! $ move ! (3 ∷ 0 ∷ []) $ use2 W (raw (Patch 𝓤 H A mem run .pre to)) asked $ frame ! $ done !
 
   exits : (r : Response) (u : Val) (zs : List Float) → Says r zs → length zs ≡ length (now out)
@@ -158,29 +158,30 @@ module _ {M : Type 1} (𝓤 : URA M) (H : Heap 𝓤) (A : Atoms 𝓤) (W : Given
         → ent 𝓤 (onEntry 𝓤 H A response.signature κs qs (d, further) vals) (WpFn 𝓤 H C Λ code.function (mach ∷ ring-val ∷ vint w64 radius ∷ G′.lowered roi ∷ out-val ∷ []) Post)
     walk wt ring-is out-is =
         qed W (raw (onEntry 𝓤 H A response.signature κs qs (d, further) vals) ∷ []) ∵ enter ! C Λ code.function (mach ∷ ring-val ∷ vint w64 radius ∷ G′.lowered roi ∷ out-val ∷ []) _ $
-        alloc1 ! (λ l₀. alloc1 ! (λ l₁. alloc1 ! (λ l₂. alloc1 ! (λ l₃. alloc1 ! (λ l₄. alloc1 ! (λ l₅. alloc1 ! (λ l₆. alloc1 ! (λ l₇. alloc1 ! (λ l₈. alloc1 ! (λ l₉. alloc1 ! (λ l₁₀. alloc0 ! $ params1 ! $
-        pass1 ! (init ! 18 refl wt) $ pass1 ! (init ! 16 refl (shr-lawful 𝓤 H A W (named 1) κ′ (Array i32 32) .typed ring _ ring-is .0)) $ pass1 ! (init ! 14 refl (tt, record { fits = radius-fits })) $
-        pass1 ! (init ! 12 refl (LL.lawful G.the-type G′.the-laws 𝓤 H A W .typed roi _ roi-is .0)) $ pass1 ! (init ! 10 refl (tt, (tt, (record { fits = out-is .0 .1 .0 }, tt)))) $ pass0 ! $
-        -- [_10; …; _9; …; _8; …; _7; …; _6; …; _5; …; _4; …; _3; …; _2; …; _1; …; room for _0; …; what is had at entry]
-        assigns ! (of-opd ! (load ! (from ! (fld ! refl (stop !))) (look-in ! 18 (sub ! 0 refl (whole !))))) (from ! (stop !)) (init ! 8 refl (tt, wt .1 .0)) $
-        assigns ! (of-opd ! (load ! (from ! (fld ! refl (stop !))) (look-in ! 18 (sub ! 1 refl (whole !))))) (from ! (stop !)) (init ! 6 refl (tt, wt .1 .1 .0)) $
-        assigns ! (of-opd ! (load ! (from ! (fld ! refl (stop !))) (look-in ! 18 (sub ! 2 refl (whole !))))) (from ! (stop !)) (init ! 4 refl (tt, wt .1 .1 .1 .0)) $
-        assigns ! (addr ! (from ! (fld ! refl (hop ! (look-in ! 10 (sub ! 0 refl (whole !))) (stop !))))) (from ! (stop !)) (init ! 2 refl (tt, tt)) $
-        assigns ! (agg ! (and-then ! (load ! (from ! (stop !)) (look ! 2 refl)) (and-then ! (load ! (from ! (fld ! refl (stop !))) (look-in ! 10 (sub ! 1 refl (whole !)))) (no-more !)))) (from ! (stop !)) (init ! 0 refl (tt, (tt, (record { fits = out-is .0 .1 .0 }, tt)))) $
-        move ! (22 ∷ []) $ use1 W (raw (Patch 𝓤 H A mem run .pre to) ⊛ (‵ Ring ⊛ ‵ (Own α d))) (goes (wt .1 .1 .0 .fits) (wt .1 .1 .1 .0 .fits)) $ split ! $
-        -- [what the callee asks; what the ring and the view own; _10; …]
-        calls-at ! fm (Patch 𝓤 H A mem run) known to (and-then ! (load ! (from ! (stop !)) (look ! 10 refl)) (and-then ! (load ! (from ! (stop !)) (look ! 8 refl)) (and-then ! (load ! (from ! (stop !)) (look ! 6 refl)) (and-then ! (load ! (from ! (stop !)) (look ! 18 refl))
-        (and-then ! (load ! (from ! (stop !)) (look ! 16 refl)) (and-then ! (load ! (from ! (stop !)) (look ! 14 refl)) (and-then ! (load ! (from ! (stop !)) (look ! 2 refl)) (no-more !)))))))) (λ u.
+        alloc1 ! (λ l₀. alloc1 ! (λ l₁. alloc1 ! (λ l₂. alloc1 ! (λ l₃. alloc1 ! (λ l₄. alloc1 ! (λ l₅. alloc1 ! (λ l₆. alloc1 ! (λ l₇. alloc1 ! (λ l₈. alloc1 ! (λ l₉. alloc1 ! (λ l₁₀. alloc1 ! (λ l₁₁. alloc0 ! $ params1 ! $
+        pass1 ! (init ! 20 refl wt) $ pass1 ! (init ! 18 refl (shr-lawful 𝓤 H A W (named 1) κ′ (Array i32 32) .typed ring _ ring-is .0)) $ pass1 ! (init ! 16 refl (tt, record { fits = radius-fits })) $
+        pass1 ! (init ! 14 refl (LL.lawful G.the-type G′.the-laws 𝓤 H A W .typed roi _ roi-is .0)) $ pass1 ! (init ! 12 refl (tt, (tt, (record { fits = out-is .0 .1 .0 }, tt)))) $ pass0 ! $
+        -- [_11; …; _10; …; _9; …; _8; …; _7; …; _6; …; _5; …; _4; …; _3; …; _2; …; _1; …; room for _0; …; what is had at entry]
+        assigns ! (of-opd ! (load ! (from ! (fld ! refl (stop !))) (look-in ! 20 (sub ! 0 refl (whole !))))) (from ! (stop !)) (init ! 10 refl (tt, wt .1 .0)) $
+        assigns ! (of-opd ! (load ! (from ! (fld ! refl (stop !))) (look-in ! 20 (sub ! 1 refl (whole !))))) (from ! (stop !)) (init ! 8 refl (tt, wt .1 .1 .0)) $
+        assigns ! (of-opd ! (load ! (from ! (fld ! refl (stop !))) (look-in ! 20 (sub ! 2 refl (whole !))))) (from ! (stop !)) (init ! 6 refl (tt, wt .1 .1 .1 .0)) $
+        assigns ! (of-opd ! (load ! (from ! (fld ! refl (stop !))) (look-in ! 20 (sub ! 3 refl (whole !))))) (from ! (stop !)) (init ! 4 refl (tt, wt .1 .1 .1 .1 .0)) $
+        assigns ! (addr ! (from ! (fld ! refl (hop ! (look-in ! 12 (sub ! 0 refl (whole !))) (stop !))))) (from ! (stop !)) (init ! 2 refl (tt, tt)) $
+        assigns ! (agg ! (and-then ! (load ! (from ! (stop !)) (look ! 2 refl)) (and-then ! (load ! (from ! (fld ! refl (stop !))) (look-in ! 12 (sub ! 1 refl (whole !)))) (no-more !)))) (from ! (stop !)) (init ! 0 refl (tt, (tt, (record { fits = out-is .0 .1 .0 }, tt)))) $
+        move ! (24 ∷ []) $ use1 W (raw (Patch 𝓤 H A mem run .pre to) ⊛ (‵ Ring ⊛ ‵ (Own α d))) (goes (wt .1 .1 .0 .fits) (wt .1 .1 .1 .0 .fits) (wt .1 .1 .1 .1 .0 .fits)) $ split ! $
+        -- [what the callee asks; what the ring and the view own; _11; …]
+        calls-at ! fm (Patch 𝓤 H A mem run) known to (and-then ! (load ! (from ! (stop !)) (look ! 12 refl)) (and-then ! (load ! (from ! (stop !)) (look ! 10 refl)) (and-then ! (load ! (from ! (stop !)) (look ! 8 refl)) (and-then ! (load ! (from ! (stop !)) (look ! 6 refl)) (and-then ! (load ! (from ! (stop !)) (look ! 20 refl))
+        (and-then ! (load ! (from ! (stop !)) (look ! 18 refl)) (and-then ! (load ! (from ! (stop !)) (look ! 16 refl)) (and-then ! (load ! (from ! (stop !)) (look ! 2 refl)) (no-more !))))))))) (λ u.
         use1 W (later (some (λ (r : Response). ((‵ (flft κ q) ⊛ ‵ (flft κ′ q′) ⊛ ‵ (flft κ″ q″) ⊛ ‵ ftrue) ⊛ ‵ (S.the-row .own r (u ∷ []))) ⊛ raw (ensured 𝓤 H A patch.ended (patch.clauses 𝓤 H A mem run) κs given tt r)))) (id⊢ 𝓤 _) $ await ! tt $ pick ! (λ r.
         -- what the callee ensures, at some last list
-        split ! $ move ! (1 ∷ []) $ use1 W (some (λ (zs : Unit {0} × (Unit {0} × (Unit {0} × (Unit {0} × (Unit {0} × (Unit {0} × (List Float × Unit {0}))))))). ‵ (lasts patch.ended κs given zs) ⊛ raw (fact 𝓤 (Says r (zs .1 .1 .1 .1 .1 .1 .0))))) (id⊢ 𝓤 _) $ pick ! (λ zs.
-        split ! $ move ! (1 ∷ []) $ heard ! (Says r (zs .1 .1 .1 .1 .1 .1 .0)) (λ e. fsplit ! $ drop ! $ fsplit ! $ drop ! $ fsplit ! $ drop ! $ fsplit ! $ drop ! $ fsplit ! $ drop ! $ fsplit ! $ drop ! $ fsplit ! $ fsplit ! $ move ! (1 ∷ []) $ feqL ! (λ l.
-        -- [the last list; true; the tokens and the result; what the ring and the view own; _10; …]
+        split ! $ move ! (1 ∷ []) $ use1 W (some (λ (zs : Unit {0} × (Unit {0} × (Unit {0} × (Unit {0} × (Unit {0} × (Unit {0} × (Unit {0} × (List Float × Unit {0})))))))). ‵ (lasts patch.ended κs given zs) ⊛ raw (fact 𝓤 (Says r (zs .1 .1 .1 .1 .1 .1 .1 .0))))) (id⊢ 𝓤 _) $ pick ! (λ zs.
+        split ! $ move ! (1 ∷ []) $ heard ! (Says r (zs .1 .1 .1 .1 .1 .1 .1 .0)) (λ e. fsplit ! $ drop ! $ fsplit ! $ drop ! $ fsplit ! $ drop ! $ fsplit ! $ drop ! $ fsplit ! $ drop ! $ fsplit ! $ drop ! $ fsplit ! $ drop ! $ fsplit ! $ fsplit ! $ move ! (1 ∷ []) $ feqL ! (λ l.
+        -- [the last list; true; the tokens and the result; what the ring and the view own; _11; …]
         move ! (2 ∷ []) $ split ! $ move ! (1 ∷ []) $ peeks ! S.the-row (Is S.the-row) (shows 𝓤 H A S.the-row) r (u ∷ []) (λ is.
-        land ! (from ! (stop !)) (init ! 25 refl (EL.lawful S.the-type S′.the-laws 𝓤 H A W tt .typed r _ is .0)) $
-        returns ! (look ! 25 refl) $ forget ! 5 refl $ forget ! 7 refl $ forget ! 9 refl $ forget ! 11 refl $ forget ! 13 refl $ forget ! 15 refl $ forget ! 17 refl $ forget ! 19 refl $ forget ! 21 refl $ forget ! 23 refl $ forget ! 25 refl $
-        move ! (25 ∷ 26 ∷ []) $ free1 ! $ move ! (23 ∷ 24 ∷ []) $ free1 ! $ move ! (21 ∷ 22 ∷ []) $ free1 ! $ move ! (19 ∷ 20 ∷ []) $ free1 ! $ move ! (17 ∷ 18 ∷ []) $ free1 ! $ move ! (15 ∷ 16 ∷ []) $ free1 ! $ move ! (13 ∷ 14 ∷ []) $ free1 ! $ move ! (11 ∷ 12 ∷ []) $ free1 ! $ move ! (9 ∷ 10 ∷ []) $ free1 ! $ move ! (7 ∷ 8 ∷ []) $ free1 ! $ move ! (5 ∷ 6 ∷ []) $ free1 ! $ free0 ! $
-        by ! (exits r u (zs .1 .1 .1 .1 .1 .1 .0) e l))))))))))))))))))
+        land ! (from ! (stop !)) (init ! 27 refl (EL.lawful S.the-type S′.the-laws 𝓤 H A W tt .typed r _ is .0)) $
+        returns ! (look ! 27 refl) $ forget ! 5 refl $ forget ! 7 refl $ forget ! 9 refl $ forget ! 11 refl $ forget ! 13 refl $ forget ! 15 refl $ forget ! 17 refl $ forget ! 19 refl $ forget ! 21 refl $ forget ! 23 refl $ forget ! 25 refl $ forget ! 27 refl $
+        move ! (27 ∷ 28 ∷ []) $ free1 ! $ move ! (25 ∷ 26 ∷ []) $ free1 ! $ move ! (23 ∷ 24 ∷ []) $ free1 ! $ move ! (21 ∷ 22 ∷ []) $ free1 ! $ move ! (19 ∷ 20 ∷ []) $ free1 ! $ move ! (17 ∷ 18 ∷ []) $ free1 ! $ move ! (15 ∷ 16 ∷ []) $ free1 ! $ move ! (13 ∷ 14 ∷ []) $ free1 ! $ move ! (11 ∷ 12 ∷ []) $ free1 ! $ move ! (9 ∷ 10 ∷ []) $ free1 ! $ move ! (7 ∷ 8 ∷ []) $ free1 ! $ move ! (5 ∷ 6 ∷ []) $ free1 ! $ free0 ! $
+        by ! (exits r u (zs .1 .1 .1 .1 .1 .1 .1 .0) e l)))))))))))))))))))
 
 module _ {M : Type 1} (𝓤 : URA M) (H : Heap 𝓤) (A : Atoms 𝓤) (W : Given 𝓤 H A) (mem : Memory → SProp 𝓤) (run : Routine → Fun 𝓤) where
   response-walks : (C : Calls 𝓤 H) (Λ : Loops 𝓤 H) → FmC 𝓤 H (W .laws) C → Triple 𝓤 (C #view·plain·response) (Patch 𝓤 H A mem run)

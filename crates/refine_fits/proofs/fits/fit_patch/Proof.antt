@@ -67,7 +67,7 @@ whole c =
     let s = c .before .before .before .before .before .before in
     let a = s .args in
     let img = imageOf (a .img .now) (a .sizes) in
-    part-length img ((a .y - a .radius + c .before .before .loop .row) * a .sizes .width + (a .x - a .radius)) (Basis.side (a .radius)) (c .patch-row .result .now) (row-within img (a .radius) (a .x) (a .y) (c .before .before .loop .row) (s .pre) (c .before .loop-test .taken)) (c .patch-row .ensures)
+    part-length img ((a .y - a .radius + c .before .before .loop .row) * a .sizes .pitch + (a .x - a .radius)) (Basis.side (a .radius)) (c .patch-row .result .now) (row-within img (a .radius) (a .x) (a .y) (c .before .before .loop .row) (s .pre) (c .before .loop-test .taken)) (c .patch-row .ensures)
 
 add-row-requires : tie.Need-add-row-requires Inv-loop μ-loop
 add-row-requires c κs =

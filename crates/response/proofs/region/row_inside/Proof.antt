@@ -44,9 +44,9 @@ write-row-requires : tie.Need-write-row-requires
 write-row-requires c κs =
     let a = c .before .before .before .before .before .before .before .before .before .args in
     let s = c .before .before .before .before .before .before .starts-of in
-    let one = row-left (a .img .now) (a .offsets .now) (a .sizes .width) (a .x0) (a .y) (a .from) (a .to) (a .out .now) (c .before .before .before .before .fill .last .0) (omega arith) (c .before .before .before .before .fill .ensures) in
-    reaches (a .img .now) (a .offsets .now) (a .sizes .width) (a .x0 + a .from) (a .y) (s .result) (s .ensures) _
-    (subst (Started (a .img .now) (a .offsets .now) (a .sizes .width) (a .x0 + a .from) (a .y)) (sym (part-count plusZero (a .from) (a .to) _ (omega arith) (omega (arith, one .same)))) (c .before .before .before .before .before .before .before .before .before .pre .1 .1))
+    let one = row-left (a .img .now) (a .offsets .now) (a .sizes .pitch) (a .x0) (a .y) (a .from) (a .to) (a .out .now) (c .before .before .before .before .fill .last .0) (omega arith) (c .before .before .before .before .fill .ensures) in
+    reaches (a .img .now) (a .offsets .now) (a .sizes .pitch) (a .x0 + a .from) (a .y) (s .result) (s .ensures) _
+    (subst (Started (a .img .now) (a .offsets .now) (a .sizes .pitch) (a .x0 + a .from) (a .y)) (sym (part-count plusZero (a .from) (a .to) _ (omega arith) (omega (arith, one .same)))) (c .before .before .before .before .before .before .before .before .before .pre .1 .1))
 
 mul-fill : tie.Need-mul-fill
 mul-fill c = search needs
@@ -68,9 +68,9 @@ returns c =
     let a = c .before .before .before .before .before .before .before .before .before .before .before .before .before .before .before .before .args in
     let s = c .before .before .before .before .before .before .before .before .before .before .before .before .before .starts-of in
     let q = c .before .before .before .before .before .before .before .before .before .before .before .before .before .before .before .before .pre in
-    row-right (a .img .now) (a .offsets .now) (a .sizes .width) (a .x0) (a .y) (a .from) (a .to) (a .out .now) _ (c .before .before .fill2 .last .0) (q .0 .1)
-    (row-middle (a .img .now) (a .offsets .now) (a .sizes .width) (a .x0) (a .y) (a .from) (a .to) (a .out .now) _ (c .before .before .before .before .before .before .write-row .last .1 .1 .0) (s .result) (q .1 .0 .clear) (omega arith) (q .0 .1) (s .ensures)
-    (row-left (a .img .now) (a .offsets .now) (a .sizes .width) (a .x0) (a .y) (a .from) (a .to) (a .out .now) (c .before .before .before .before .before .before .before .before .before .before .before .fill .last .0) (omega arith) (c .before .before .before .before .before .before .before .before .before .before .before .fill .ensures))
+    row-right (a .img .now) (a .offsets .now) (a .sizes .pitch) (a .x0) (a .y) (a .from) (a .to) (a .out .now) _ (c .before .before .fill2 .last .0) (q .0 .1)
+    (row-middle (a .img .now) (a .offsets .now) (a .sizes .pitch) (a .x0) (a .y) (a .from) (a .to) (a .out .now) _ (c .before .before .before .before .before .before .write-row .last .1 .1 .0) (s .result) (q .1 .0 .clear) (omega arith) (q .0 .1) (s .ensures)
+    (row-left (a .img .now) (a .offsets .now) (a .sizes .pitch) (a .x0) (a .y) (a .from) (a .to) (a .out .now) (c .before .before .before .before .before .before .before .before .before .before .before .fill .last .0) (omega arith) (c .before .before .before .before .before .before .before .before .before .before .before .fill .ensures))
     (c .before .before .before .before .before .before .write-row .ensures))
     (c .before .before .fill2 .ensures)
 

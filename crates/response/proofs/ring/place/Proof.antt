@@ -1,5 +1,7 @@
 -- `response::ring::place` meets its contract: the sizes are too small to wrap.
+use Prim.Native.Nat.{_≤_}
 use native.Mathlib.Nat.{mul-le-mul}
+use native.Mathlib.Omega.{arith}
 use mir.Facts.{fits-le, fits-lit}
 use Rattle.response.proofs.RingLaws.{place-most}
 use borrow.Author.Needs.{needs}
@@ -7,10 +9,10 @@ use Rattle.response.proofs.ring.place.Statement.{statement}
 use Rattle.response.proofs.ring.place.Tie as tie
 
 mul-result : tie.Need-mul-result
-mul-result c = fits-le (mul-le-mul (c .pre .2) (c .pre .0)) (fits-lit tt)
+mul-result c = let p = c .before .pre in fits-le (mul-le-mul {m₂ = 8192} (p .3) (omega (arith, p .0, p .1))) (fits-lit tt)
 
 add-result : tie.Need-add-result
-add-result c = fits-le (place-most (c .args .stride) (c .args .x) (c .args .y) (c .pre .0) (c .pre .1) (c .pre .2)) (fits-lit tt)
+add-result c = let p = c .before .pre in fits-le (place-most _ _ _ (omega (arith, p .0, p .1)) (p .2) (p .3)) (fits-lit tt)
 
 returns : tie.Need-returns
 returns c = search needs

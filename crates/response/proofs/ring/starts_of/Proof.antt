@@ -10,13 +10,13 @@ use Rattle.response.proofs.ring.starts_of.Statement.{statement}
 use Rattle.response.proofs.ring.starts_of.Tie as tie
 
 abbrev Inv-loop : tie.InvT-loop
-Inv-loop offsets stride x y starts₀ k₀ starts k = (k ≤ 21) × Wrote 0 k 0 (startOf offsets stride x y) starts₀ starts
+Inv-loop offsets sizes x y starts₀ k₀ starts k = (k ≤ 21) × Wrote 0 k 0 (startOf offsets (sizes .pitch) x y) starts₀ starts
 
 abbrev μ-loop : tie.MeasureT-loop
-μ-loop offsets stride x y starts₀ k₀ starts k = 21 - k
+μ-loop offsets sizes x y starts₀ k₀ starts k = 21 - k
 
 loop-holds : tie.Need-loop-holds Inv-loop μ-loop
-loop-holds c = let a = c .args in (omega arith, wrote-none 0 0 (startOf (a .offsets .now) (a .stride) (a .x) (a .y)) _)
+loop-holds c = let a = c .args in (omega arith, wrote-none 0 0 (startOf (a .offsets .now) (a .sizes .pitch) (a .x) (a .y)) _)
 
 mul-moved-by : tie.Need-mul-moved-by Inv-loop μ-loop
 mul-moved-by c = omega arith
@@ -40,7 +40,7 @@ moved-by-requires-2 : tie.Need-moved-by-requires-2 Inv-loop μ-loop
 moved-by-requires-2 c κs = (c .before .before .before .before .before .pre .y-most, c .before .before .before .before .before .pre .clear (2 * c .before .before .before .before .loop .k + 1) (omega arith) .1)
 
 place-requires : tie.Need-place-requires Inv-loop μ-loop
-place-requires c κs = (c .before .before .before .before .before .before .pre .stride-most, c .before .before .moved-by .ensures .1, c .moved-by2 .ensures .1)
+place-requires c κs = (c .before .before .before .before .before .before .pre .holds, c .before .before .before .before .before .before .pre .pitch-most, c .before .before .moved-by .ensures .1, c .moved-by2 .ensures .1)
 
 mul-starts : tie.Need-mul-starts Inv-loop μ-loop
 mul-starts c = omega arith
@@ -59,8 +59,8 @@ loop-again c =
     let a = c .before .before .before .before .before .before .before .args in
     let p = c .before .before .before .before .before .before .loop in (
       omega arith,
-      wrote-more 0 (p .k) (startOf (a .offsets .now) (a .stride) (a .x) (a .y)) _ (p .starts) (c .place .result) (omega arith) (p .inv .1)
-          (c .place .ensures ∙ ap (λ (z : ℕ). z * a .stride + c .before .before .before .moved-by .result) (c .before .moved-by2 .ensures .0) ∙ ap (λ (z : ℕ). (a .y + getD (a .offsets .now) (2 * p .k + 1) 0 - 10) * a .stride + z) (c .before .before .before .moved-by .ensures .0)),
+      wrote-more 0 (p .k) (startOf (a .offsets .now) (a .sizes .pitch) (a .x) (a .y)) _ (p .starts) (c .place .result) (omega arith) (p .inv .1)
+          (c .place .ensures ∙ ap (λ (z : ℕ). z * a .sizes .pitch + c .before .before .before .moved-by .result) (c .before .moved-by2 .ensures .0) ∙ ap (λ (z : ℕ). (a .y + getD (a .offsets .now) (2 * p .k + 1) 0 - 10) * a .sizes .pitch + z) (c .before .before .before .moved-by .ensures .0)),
     )
 
 returns : tie.Need-returns Inv-loop μ-loop
@@ -68,7 +68,7 @@ returns c =
     let a = c .before .before .args in
     let p = c .before .loop in
     let e : p .k ≡ 21 = omega arith in
-    subst (λ (n : ℕ). Wrote 0 n 0 (startOf (a .offsets .now) (a .stride) (a .x) (a .y)) (replicate 21 0) (p .starts)) e (p .inv .1)
+    subst (λ (n : ℕ). Wrote 0 n 0 (startOf (a .offsets .now) (a .sizes .pitch) (a .x) (a .y)) (replicate 21 0) (p .starts)) e (p .inv .1)
 
 pub starts-of-spec : {M : Type 1} → statement M
 starts-of-spec =
