@@ -77,6 +77,7 @@ sound s e f =
       height-most = z .0 .height-most;
       size = z .1;
       ring-most = leb-true (s .ring) 10 (second-of a b (first-of (a && b) c (first-of (a && b && c) d abcd)));
+      window-least = leb-true 1 (s .window) (second-of (a && b) c (first-of (a && b && c) d abcd));
       window-most = leb-true (s .window) 8 (second-of (a && b && c) d abcd);
       refine-most = leb-true (s .refine) 7 (second-of (a && b && c && d) (leb (s .refine) 7) f);
     }

@@ -1,125 +1,110 @@
--- The peaks up to a pixel, and their records.
+-- The peaks up to a pixel, listed and written.
 use mathlib.Core.Path.{_≡_, refl, sym, ap, _∙_, subst}
-use mathlib.Core.Logic.{⊎-elim}
-use mathlib.Core.Bool.{Bool, true, false, cond}
 use mathlib.Core.List.{List, [], _∷_, _++_, append-nil, append-assoc}
-use Prim.Native.Nat.{ℕ, zero, suc, _+_, _-_, _*_, _/_, _%_, _≤_, _<_}
-use native.Mathlib.Nat.{add-zero, add-suc, div-add-mod', not-suc-le-zero}
+use Prim.Native.Nat.{ℕ, _+_, _-_, _*_, _/_, _%_, _≤_, _<_}
+use native.Mathlib.Nat.{add-zero, add-assoc, div-add-mod', mod-lt}
 use native.Mathlib.Numerals.{add-one}
 use native.Mathlib.Omega.{arith}
 use lib.IntN.{pos}
-use lib.ListN.{length, getD, set, drop, take, length-append, length-drop, length-set, List·getD-append}
-use lib.Seq.{take-suc, take-suc-set, length-take-le, getD-take, getD-append-add, take-at, drop-drop, drop-append-add}
+use lib.ListN.{length, getD, drop, take, length-append, length-drop}
+use lib.Seq.{take-suc, length-take-le, getD-take, take-at, drop-drop, drop-append-add}
 use lib.Ieee.{Float, nan, binary32, ofInt}
 use Rattle.corners.specs.Corners.{corner, recorded}
 use Rattle.corners.proofs.CornerLaws.{recorded-parts}
 use Rattle.peaks.specs.Peak.{Scan, valueAt}
-use Rattle.peaks.proofs.PeakLaws.{lt-or-le}
 use Rattle.peaks.specs.Call.{chosen, peakAt, peaksOf, recordsOf}
-use Rattle.peaks.specs.Steps.{Sound, Next, Stands, Listed, Noteworthy, Written, allRecorded}
-
-module _ (p : ℕ → Bool) where
-  chosen-none : chosen 0 p ≡ []
-  unfolding chosen
-  chosen-none = refl
-
-  chosen-one : (k : ℕ) → p k ≡ true → chosen (k + 1) p ≡ chosen k p ++ (k ∷ [])
-  unfolding chosen
-  chosen-one k e = ap (λ (n : ℕ). chosen n p) (add-one k) ∙ ap (λ (z : Bool). chosen k p ++ cond z (k ∷ []) []) e
-
-  chosen-add : (k d : ℕ) → ((i : ℕ) → k ≤ i → i < k + d → p i ≡ false) → chosen (k + d) p ≡ chosen k p
-  unfolding chosen
-  chosen-add k zero c = ap (λ (n : ℕ). chosen n p) (add-zero k)
-  chosen-add k (suc d) c =
-      ap (λ (n : ℕ). chosen n p) (add-suc k d) ∙ ap (λ (z : Bool). chosen (k + d) p ++ cond z ((k + d) ∷ []) []) (c (k + d) (omega arith) (omega arith)) ∙ append-nil (chosen (k + d) p)
-      ∙ chosen-add k d (λ i h l. c i h (omega arith))
-
-  chosen-same : (k r : ℕ) → k ≤ r → ((i : ℕ) → k ≤ i → i < r → p i ≡ false) → chosen r p ≡ chosen k p
-  chosen-same k r h c = ap (λ (n : ℕ). chosen n p) (sym e) ∙ chosen-add k (r - k) (λ i u v. c i u (omega arith))
-    where
-      e : k + (r - k) ≡ r
-      e = omega arith
-
-  chosen-more : (k d : ℕ) → length (chosen k p) ≤ length (chosen (k + d) p)
-  unfolding chosen
-  chosen-more k zero = subst (λ (n : ℕ). length (chosen k p) ≤ length (chosen n p)) (sym (add-zero k)) (let h : length (chosen k p) ≤ length (chosen k p) = omega arith in h)
-  chosen-more k (suc d) =
-      subst (λ (n : ℕ). length (chosen k p) ≤ length (chosen n p)) (sym (add-suc k d))
-      (let h = chosen-more k d in omega (arith, length-append (chosen (k + d) p) (cond (p (k + d)) ((k + d) ∷ []) [])))
-
-one-most : (b : Bool) (k : ℕ) → length (cond b (k ∷ []) []) ≤ 1
-one-most true k = omega arith
-one-most false k = omega arith
-
-chosen-below : (p : ℕ → Bool) (k i : ℕ) → i < length (chosen k p) → getD (chosen k p) i 0 < k
-unfolding chosen
-chosen-below p zero i h = absurd (not-suc-le-zero h)
-chosen-below p (suc k) i h =
-    ⊎-elim (λ l. subst (λ (z : ℕ). z < suc k) (sym (List·getD-append (chosen k p) (cond (p k) (k ∷ []) []) 0 i l)) (let q = chosen-below p k i l in omega arith))
-    (λ l. last (p k) (i - length (chosen k p)) (omega arith) h) (lt-or-le i (length (chosen k p)))
-  where
-    last : (b : Bool) (j : ℕ) → i ≡ length (chosen k p) + j → i < length (chosen k p ++ cond b (k ∷ []) []) → getD (chosen k p ++ cond b (k ∷ []) []) i 0 < suc k
-    last true zero e m = subst (λ (z : ℕ). z < suc k) (sym (ap (λ (z : ℕ). getD (chosen k p ++ (k ∷ [])) z 0) e ∙ getD-append-add (chosen k p) (k ∷ []) 0 0)) (let q : k < suc k = omega arith in q)
-    last true (suc j) e m = absurd (let z : ⊥ = omega (arith, length-append (chosen k p) (k ∷ [])) in z)
-    last false j e m = absurd (let z : ⊥ = omega (arith, length-append (chosen k p) []) in z)
-
-chosen-most : (p : ℕ → Bool) (k : ℕ) → length (chosen k p) ≤ k
-unfolding chosen
-chosen-most p zero = omega arith
-chosen-most p (suc k) = let h = chosen-most p k in omega (arith, length-append (chosen k p) (cond (p k) (k ∷ []) []), one-most (p k) k)
+use Rattle.peaks.specs.Steps.{Sound, between, Part, Stands, Noted, Pixels, Follow, Written, allRecorded}
+use Rattle.peaks.proofs.ListLaws.{between-at, chosen-none, chosen-most, chosen-below, chosen-up-to, added-at}
+use Rattle.peaks.proofs.PartLaws.{row-less}
 
 module _ (s : Scan) where
   -- the peaks before a pixel
   abbrev upTo : ℕ → List ℕ
   upTo k = chosen k (peakAt s)
 
-  pub all-peaks : Sound s → upTo (length (s .values)) ≡ peaksOf s
+  -- ---- the row and the column of a pixel
+  pub column-most : (k : ℕ) → Sound s → k % s .width < 4096
+  column-most k t = let h = mod-lt k {m = s .width} (let w = t .wide in omega arith) in let w = t .width-most in omega arith
+
+  pub row-most : (k : ℕ) → Sound s → k < length (s .values) → k / s .width < 4096
+  row-most k t h = let l = row-less t k h in let m = t .height-most in omega arith
+
+  -- ---- where the scan stands
+  all-peaks : Sound s → upTo (length (s .values)) ≡ peaksOf s
   unfolding peaksOf
   all-peaks t = ap upTo (t .size)
 
-  abbrev At : ℕ → ℕ → Type 0
-  At = Stands s
+  pub stands-first : Stands s 0 0
+  stands-first = (sym (ap length (chosen-none (peakAt s))), omega arith)
 
-  pub before-most : (n k : ℕ) → At n k → n ≤ k
-  before-most n k (a, b, c) = let h = chosen-most (peakAt s) k in omega arith
-
-  -- where it starts, and one peak on
-  pub none-before : {r : ℕ} → Next s 0 r → upTo r ≡ []
-  none-before {r} n = chosen-same (peakAt s) 0 r (n .low) (n .passed) ∙ chosen-none (peakAt s)
-
-  pub one-before : (k : ℕ) {r : ℕ} → peakAt s k ≡ true → Next s (k + 1) r → upTo r ≡ upTo k ++ (k ∷ [])
-  one-before k {r} e n = chosen-same (peakAt s) (k + 1) r (n .low) (n .passed) ∙ chosen-one (peakAt s) k e
-
-  pub at-first : {r : ℕ} → Next s 0 r → At 0 r
-  at-first n = (sym (ap length (none-before n)), n .most, n .hit)
-
-  pub at-next : (n k : ℕ) {r : ℕ} → At n k → k < length (s .values) → Next s (k + 1) r → At (n + 1) r
-  at-next n k (a, b, c) h m = (ap (λ (i : ℕ). i + 1) a ∙ sym (ap length (one-before k (c h) m) ∙ length-append (upTo k) (k ∷ [])), m .most, m .hit)
+  pub stands-most : {n k : ℕ} → Stands s n k → n ≤ length (s .values)
+  stands-most {n} {k} (a, b) = let h = chosen-most (peakAt s) k in omega arith
 
   at-end : (k : ℕ) → Sound s → k ≤ length (s .values) → length (s .values) ≤ k → upTo k ≡ peaksOf s
   at-end k t h l = ap upTo (let e : k ≡ length (s .values) = omega arith in e) ∙ all-peaks t
 
-  -- a peak at k is one more than those before it
-  not-all : (k : ℕ) → Sound s → k < length (s .values) → peakAt s k ≡ true → length (upTo k) + 1 ≤ length (peaksOf s)
-  not-all k t h e =
-      let l = chosen-more (peakAt s) (k + 1) (length (s .values) - (k + 1)) in
-      let q : k + 1 + (length (s .values) - (k + 1)) ≡ length (s .values) = omega arith in
-      let m : length (upTo (k + 1)) ≤ length (peaksOf s) = subst (λ (z : List ℕ). length (upTo (k + 1)) ≤ length z) (ap upTo q ∙ all-peaks t) l in
-      let n : length (upTo (k + 1)) ≡ length (upTo k) + 1 = ap length (chosen-one (peakAt s) k e) ∙ length-append (upTo k) (k ∷ []) in
-      omega arith
+  pub stands-last : (n k : ℕ) → Sound s → Stands s n k → length (s .values) ≤ k → n ≡ length (peaksOf s)
+  stands-last n k t (a, b) h = a ∙ ap length (at-end k t b h)
 
-  pub before-all : (n k : ℕ) → Sound s → Stands s n k → n ≤ length (peaksOf s)
-  before-all n k t (a, b, c) =
-      let l = chosen-more (peakAt s) k (length (s .values) - k) in
-      let q : k + (length (s .values) - k) ≡ length (s .values) = omega arith in
-      let m : length (upTo k) ≤ length (peaksOf s) = subst (λ (z : List ℕ). length (upTo k) ≤ length z) (ap upTo q ∙ all-peaks t) l in
-      omega arith
+  pub stands-room : (n k : ℕ) → Sound s → Stands s n k → n ≤ length (peaksOf s)
+  stands-room n k t (a, b) =
+      let e = ap length (sym (chosen-up-to (peakAt s) k (length (s .values)) b) ∙ all-peaks t) in
+      omega (arith, a, length-append (upTo k) (between k (length (s .values) - k) (peakAt s)))
 
-  pub one-left : (n k : ℕ) → Sound s → At n k → k < length (s .values) → n + 1 ≤ length (peaksOf s)
-  one-left n k t (a, b, c) h = let l = not-all k t h (c h) in omega arith
+  module _ {list list' : List ℕ} {k m r next : ℕ} (part : Part s list list' k m r next) where
+    abbrev new : List ℕ
+    new = between k (next - k) (peakAt s)
 
-  pub none-left : (n k : ℕ) → Sound s → At n k → length (s .values) ≤ k → n ≡ length (peaksOf s)
-  none-left n k t (a, b, c) h = a ∙ ap length (at-end k t b h)
+    part-chosen : upTo next ≡ upTo k ++ new
+    part-chosen = chosen-up-to (peakAt s) k next (let h = part .on in omega arith)
+
+    pub stands-next : (n : ℕ) → Stands s n k → (m ≤ r) × Stands s (n + (r - m)) next
+    stands-next n (a, b) =
+        let e = part .added .total in
+        let l = ap length part-chosen ∙ length-append (upTo k) new in
+        (omega arith, (omega arith, part .most))
+
+    pub noted-next : Noted s list m k → m ≤ 768 → Noted s list' r next
+    noted-next n h =
+        let e = part .added .listed ∙ ap (λ (z : List ℕ). z ++ new) (n .listed) ∙ sym part-chosen in
+        let t = part .added .total in
+        let l = ap length part-chosen ∙ length-append (upTo k) new in
+        let a = n .stands .0 in
+        record { stands = (omega arith, part .most); most = let f = part .few in omega arith; long = part .added .long ∙ n .long; listed = e }
+
+  pub stands-on : {list list' : List ℕ} {k r next : ℕ} → Part s list list' k 0 r next → (n : ℕ) → Stands s n k → Stands s (n + r) next
+  stands-on part n a = let q = stands-next part n a .1 in (omega (arith, q .0), q .1)
+
+  pub noted-first : (list : List ℕ) → length list ≡ 1280 → Noted s list 0 0
+  noted-first list e = record { stands = stands-first; most = omega arith; long = e; listed = sym (chosen-none (peakAt s)) }
+
+  -- what is listed are pixels
+  pub noted-pixels : {list list' : List ℕ} {n k : ℕ} → Noted s list n k → take n list' ≡ take n list → length list' ≡ 1280 → Pixels s list' n
+  noted-pixels {list} {list'} {n} {k} l e f =
+      record {
+        most = let m = l .most in omega arith;
+        few = let m = l .most in omega arith;
+        pixels =
+            λ i h.
+            let q : getD list' i 0 < k = subst (λ (z : ℕ). z < k) (ap (λ (z : List ℕ). getD z i 0) (sym (e ∙ l .listed)) ∙ getD-take n list' i 0 h) (chosen-below (peakAt s) k i (subst (λ (z : ℕ). i < z) (l .stands .0) h)) in
+            let m = l .stands .1 in
+            omega arith;
+      }
+
+  pub part-pixels : {list list' : List ℕ} {k r next : ℕ} → Part s list list' k 0 r next → length list ≡ 1280 → Pixels s list' r
+  part-pixels {list} {list'} {k} {r} {next} part e =
+      record {
+        most = let f = part .few in omega arith;
+        few = let f = part .few in let l = part .added .long in omega arith;
+        pixels =
+            λ i h.
+            let z = added-at (part .added) i (omega arith) h in
+            let q = between-at (peakAt s) k (next - k) (i - 0) (z .1) .1 in
+            let m = part .most in
+            let o = part .on in
+            let w : getD list' i 0 < k + (next - k) = subst (λ (j : ℕ). j < k + (next - k)) (sym (z .0)) q in
+            omega arith;
+      }
 
   -- ---- records
   abbrev three : ℕ → List Float
@@ -140,7 +125,7 @@ module _ (s : Scan) where
   records-length (k ∷ l) = let h : length (recordsOf s l) ≡ 3 * length l = records-length l in omega arith
 
   -- the record of one more peak
-  pub put-record : (out : List Float) (l : List ℕ) (k n : ℕ) → n ≡ length l → 3 * n + 2 < length out
+  put-record : (out : List Float) (l : List ℕ) (k n : ℕ) → n ≡ length l → 3 * n + 2 < length out
       → recorded (recordsOf s l ++ drop (3 * n) out) n (corner (ofInt binary32 (pos (k % s .width))) (ofInt binary32 (pos (k / s .width))) (getD (s .values) k nan))
       ≡ recordsOf s (l ++ (k ∷ [])) ++ drop (3 * (n + 1)) out
   put-record out l k n e h =
@@ -162,60 +147,32 @@ module _ (s : Scan) where
           ap (λ (i : ℕ). drop (i + 3) (recordsOf s l ++ drop (3 * n) out)) (sym same) ∙ drop-append-add (recordsOf s l) (drop (3 * n) out) 3 ∙ drop-drop 3 (3 * n) out
           ∙ ap (λ (i : ℕ). drop i out) (let q : 3 * n + 3 ≡ 3 * (n + 1) = omega arith in q)
 
+  -- ---- records that follow others
+  pub follow-none : (list : List ℕ) (n : ℕ) (out : List Float) → Follow s (take 0 list) 0 n out out
+  follow-none list n out l o e f g = g ∙ ap (λ (z : List ℕ). recordsOf s z ++ drop (3 * n) o) (sym (append-nil l)) ∙ ap (λ (i : ℕ). recordsOf s (l ++ []) ++ drop (3 * i) o) (sym (add-zero n))
+
+  pub follow-more : (list : List ℕ) (n i : ℕ) (out out' out'' : List Float) → i < length list → 3 * (n + i) + 2 < length out → Follow s (take i list) i n out out'
+      → out'' ≡ recorded out' (n + i) (corner (ofInt binary32 (pos (getD list i 0 % s .width))) (ofInt binary32 (pos (getD list i 0 / s .width))) (getD (s .values) (getD list i 0) nan)) → Follow s (take (i + 1) list) (i + 1) n out out''
+  follow-more list n i out out' out'' h room w f l o e g q =
+      let k = getD list i 0 in
+      f ∙ ap (λ (z : List Float). recorded z (n + i) (corner (ofInt binary32 (pos (k % s .width))) (ofInt binary32 (pos (k / s .width))) (getD (s .values) k nan))) (w l o e g q)
+      ∙ put-record o (l ++ take i list) k (n + i) (omega (arith, e, length-append l (take i list), length-take-le i list (let u : i ≤ length list = omega arith in u))) (omega arith)
+      ∙ ap (λ (z : List ℕ). recordsOf s z ++ drop (3 * (n + i + 1)) o) (append-assoc l (take i list) (k ∷ []) ∙ ap (λ (z : List ℕ). l ++ z) (sym (ap (λ (j : ℕ). take j list) (add-one i) ∙ take-suc list i 0 h)))
+      ∙ ap (λ (j : ℕ). recordsOf s (l ++ take (i + 1) list) ++ drop (3 * j) o) (add-assoc n i 1)
+
   -- ---- the output after the peaks up to k
-  abbrev Out : List Float → ℕ → ℕ → List Float → Type 0
-  Out = Written s
+  pub written-next : (o out out' : List Float) {list list' : List ℕ} {n k r next : ℕ} → Part s list list' k 0 r next → Stands s n k → length o ≡ length out → Written s o n k out → Follow s (take r list') r n out out' → Written s o (n + r) next out'
+  written-next o out out' {list} {list'} {n} {k} {r} {next} part (a, b) e w f =
+      f (upTo k) o a e w ∙ ap (λ (z : List ℕ). recordsOf s z ++ drop (3 * (n + r)) o) (ap (λ (z : List ℕ). upTo k ++ z) (part .added .listed) ∙ sym (part-chosen part))
 
-  pub out-next : (out out' out'' : List Float) (n k : ℕ) {r : ℕ} → At n k → k < length (s .values) → Next s (k + 1) r → 3 * n + 2 < length out → Out out n k out'
-      → out'' ≡ recorded out' n (corner (ofInt binary32 (pos (k % s .width))) (ofInt binary32 (pos (k / s .width))) (getD (s .values) k nan)) → Out out (n + 1) r out''
-  out-next out out' out'' n k (a, b, c) h m l e f =
-      f ∙ ap (λ (z : List Float). recorded z n (corner (ofInt binary32 (pos (k % s .width))) (ofInt binary32 (pos (k / s .width))) (getD (s .values) k nan))) e
-      ∙ put-record out (upTo k) k n a l ∙ ap (λ (z : List ℕ). recordsOf s z ++ drop (3 * (n + 1)) out) (sym (one-before k (c h) m))
+  pub written-last : (o out : List Float) (n k : ℕ) → Sound s → Stands s n k → length (s .values) ≤ k → Written s o n k out → out ≡ allRecorded s o
+  written-last o out n k t (a, b) h e =
+      e ∙ ap (λ (z : List ℕ). recordsOf s z ++ drop (3 * n) o) (at-end k t b h) ∙ ap (λ (i : ℕ). recordsOf s (peaksOf s) ++ drop (3 * i) o) (stands-last n k t (a, b) h)
 
-  pub out-last : (out out' : List Float) (n k : ℕ) → Sound s → At n k → length (s .values) ≤ k → Out out n k out' → out' ≡ allRecorded s out
-  out-last out out' n k t (a, b, c) h e =
-      e ∙ ap (λ (z : List ℕ). recordsOf s z ++ drop (3 * n) out) (at-end k t b h) ∙ ap (λ (i : ℕ). recordsOf s (peaksOf s) ++ drop (3 * i) out) (none-left n k t (a, b, c) h)
+  pub written-none : (o : List Float) → Written s o 0 0 o
+  written-none o = sym (ap (λ (z : List ℕ). recordsOf s z ++ o) (chosen-none (peakAt s)) ∙ ap (λ (z : List Float). z ++ o) records-none)
 
-  -- ---- notes
-  pub listed-none : (notes : List ℕ) {r : ℕ} → Next s 0 r → Listed s notes 0 r
-  listed-none notes m = record { stands = at-first m; most = omega arith; few = omega arith; listed = sym (none-before m) }
-
-  pub listed-more : (notes : List ℕ) (n k : ℕ) {r : ℕ} → Listed s notes n k → n < 4096 → n < length notes → k < length (s .values) → Next s (k + 1) r → Listed s (set notes n k) (n + 1) r
-  listed-more notes n k {r} l e f h m =
-      record {
-        stands = at-next n k (l .stands) h m;
-        most = omega arith;
-        few = omega (arith, length-set notes n k);
-        listed =
-            ap (λ (i : ℕ). take i (set notes n k)) (add-one n) ∙ take-suc-set notes n k f ∙ ap (λ (z : List ℕ). z ++ (k ∷ [])) (l .listed)
-            ∙ sym (one-before k (l .stands .2 h) m);
-      }
-
-  pub noteworthy : (notes : List ℕ) (n k : ℕ) → Listed s notes n k → Noteworthy s notes n
-  noteworthy notes n k l =
-      record {
-        most = l .most;
-        few = l .few;
-        pixels =
-            λ i h.
-            let q : getD notes i 0 < k = subst (λ (z : ℕ). z < k) (ap (λ (z : List ℕ). getD z i 0) (sym (l .listed)) ∙ getD-take n notes i 0 h) (chosen-below (peakAt s) k i (subst (λ (z : ℕ). i < z) (l .stands .0) h)) in
-            let m = l .stands .1 in
-            omega arith;
-      }
-
-  -- one more note written
-  pub noted-more : (out out' out'' : List Float) (notes : List ℕ) (i : ℕ) → i < length notes → 3 * i + 2 < length out → out' ≡ recordsOf s (take i notes) ++ drop (3 * i) out
-      → out'' ≡ recorded out' i (corner (ofInt binary32 (pos (getD notes i 0 % s .width))) (ofInt binary32 (pos (getD notes i 0 / s .width))) (getD (s .values) (getD notes i 0) nan))
-      → out'' ≡ recordsOf s (take (i + 1) notes) ++ drop (3 * (i + 1)) out
-  noted-more out out' out'' notes i l h e f =
-      let k = getD notes i 0 in
-      f ∙ ap (λ (z : List Float). recorded z i (corner (ofInt binary32 (pos (k % s .width))) (ofInt binary32 (pos (k / s .width))) (getD (s .values) k nan))) e
-      ∙ put-record out (take i notes) k i (sym (length-take-le i notes (let q : i ≤ length notes = omega arith in q))) h
-      ∙ ap (λ (z : List ℕ). recordsOf s z ++ drop (3 * (i + 1)) out) (sym (ap (λ (n : ℕ). take n notes) (add-one i) ∙ take-suc notes i 0 l))
-
-  pub noted-none : (out : List Float) (notes : List ℕ) → out ≡ recordsOf s (take 0 notes) ++ drop (3 * 0) out
-  noted-none out notes = sym (ap (λ (z : List Float). z ++ out) records-none)
-
-  -- what the notes leave is what the peaks before k leave
-  pub noted-out : (out out' : List Float) (notes : List ℕ) (n k : ℕ) → Listed s notes n k → out' ≡ recordsOf s (take n notes) ++ drop (3 * n) out → Written s out n k out'
-  noted-out out out' notes n k l e = e ∙ ap (λ (z : List ℕ). recordsOf s z ++ drop (3 * n) out) (l .listed)
+  -- what is noted is what stands before k
+  pub written-noted : (o out : List Float) {list : List ℕ} (list' : List ℕ) {n k : ℕ} → Noted s list n k → take n list' ≡ take n list → Follow s (take n list') n 0 o out → Written s o n k out
+  written-noted o out {list} list' {n} {k} l e f =
+      f [] o refl refl (sym (ap (λ (z : List Float). z ++ o) records-none)) ∙ ap (λ (z : List ℕ). recordsOf s z ++ drop (3 * (0 + n)) o) (e ∙ l .listed) ∙ ap (λ (i : ℕ). recordsOf s (upTo k) ++ drop (3 * i) o) (let q : 0 + n ≡ n = omega arith in q)

@@ -1,12 +1,10 @@
 -- `count`, cut in two and by equal tests.
 use mathlib.Core.Path.{_≡_, refl, sym, ap, _∙_}
-use mathlib.Core.Logic.{⊎-elim}
-use mathlib.Core.Bool.{Bool, true, false, _&&_, cond, false≢true, and-assoc, and-true, and-false}
+use mathlib.Core.Bool.{Bool, true, false, cond}
 use Prim.Native.Nat.{ℕ, zero, suc, _+_, _≤_, _<_}
-use native.Mathlib.Nat.{add-zero, add-suc, add-assoc, not-suc-le-zero, eq-or-lt-of-le}
+use native.Mathlib.Nat.{add-zero, add-suc, add-assoc}
 use native.Mathlib.Numerals.{add-one}
 use native.Mathlib.Omega.{arith}
-use Rattle.shapes.specs.Tests.{every}
 use Rattle.peaks.specs.Peak.{count}
 
 module _ (p : ℕ → Bool) where

@@ -4,9 +4,11 @@ pub mod BlockLaws
 pub mod WindowLaws
 pub mod FrameLaws
 pub mod PeakLaws
-pub mod SeekLaws
-pub mod NextLaws
+pub mod ListLaws
+pub mod GatherLaws
+pub mod PartLaws
 pub mod ChosenLaws
 pub mod CallLaws
 pub mod Theorems
+pub mod BoundLaws
 pub mod Cases

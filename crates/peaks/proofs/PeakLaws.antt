@@ -1,26 +1,21 @@
--- The rule of one pixel, test by test, and the first peak of a row.
-use mathlib.Core.Path.{_≡_, sym, ap, _∙_, subst}
+-- The rule of one pixel, test by test.
+use mathlib.Core.Path.{_≡_, sym, ap, _∙_}
 use mathlib.Core.Logic.{_⊎_, inl, inr, ⊎-elim}
 use mathlib.Core.Bool.{Bool, true, false, _&&_, and-false}
 use Prim.Native.Nat.{ℕ, zero, suc, _+_, _*_, _≤_, _<_, zero-le, suc-le-suc}
-use native.Mathlib.Nat.{eq-or-lt-of-le}
 use native.Mathlib.Omega.{arith}
 use lib.Dec.{leb, ltb}
 use lib.ListN.{getD}
 use lib.Ieee.{Float, nan, lt}
 use borrow.Author.Tests.{lt-leb, le-leb, lt-ltb, le-ltb}
 use Rattle.peaks.specs.Peak.{Scan, valueAt, border, inside, floorOf, highest, positives, isPeak}
-use Rattle.peaks.specs.Steps.{InsideBorder, Bordered, FirstIn, InRow}
+use Rattle.peaks.specs.Steps.{InsideBorder, Bordered}
 use Rattle.shapes.proofs.TestLaws.{both}
 
 pub lt-or-le : (a b : ℕ) → (a < b) ⊎ (b ≤ a)
 lt-or-le a zero = inr zero-le
 lt-or-le zero (suc b) = inl (suc-le-suc zero-le)
 lt-or-le (suc a) (suc b) = ⊎-elim (λ p. inl (suc-le-suc p)) (λ q. inr (suc-le-suc q)) (lt-or-le a b)
-
--- one more pixel is none
-pub no-more : (P : ℕ → Type 0) (start x : ℕ) → ((k : ℕ) → start ≤ k → k < x → P k) → P x → (k : ℕ) → start ≤ k → k < x + 1 → P k
-no-more P start x all here k h l = ⊎-elim (λ e. subst P (sym e) here) (λ m. all k h m) (eq-or-lt-of-le (let m : k ≤ x = omega arith in m))
 
 module _ (s : Scan) (x y : ℕ) where
   abbrev value : Float
@@ -75,9 +70,9 @@ module _ (s : Scan) (x y : ℕ) where
   unfolding inside
   inner-is a b c d = both (both (both (le-leb (border s) x a) (lt-ltb (x + border s) (s .width) b)) (le-leb (border s) y c)) (lt-ltb (y + border s) (s .height) d)
 
--- ---- a pixel between the borders
-pub within : {s : Scan} {floor : Float} {y start end : ℕ} → Bordered s floor y start end → (x : ℕ) → start ≤ x → x < end → InsideBorder s floor x y
-within {s} {floor} {y} {start} {end} b x h l =
+-- ---- a pixel inside the border
+pub within : {s : Scan} {floor : Float} {y start n : ℕ} → Bordered s floor y start n → (x : ℕ) → start ≤ x → x < start + n → InsideBorder s floor x y
+within {s} {floor} {y} {start} {n} b x h l =
     record {
       framed =
           record {
@@ -90,22 +85,3 @@ within {s} {floor} {y} {start} {end} b x h l =
       inner = inner-is s x y (let e = b .left in omega arith) (let e = b .right in omega arith) (b .above) (b .below);
       floor-is = b .floor-is;
     }
-
--- ---- the whole row
-module _ (s : Scan) (x y : ℕ) where
-  pub row-none : x ≤ s .width → ((k : ℕ) → isPeak s k y ≡ false) → InRow s x y (s .width)
-  row-none h all = record { low = h; passed = λ k u v. all k; most = omega arith; hit = λ l. absurd (let z : ⊥ = omega arith in z) }
-
-  -- what is left of the columns is outside the border
-  pub row-from : (start end r : ℕ) → end + border s ≡ s .width → FirstIn s start end y r → x ≤ start
-      → ((k : ℕ) → x ≤ k → k < start → isPeak s k y ≡ false) → InRow s x y r
-  row-from start end r e f h before =
-      record {
-        low = let l = f .low in omega arith;
-        passed = λ k u v. index-of k u v;
-        most = f .most;
-        hit = f .hit;
-      }
-    where
-      index-of : (k : ℕ) → x ≤ k → k < r → isPeak s k y ≡ false
-      index-of k u v = ⊎-elim (λ l. before k u l) (λ l. ⊎-elim (λ m. f .passed k l m v) (λ m. right-out s k y (omega (arith, m, e))) (lt-or-le k end)) (lt-or-le k start)

@@ -9,12 +9,12 @@ use lib.Dec.{ltb, eqb}
 use lib.ListN.{getD}
 use lib.Ieee.{Float, nan, lt, le}
 use borrow.Author.Tests.{lt-ltb, le-ltb, eq-eqb, ne-eqb}
-use Rattle.floats.proofs.OrderLaws.{lt-le, le-not-lt}
+use Rattle.floats.proofs.OrderLaws.{lt-le}
 use Rattle.shapes.specs.Numbers.{plusZero}
 use Rattle.shapes.specs.Tests.{every}
 use Rattle.peaks.specs.Peak.{Scan, valueAt, side, cells, middle, neighbour, count, beatsAt, beats, highest, positives}
 use Rattle.peaks.specs.Steps.{runAt, blockAt}
-use Rattle.shapes.proofs.TestLaws.{every-cut, every-same, every-miss}
+use Rattle.shapes.proofs.TestLaws.{every-cut, every-same}
 use Rattle.peaks.proofs.CountLaws.{count-cut, count-same, count-most}
 
 -- ---- the rule of the window, before and after the pixel
@@ -201,12 +201,6 @@ module _ (s : Scan) (x y : ℕ) (low : s .window ≤ x) (high : s .window ≤ y)
 
   pub won-by-below : beatsRight ≡ true → beatsLeft ≡ true → beatsAbove ≡ true → beatsBelow ≡ highest s x y
   won-by-below e f g = by-below beatsAbove beatsLeft beatsRight beatsBelow e f g ∙ sym highest-is
-
-  -- a pixel loses to one on its left, within the window, that it does not exceed
-  pub lost-behind : (k d : ℕ) → k + d ≡ x → 0 < d → d ≤ n → le value (getD (s .values) (y * s .width + k) nan) ≡ true → false ≡ highest s x y
-  lost-behind k d e h l b =
-      lost-left (every-miss (λ i. lt (runAt (s .values) (at - n) i) value) n (n - d) (omega arith)
-      (ap (λ (i : ℕ). lt (getD (s .values) i nan) value) (let q : at - n + (n - d) ≡ y * s .width + k = omega arith in q) ∙ le-not-lt value (getD (s .values) (y * s .width + k) nan) b))
 
   -- ---- the positive values of the window are those of the four pieces
   abbrev counted : ℕ → Bool

@@ -4,6 +4,7 @@ ghost use mathlib.Core.Bool.{_&&_};
 ghost use lib.Dec.{leb};
 ghost use Rattle.peaks.specs.Call.{Done};
 
+mod gather;
 mod scan;
 mod window;
 
@@ -26,8 +27,8 @@ struct Rule {
     cluster: u32,
 }
 
-// How many peaks were noted, and the pixel of the next one, or the end.
-struct Noted {
+// How many pixels are listed, and the pixel from which to go on.
+struct Listed {
     count: usize,
     at: usize,
 }

@@ -1,22 +1,23 @@
-// The scan: the next peak from a pixel on, and the loops that count and write with it. Pixels are named by their numbers in row order.
-use crate::Noted;
+// The scan: the peaks of a part of a row, and the loops that note, count and write with it. Pixels are named by their numbers in row order.
+use crate::Listed;
 use crate::Peaks;
 use crate::Rule;
+use crate::gather;
 use crate::window;
 use corners::Corner;
 use refusals::Refusal;
 ghost use mathlib.Core.Path.{_≡_};
 ghost use mathlib.Core.Bool.{cond};
-ghost use mathlib.Core.List.{List, _++_};
+ghost use mathlib.Core.List.{List};
 ghost use Prim.Native.Nat.{_+_, _-_, _*_, _≤_, _<_};
 ghost use lib.IntN.{pos};
 ghost use lib.ListN.{length, take, drop};
 ghost use lib.Ieee.{Float, lt, ofInt, binary32};
 ghost use Rattle.shapes.specs.Numbers.{plusZero};
 ghost use Rattle.corners.specs.Corners.{corner, recorded};
-ghost use Rattle.peaks.specs.Peak.{border, isPeak};
-ghost use Rattle.peaks.specs.Call.{peaksOf, recordsOf};
-ghost use Rattle.peaks.specs.Steps.{scanOf, Sound, Bordered, InsideBorder, Ahead, Low, FirstIn, InRow, Next, Stands, Listed, Noteworthy, Tallied, Written, allRecorded, Recorded};
+ghost use Rattle.peaks.specs.Peak.{isPeak};
+ghost use Rattle.peaks.specs.Call.{peakAt, peaksOf};
+ghost use Rattle.peaks.specs.Steps.{scanOf, Sound, Limited, mostOf, Bordered, InsideBorder, between, picked, Added, Within, Part, Noted, Stands, Pixels, Follow, Written, allRecorded, Recorded};
 
 // max(threshold, 0).
 fn floor_of(threshold: f32) -> f32
@@ -25,17 +26,16 @@ fn floor_of(threshold: f32) -> f32
     if 0.0 < threshold { threshold } else { 0.0 }
 }
 
-// Whether the pixel (x, y), inside the border, is a peak; it beats the first `run` values on its right. The rest of its window is read only
-// where those are all.
-fn is_peak(response: &[f32], rule: Rule, floor: f32, run: usize, x: usize, y: usize) -> bool
-    requires { ⌜ InsideBorder (scanOf (now response) rule) floor x y ⌝ ∗ ⌜ Ahead (scanOf (now response) rule) x y run ⌝ }
+// Whether the pixel (x, y), inside the border, is a peak. The rest of its window is read only where it beats all on its right.
+fn is_peak(response: &[f32], rule: Rule, floor: f32, x: usize, y: usize) -> bool
+    requires { ⌜ InsideBorder (scanOf (now response) rule) floor x y ⌝ }
     ensures { λ r. ⌜ r ≡ isPeak (scanOf (now (response .entry)) rule) x y ⌝ }
 {
-    if run < rule.window {
+    let at = y * rule.width + x;
+    let v = response[at];
+    if !window::beats_run(response, at + 1, rule.window, v, false) {
         return false;
     }
-    let width = rule.width;
-    let v = response[y * width + x];
     if floor < v {
         if window::is_highest(response, rule, x, y) {
             return window::has_cluster(response, rule, x, y);
@@ -45,185 +45,169 @@ fn is_peak(response: &[f32], rule: Rule, floor: f32, run: usize, x: usize, y: us
     false
 }
 
-// i for a value above the floor, else what was found before.
-fn nearer(floor: f32, w: f32, i: usize, found: usize) -> usize
-    ensures { λ r. ⌜ r ≡ cond (lt floor w) i found ⌝ }
+// 1 for a test that holds.
+fn one_if(test: bool) -> usize
+    ensures { λ r. ⌜ r ≡ cond test 1 0 ⌝ }
 {
-    if floor < w { i } else { found }
+    if test { 1 } else { 0 }
 }
 
-// The first of the eight values from `start` on that exceeds the floor, or 8. It is sought from the last one on, so that nothing branches.
-fn first_of_eight(response: &[f32], start: usize, floor: f32) -> usize
-    requires { ⌜ start + 8 ≤ length (now response) ⌝ }
-    ensures { λ r. ⌜ (r ≤ 8) × Low (now (response .entry)) floor start 0 r ⌝ }
+// Of the pixels listed from `first` up to `last`, which are of row y and inside the border, keeps the peaks.
+fn keep(
+    response: &[f32],
+    rule: Rule,
+    floor: f32,
+    y: usize,
+    first: usize,
+    last: usize,
+    list: &mut [u32; 1280],
+) -> usize
+    requires { ⌜ Within (scanOf (now response) rule) floor y (now list) first last ⌝ }
+    ensures { λ r. ⌜ Added (now (list .entry)) (now (list .exit)) first r (picked (drop first (take last (now (list .entry)))) (peakAt (scanOf (now (response .entry)) rule))) ⌝ }
 {
-    let mut found = 8;
-    let mut i = 8;
-    while 0 < i {
-        i -= 1;
-        found = nearer(floor, response[start + i], i, found);
+    let row = y * rule.width;
+    let mut count = first;
+    let mut i = first;
+    while i < last {
+        let k = list[i];
+        list[count] = k;
+        count += one_if(is_peak(response, rule, floor, k as usize - row, y));
+        i += 1;
     }
-    found
+    count
 }
 
-// The first value from column x on, short of `end`, that exceeds the floor. Where such values lie close, that is x itself.
-fn next_above(response: &[f32], floor: f32, base: usize, x: usize, end: usize) -> usize
-    requires { ⌜ (base + end ≤ length (now response)) × (x ≤ 8192) × (end ≤ 4096) ⌝ }
-    ensures { λ r. ⌜ Low (now (response .entry)) floor base x r ⌝ }
+// Lists the peaks of n columns of row y from `start` on, which are inside the border, after the first m of the list.
+fn list_columns(
+    response: &[f32],
+    rule: Rule,
+    floor: f32,
+    y: usize,
+    start: usize,
+    n: usize,
+    m: usize,
+    list: &mut [u32; 1280],
+) -> usize
+    requires { ⌜ Bordered (scanOf (now response) rule) floor y start n ⌝ ∗ ⌜ (m ≤ 1024) × (length (now list) ≡ 1280) ⌝ }
+    ensures { λ r. ⌜ Added (now (list .entry)) (now (list .exit)) m r (between (y * rule .width + start) n (peakAt (scanOf (now (response .entry)) rule))) ⌝ }
 {
-    if x < end {
-        if floor < response[base + x] {
-            return x;
-        }
-    }
-    seek(response, floor, base, x, end)
+    let last = gather::gather(response, floor, y * rule.width + start, n, m, list);
+    keep(response, rule, floor, y, m, last, list)
 }
 
-// The same, eight columns at a time.
-fn seek(response: &[f32], floor: f32, base: usize, x: usize, end: usize) -> usize
-    requires { ⌜ (base + end ≤ length (now response)) × (x ≤ 8192) × (end ≤ 4096) ⌝ }
-    ensures { λ r. ⌜ Low (now (response .entry)) floor base x r ⌝ }
-{
-    let mut k = x;
-    while k + 8 <= end {
-        if 0 < window::above_run(response, base + k, 8, floor) {
-            return k + first_of_eight(response, base + k, floor);
-        }
-        k += 8;
-    }
-    seek_slowly(response, floor, base, k, end)
-}
-
-// The same one column at a time.
-fn seek_slowly(response: &[f32], floor: f32, base: usize, x: usize, end: usize) -> usize
-    requires { ⌜ base + end ≤ length (now response) ⌝ }
-    ensures { λ r. ⌜ Low (now (response .entry)) floor base x r ⌝ }
-{
-    let mut k = x;
-    while k < end {
-        if floor < response[base + k] {
-            return k;
-        }
-        k += 1;
-    }
-    k
-}
-
-// The first peak of row y of the columns from `from` up to `end`, which are inside the border; the width where there is none.
-// A value that beats a run on its right lets none of that run be a peak: the run is passed over.
-fn first_in(response: &[f32], rule: Rule, floor: f32, y: usize, from: usize, end: usize) -> usize
-    requires { ⌜ Bordered (scanOf (now response) rule) floor y from end ⌝ }
-    ensures { λ r. ⌜ FirstIn (scanOf (now (response .entry)) rule) from end y r ⌝ }
-{
-    let window = rule.window;
-    let base = y * rule.width;
-    let mut x = next_above(response, floor, base, from, end);
-    while x < end {
-        let v = response[base + x];
-        let run = window::run_ahead(response, base + x + 1, window, v);
-        if is_peak(response, rule, floor, run, x, y) {
-            return x;
-        }
-        x = next_above(response, floor, base, x + run + 1, end);
-    }
-    rule.width
-}
-
-// The first peak of row y from column x on, or the width.
-fn first_in_row(response: &[f32], rule: Rule, x: usize, y: usize) -> usize
-    requires { ⌜ Sound (scanOf (now response) rule) ⌝ ∗ ⌜ (x ≤ rule .width) × (y < rule .height) ⌝ }
-    ensures { λ r. ⌜ InRow (scanOf (now (response .entry)) rule) x y r ⌝ }
-{
-    let border = rule.ring + rule.window + rule.refine;
-    if y < border {
-        return rule.width;
-    }
-    if rule.height <= y + border {
-        return rule.width;
-    }
-    if rule.width <= border {
-        return rule.width;
-    }
-    let end = rule.width - border;
-    let floor = floor_of(rule.threshold);
-    if x < border {
-        return first_in(response, rule, floor, y, border, end);
-    }
-    first_in(response, rule, floor, y, x, end)
-}
-
-// The first peak from the pixel `from` on, or the number of pixels.
-fn next_peak(response: &[f32], rule: Rule, from: usize) -> usize
-    requires { ⌜ Sound (scanOf (now response) rule) ⌝ ∗ ⌜ from ≤ length (now response) ⌝ }
-    ensures { λ r. ⌜ Next (scanOf (now (response .entry)) rule) from r ⌝ }
+// Lists the peaks from the pixel k on, of at most 256 columns of its row, after the first m of the list.
+fn list_from(response: &[f32], rule: Rule, k: usize, m: usize, list: &mut [u32; 1280]) -> Listed
+    requires { ⌜ Sound (scanOf (now response) rule) ⌝ ∗ ⌜ (k < length (now response)) × (m ≤ 1024) × (length (now list) ≡ 1280) ⌝ }
+    ensures { λ r. ⌜ Part (scanOf (now (response .entry)) rule) (now (list .entry)) (now (list .exit)) k m (r .count) (r .at) ⌝ }
 {
     let width = rule.width;
-    let mut y = from / width;
-    let mut x = from % width;
-    while y < rule.height {
-        let found = first_in_row(response, rule, x, y);
-        if found < width {
-            return y * width + found;
-        }
-        x = 0;
-        y += 1;
+    let border = rule.ring + rule.window + rule.refine;
+    let y = k / width;
+    let x = k % width;
+    let row = y * width;
+    let next = row + width;
+    if y < border {
+        return Listed { count: m, at: next };
     }
-    response.len()
+    if rule.height <= y + border {
+        return Listed { count: m, at: next };
+    }
+    if width <= x + border {
+        return Listed { count: m, at: next };
+    }
+    if x < border {
+        return Listed {
+            count: m,
+            at: row + border,
+        };
+    }
+    let floor = floor_of(rule.threshold);
+    let n = width - border - x;
+    if n <= 256 {
+        let count = list_columns(response, rule, floor, y, x, n, m, list);
+        return Listed { count, at: next };
+    }
+    let count = list_columns(response, rule, floor, y, x, 256, m, list);
+    Listed { count, at: k + 256 }
 }
 
-// Writes the records of all peaks where there is room for them. The first peaks are noted, so that they are sought once; those past the notes are
-// sought again.
+// The columns or rows inside the border.
+fn inner(size: usize, border: usize) -> usize
+    requires { ⌜ border ≤ 25 ⌝ }
+    ensures { λ r. ⌜ r ≡ size - 2 * border ⌝ }
+{
+    if size <= 2 * border {
+        0
+    } else {
+        size - 2 * border
+    }
+}
+
+// No more peaks than squares of side window + 1 cover the pixels inside the border: no two peaks lie in one.
+fn most_peaks(rule: Rule) -> usize
+    requires { ⌜ Limited rule ⌝ }
+    ensures { λ r. ⌜ r ≡ mostOf rule ⌝ }
+{
+    let border = rule.ring + rule.window + rule.refine;
+    let across = (inner(rule.width, border) + rule.window) / (rule.window + 1);
+    let down = (inner(rule.height, border) + rule.window) / (rule.window + 1);
+    across * down
+}
+
+// Writes the records of all peaks where there is room for them. Where there is room for any number, the peaks are sought once; else the first are
+// noted while they are counted, and those past the notes are sought again.
 pub fn record_all(response: &[f32], rule: Rule, out: &mut [f32]) -> Peaks
     requires { ⌜ Sound (scanOf (now response) rule) ⌝ }
     ensures { λ r. ⌜ Recorded (scanOf (now (response .entry)) rule) (now (out .entry)) r (now (out .exit)) ⌝ }
 {
     let room = out.len() / 3;
-    let mut notes = [0u32; 4096];
-    let noted = note(response, rule, &mut notes);
+    let mut list = [0u32; 1280];
+    if most_peaks(rule) <= room {
+        let count = write(response, rule, 0, 0, &mut list, out);
+        return Peaks::Found(count);
+    }
+    let noted = note(response, rule, &mut list);
     let n = noted.count;
     let at = noted.at;
-    let count = tally(response, rule, room, n, at);
-    if room < count {
+    if room < tally(response, rule, n, at, &mut list) {
         return Peaks::Refused(Refusal::TooMany);
     }
-    write_noted(response, rule, &notes, n, out);
-    write(response, rule, n, at, out);
+    write_listed(response, rule, &list, n, 0, out);
+    let count = write(response, rule, n, at, &mut list, out);
     Peaks::Found(count)
 }
 
-// Notes the numbers of the first peaks, as many as there are notes.
-fn note(response: &[f32], rule: Rule, notes: &mut [u32; 4096]) -> Noted
-    requires { ⌜ Sound (scanOf (now response) rule) ⌝ ∗ ⌜ length (now notes) ≡ 4096 ⌝ }
-    ensures { λ r. ⌜ Listed (scanOf (now (response .entry)) rule) (now (notes .exit)) (r .count) (r .at) ⌝ }
+// Lists the first peaks, up to 1,024.
+fn note(response: &[f32], rule: Rule, list: &mut [u32; 1280]) -> Listed
+    requires { ⌜ Sound (scanOf (now response) rule) ⌝ ∗ ⌜ length (now list) ≡ 1280 ⌝ }
+    ensures { λ r. ⌜ Noted (scanOf (now (response .entry)) rule) (now (list .exit)) (r .count) (r .at) ⌝ }
 {
     let size = response.len();
     let mut count = 0;
-    let mut at = next_peak(response, rule, 0);
+    let mut at = 0;
     while at < size {
-        if count == 4096 {
-            return Noted { count, at };
+        if 768 < count {
+            return Listed { count, at };
         }
-        notes[count] = at as u32;
-        count += 1;
-        at = next_peak(response, rule, at + 1);
+        let part = list_from(response, rule, at, count, list);
+        count = part.count;
+        at = part.at;
     }
-    Noted { count, at }
+    Listed { count, at }
 }
 
-// How many peaks there are: n before the pixel `from`, and then on until they are more than the room for them.
-fn tally(response: &[f32], rule: Rule, room: usize, n: usize, from: usize) -> usize
-    requires { ⌜ Sound (scanOf (now response) rule) ⌝ ∗ ⌜ Stands (scanOf (now response) rule) n from ⌝ }
-    ensures { λ r. ⌜ Tallied (scanOf (now (response .entry)) rule) room r ⌝ }
+// How many peaks there are, n of them before the pixel `from`. The first n of the list stay.
+fn tally(response: &[f32], rule: Rule, n: usize, from: usize, list: &mut [u32; 1280]) -> usize
+    requires { ⌜ Sound (scanOf (now response) rule) ⌝ ∗ ⌜ Stands (scanOf (now response) rule) n from ⌝ ∗ ⌜ (n ≤ 1024) × (length (now list) ≡ 1280) ⌝ }
+    ensures { λ r. ⌜ (r ≡ length (peaksOf (scanOf (now (response .entry)) rule))) × (take n (now (list .exit)) ≡ take n (now (list .entry))) × (length (now (list .exit)) ≡ 1280) ⌝ }
 {
     let size = response.len();
     let mut count = n;
     let mut at = from;
     while at < size {
-        count += 1;
-        if room < count {
-            return count;
-        }
-        at = next_peak(response, rule, at + 1);
+        let part = list_from(response, rule, at, n, list);
+        count += part.count - n;
+        at = part.at;
     }
     count
 }
@@ -238,31 +222,47 @@ fn put(out: &mut [f32], n: usize, x: usize, y: usize, v: f32)
     corners::put(out, n, Corner { x, y, strength: v });
 }
 
-// Writes the records of the first n pixels noted.
-fn write_noted(response: &[f32], rule: Rule, notes: &[u32; 4096], n: usize, out: &mut [f32])
-    requires { ⌜ Sound (scanOf (now response) rule) ⌝ ∗ ⌜ Noteworthy (scanOf (now response) rule) (now notes) n ⌝ ∗ ⌜ 3 * n ≤ length (now out) ⌝ }
-    ensures { λ _. ⌜ now (out .exit) ≡ recordsOf (scanOf (now (response .entry)) rule) (take n (now (notes .entry))) ++ drop (3 * n) (now (out .entry)) ⌝ }
+// Writes the records of the first `count` pixels listed, after the first n records.
+fn write_listed(
+    response: &[f32],
+    rule: Rule,
+    list: &[u32; 1280],
+    count: usize,
+    n: usize,
+    out: &mut [f32],
+)
+    requires { ⌜ Sound (scanOf (now response) rule) ⌝ ∗ ⌜ Pixels (scanOf (now response) rule) (now list) count ⌝ ∗ ⌜ 3 * (n + count) ≤ length (now out) ⌝ }
+    ensures { λ _. ⌜ Follow (scanOf (now (response .entry)) rule) (take count (now (list .entry))) count n (now (out .entry)) (now (out .exit)) ⌝ }
 {
     let mut i = 0;
-    while i < n {
-        let k = notes[i] as usize;
-        put(out, i, k % rule.width, k / rule.width, response[k]);
+    while i < count {
+        let k = list[i] as usize;
+        put(out, n + i, k % rule.width, k / rule.width, response[k]);
         i += 1;
     }
 }
 
-// Writes the records of the peaks from the pixel `from` on, after those of the first n; there is room for all.
-fn write(response: &[f32], rule: Rule, first: usize, from: usize, out: &mut [f32])
-    requires { ⌜ Sound (scanOf (now response) rule) ⌝ ∗ ⌜ Stands (scanOf (now response) rule) first from ⌝ ∗ ⌜ 3 * length (peaksOf (scanOf (now response) rule)) ≤ length (now out) ⌝ }
-    ensures { λ _. ⌜ ((o : List Float) → length o ≡ length (now (out .entry)) → Written (scanOf (now (response .entry)) rule) o first from (now (out .entry)) → now (out .exit) ≡ allRecorded (scanOf (now (response .entry)) rule) o) ⌝ }
+// Writes the records of the peaks from the pixel `from` on, after those of the first n; there is room for all. Answers how many peaks there are.
+fn write(
+    response: &[f32],
+    rule: Rule,
+    n: usize,
+    from: usize,
+    list: &mut [u32; 1280],
+    out: &mut [f32],
+) -> usize
+    requires { ⌜ Sound (scanOf (now response) rule) ⌝ ∗ ⌜ Stands (scanOf (now response) rule) n from ⌝ ∗ ⌜ (3 * length (peaksOf (scanOf (now response) rule)) ≤ length (now out)) × (length (now list) ≡ 1280) ⌝ }
+    ensures { λ r. ⌜ (r ≡ length (peaksOf (scanOf (now (response .entry)) rule))) × ((o : List Float) → length o ≡ length (now (out .entry)) → Written (scanOf (now (response .entry)) rule) o n from (now (out .entry)) → now (out .exit) ≡ allRecorded (scanOf (now (response .entry)) rule) o) ⌝ }
 {
     let size = response.len();
-    let width = rule.width;
-    let mut n = first;
+    let mut total = n;
     let mut at = from;
     while at < size {
-        put(out, n, at % width, at / width, response[at]);
-        n += 1;
-        at = next_peak(response, rule, at + 1);
+        let part = list_from(response, rule, at, 0, list);
+        let count = part.count;
+        write_listed(response, rule, list, count, total, out);
+        total += count;
+        at = part.at;
     }
+    total
 }

@@ -9,7 +9,7 @@ ghost use lib.ListN.{length};
 ghost use lib.Ieee.{lt};
 ghost use Rattle.shapes.specs.Tests.{every};
 ghost use Rattle.peaks.specs.Peak.{beatsAt, count, highest, positives};
-ghost use Rattle.peaks.specs.Steps.{scanOf, runAt, blockAt, BlockFits, Beaten, Framed, Right};
+ghost use Rattle.peaks.specs.Steps.{scanOf, runAt, blockAt, BlockFits, Framed, Right};
 
 // Whether the pixel's value v beats another value w of its window: an earlier one in row order strictly.
 fn beats(v: f32, w: f32, earlier: bool) -> bool
@@ -19,7 +19,7 @@ fn beats(v: f32, w: f32, earlier: bool) -> bool
 }
 
 // Whether v beats the n values from `start` on, all of them earlier ones or all later.
-fn beats_run(response: &[f32], start: usize, n: usize, v: f32, earlier: bool) -> bool
+pub fn beats_run(response: &[f32], start: usize, n: usize, v: f32, earlier: bool) -> bool
     requires { ⌜ start + n ≤ length (now response) ⌝ }
     ensures { λ r. ⌜ r ≡ every n (λ i. beatsAt earlier v (runAt (now (response .entry)) start i)) ⌝ }
 {
@@ -54,21 +54,6 @@ fn beats_rows(
         r += 1;
     }
     true
-}
-
-// How many of the n later values from `start` on v beats, one after the other.
-pub fn run_ahead(response: &[f32], start: usize, n: usize, v: f32) -> usize
-    requires { ⌜ start + n ≤ length (now response) ⌝ }
-    ensures { λ r. ⌜ Beaten (now (response .entry)) start n v r ⌝ }
-{
-    let mut i = 0;
-    while i < n {
-        if !beats(v, response[start + i], false) {
-            return i;
-        }
-        i += 1;
-    }
-    n
 }
 
 // Whether the pixel (x, y), which beats all on its right, beats every other value of its window too.

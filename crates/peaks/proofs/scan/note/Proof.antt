@@ -1,61 +1,40 @@
--- `peaks::scan::note` meets its contract: the numbers of the peaks before `at` are noted.
-use mathlib.Core.Path.{_≡_, _∙_}
-use Prim.Native.Nat.{zero-le, _-_}
+-- `peaks::scan::note` meets its contract: the peaks before `at` are listed.
+use Prim.Native.Nat.{_-_}
 use native.Mathlib.Omega.{arith}
-use lib.ListN.{length, length-set}
-use Rattle.peaks.specs.Steps.{scanOf, Listed}
-use Rattle.peaks.proofs.FrameLaws.{size-most}
-use Rattle.peaks.proofs.ChosenLaws.{listed-none, listed-more}
+use lib.ListN.{length}
+use Rattle.peaks.specs.Steps.{scanOf, Noted}
+use Rattle.peaks.proofs.ChosenLaws.{noted-first, noted-next}
 use Rattle.peaks.proofs.scan.note.Statement.{statement}
 use Rattle.peaks.proofs.scan.note.Tie as tie
 
 abbrev Inv-loop : tie.InvT-loop
-Inv-loop response rule notes₀ size count₀ at₀ notes count at = (length notes ≡ 4096) × Listed (scanOf response rule) notes count at
+Inv-loop response rule list₀ size count₀ at₀ list count at = Noted (scanOf response rule) list count at
 
 abbrev μ-loop : tie.MeasureT-loop
-μ-loop response rule notes₀ size count₀ at₀ notes count at = length response - at
-
-next-peak-requires : tie.Need-next-peak-requires Inv-loop μ-loop
-next-peak-requires c κs = (c .before .pre .0, zero-le)
+μ-loop response rule list₀ size count₀ at₀ list count at = length response - at
 
 loop-holds : tie.Need-loop-holds Inv-loop μ-loop
-loop-holds c = let a = c .before .before .args in (c .before .before .pre .1, listed-none (scanOf (a .response .now) (a .rule)) (a .notes .now) (c .next-peak .ensures))
+loop-holds c = let a = c .before .args in noted-first (scanOf (a .response .now) (a .rule)) (a .list .now) (c .before .pre .1)
 
 returns : tie.Need-returns Inv-loop μ-loop
-returns c = c .before .before .loop .inv .1
+returns c = c .before .before .loop .inv
 
-cast-notes : tie.Need-cast-notes Inv-loop μ-loop
-cast-notes c = let a = c .before .before .before .before .before .args in omega (arith, size-most (scanOf (a .response .now) (a .rule)) (c .before .before .before .before .before .pre .0))
-
-mul-notes : tie.Need-mul-notes Inv-loop μ-loop
-mul-notes c = let h = c .before .before .loop .inv .1 .most in omega arith
-
-element-write-notes : tie.Need-element-write-notes Inv-loop μ-loop
-element-write-notes c = let h = c .before .before .loop .inv .1 .most in omega arith
-
-add-count : tie.Need-add-count Inv-loop μ-loop
-add-count c = let h = c .before .before .loop .inv .1 .most in omega arith
-
-add-next-peak : tie.Need-add-next-peak Inv-loop μ-loop
-add-next-peak c = omega arith
-
-next-peak-requires-2 : tie.Need-next-peak-requires-2 Inv-loop μ-loop
-next-peak-requires-2 c κs = (c .before .before .before .before .before .pre .0, omega arith)
+list-from-requires : tie.Need-list-from-requires Inv-loop μ-loop
+list-from-requires c κs = let l = c .before .before .before .loop in (c .before .before .before .before .before .pre .0, (c .before .before .loop-test .taken, l .inv .most, l .inv .long))
 
 loop-less : tie.Need-loop-less Inv-loop μ-loop
-loop-less c = let m = c .next-peak2 .ensures .low in omega arith
+loop-less c = let m = c .list-from .ensures .on in let t = c .before .before .before .loop-test .taken in omega arith
 
 loop-again : tie.Need-loop-again Inv-loop μ-loop
 loop-again c =
     let a = c .before .before .before .before .before .before .args in
-    let l = c .before .before .before .loop in
-    let h = l .inv .1 .most in (
-      length-set (l .notes) (l .count) (l .at) ∙ l .inv .0,
-      listed-more (scanOf (a .response .now) (a .rule)) (l .notes) (l .count) (l .at) (l .inv .1) (omega arith) (omega (arith, l .inv .0)) (c .before .before .loop-test .taken) (c .next-peak2 .ensures),
-    )
+    let f = c .before .before .before .before .before .before .pre in
+    let l = c .before .before .before .before .loop in
+    let p = c .list-from .ensures in
+    noted-next (scanOf (a .response .now) (a .rule)) p (l .inv) (c .before .before .if1 .left)
 
 returns-2 : tie.Need-returns-2 Inv-loop μ-loop
-returns-2 c = c .before .loop .inv .1
+returns-2 c = c .before .loop .inv
 
 pub note-spec : {M : Type 1} → statement M
 note-spec =
@@ -63,15 +42,9 @@ note-spec =
     (tie.spec
     Inv-loop
     μ-loop
-    next-peak-requires
     loop-holds
     returns
-    cast-notes
-    mul-notes
-    element-write-notes
-    add-count
-    add-next-peak
-    next-peak-requires-2
+    list-from-requires
     loop-less
     loop-again
     returns-2)

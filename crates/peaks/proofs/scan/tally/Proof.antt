@@ -1,57 +1,59 @@
--- `peaks::scan::tally` meets its contract: `count` peaks lie before the pixel `at`, which is one too, or the end.
-use mathlib.Core.Path.{subst}
-use Prim.Native.Nat.{ℕ, _-_, _<_}
+-- `peaks::scan::tally` meets its contract: `count` peaks lie before the pixel `at`.
+use mathlib.Core.Path.{_≡_, refl, _∙_}
+use Prim.Native.Nat.{_-_}
 use native.Mathlib.Omega.{arith}
-use lib.ListN.{length}
+use lib.ListN.{length, take}
 use Rattle.peaks.specs.Steps.{scanOf, Stands}
-use Rattle.peaks.proofs.ChosenLaws.{at-next, before-most, one-left, none-left}
+use Rattle.peaks.proofs.FrameLaws.{size-most}
+use Rattle.peaks.proofs.ListLaws.{added-front}
+use Rattle.peaks.proofs.ChosenLaws.{stands-next, stands-most, stands-last}
 use Rattle.peaks.proofs.scan.tally.Statement.{statement}
 use Rattle.peaks.proofs.scan.tally.Tie as tie
 
 abbrev Inv-loop : tie.InvT-loop
-Inv-loop response rule room n from size count₀ at₀ count at = Stands (scanOf response rule) count at
+Inv-loop response rule n from list₀ size count₀ at₀ list count at = (length list ≡ 1280) × Stands (scanOf response rule) count at × (take n list ≡ take n list₀)
 
 abbrev μ-loop : tie.MeasureT-loop
-μ-loop response rule room n from size count₀ at₀ count at = length response - at
+μ-loop response rule n from list₀ size count₀ at₀ list count at = length response - at
 
 loop-holds : tie.Need-loop-holds Inv-loop μ-loop
-loop-holds c = c .before .pre .1
+loop-holds c = let f = c .before .pre in (f .1 .1 .1, f .1 .0, refl)
+
+list-from-requires : tie.Need-list-from-requires Inv-loop μ-loop
+list-from-requires c κs = let l = c .before .before .loop in let f = c .before .before .before .before .pre in (f .0, (c .before .loop-test .taken, f .1 .1 .0, l .inv .0))
+
+sub-count : tie.Need-sub-count Inv-loop μ-loop
+sub-count c =
+    let a = c .before .before .before .before .before .before .args in
+    let f = c .before .before .before .before .before .before .pre in
+    let l = c .before .before .before .before .loop in
+    omega (arith, stands-next (scanOf (a .response .now) (a .rule)) (c .before .list-from .ensures) (l .count) (l .inv .1) .0)
 
 add-count : tie.Need-add-count Inv-loop μ-loop
 add-count c =
-    let a = c .before .before .before .args in
-    let l = c .before .loop in
-    omega (arith, before-most (scanOf (a .response .now) (a .rule)) (l .count) (l .at) (l .inv))
-
-returns : tie.Need-returns Inv-loop μ-loop
-returns c =
-    let a = c .before .before .before .before .args in
-    let l = c .before .before .loop in
-    let m = one-left (scanOf (a .response .now) (a .rule)) (l .count) (l .at) (c .before .before .before .before .pre .0) (l .inv) (c .before .loop-test .taken) in
-    let t = c .if1 .taken in
-    record { few = λ h. absurd (let z : ⊥ = omega arith in z); many = λ h. omega arith }
-
-add-next-peak : tie.Need-add-next-peak Inv-loop μ-loop
-add-next-peak c = omega arith
-
-next-peak-requires : tie.Need-next-peak-requires Inv-loop μ-loop
-next-peak-requires c κs = (c .before .before .before .before .pre .0, omega arith)
+    let a = c .before .before .before .before .before .before .args in
+    let f = c .before .before .before .before .before .before .pre in
+    let l = c .before .before .before .before .loop in
+    let s = scanOf (a .response .now) (a .rule) in
+    omega (arith, stands-most s (stands-next s (c .before .list-from .ensures) (l .count) (l .inv .1) .1), size-most s (f .0))
 
 loop-less : tie.Need-loop-less Inv-loop μ-loop
-loop-less c = let m = c .next-peak .ensures .low in omega arith
+loop-less c = let m = c .before .list-from .ensures .on in let t = c .before .before .before .loop-test .taken in omega arith
 
 loop-again : tie.Need-loop-again Inv-loop μ-loop
 loop-again c =
-    let a = c .before .before .before .before .before .args in
-    let l = c .before .before .before .loop in
-    at-next (scanOf (a .response .now) (a .rule)) (l .count) (l .at) (l .inv) (c .before .before .loop-test .taken) (c .next-peak .ensures)
+    let a = c .before .before .before .before .before .before .args in
+    let f = c .before .before .before .before .before .before .pre in
+    let l = c .before .before .before .before .loop in
+    let p = c .before .list-from .ensures in
+    (p .added .long ∙ l .inv .0, stands-next (scanOf (a .response .now) (a .rule)) p (l .count) (l .inv .1) .1, added-front (p .added) ∙ l .inv .2)
 
-returns-2 : tie.Need-returns-2 Inv-loop μ-loop
-returns-2 c =
+returns : tie.Need-returns Inv-loop μ-loop
+returns c =
     let a = c .before .before .before .args in
+    let f = c .before .before .before .pre in
     let l = c .before .loop in
-    let e = none-left (scanOf (a .response .now) (a .rule)) (l .count) (l .at) (c .before .before .before .pre .0) (l .inv) (c .loop-test .left) in
-    record { few = λ h. e; many = λ h. subst (λ (n : ℕ). a .room < n) e h }
+    (stands-last (scanOf (a .response .now) (a .rule)) (l .count) (l .at) (f .0) (l .inv .1) (c .loop-test .left), l .inv .2, l .inv .0)
 
 pub tally-spec : {M : Type 1} → statement M
 tally-spec =
@@ -60,10 +62,9 @@ tally-spec =
     Inv-loop
     μ-loop
     loop-holds
+    list-from-requires
+    sub-count
     add-count
-    returns
-    add-next-peak
-    next-peak-requires
     loop-less
     loop-again
-    returns-2)
+    returns)
