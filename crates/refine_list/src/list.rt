@@ -1,4 +1,4 @@
-// The list itself: one operator for all seeds.
+// The list itself: the columns of one operator for all seeds.
 ghost use mathlib.Core.Path.{_≡_};
 ghost use mathlib.Core.List.{_∷_, [], _++_};
 ghost use Prim.Native.Nat.{_+_, _*_, _/_, _<_, _≤_};
@@ -25,8 +25,7 @@ pub fn refine_list(
     ensures { λ n. ⌜ AllWritten (imageOf (now (img .entry)) sizes) cfg (now (corners .entry)) (now (out .entry)) n (now (out .exit)) ⌝ }
 {
     let mut columns = [0.0f32; 1125];
-    let mut overlap = [0.0f32; 225];
-    let operator = refine_operator::fit_operator(cfg.radius, &mut columns, &mut overlap);
+    let operator = refine_operator::fit_columns(cfg.radius, &mut columns);
     match operator {
         Operator::Built => refine_all(img, sizes, cfg, &columns, corners, out),
         Operator::Singular => 0,

@@ -1,19 +1,20 @@
--- Laws of the basis: the offset as a signed difference, the regressors from the fifth on, and where a sample's column and row lie.
+-- Laws of the basis: the offset as a signed difference, the regressors of a sample, and how many samples there are.
 use mathlib.Core.Path.{_≡_, refl, sym, ap, _∙_, subst}
 use mathlib.Core.Bool.{Bool, true, false, cond}
-use Prim.Native.Nat.{ℕ, zero, suc, _-_, _/_, _%_, _≤_, _<_}
-use native.Mathlib.Nat.{mod-lt, mul-le-mul, div-lt-iff-lt-mul, add-zero, sub-zero, le-trans}
+use Prim.Native.Nat.{ℕ, zero, suc, _-_, _≤_, _<_}
+use native.Mathlib.Nat.{mul-le-mul, add-zero, sub-zero, le-trans}
 use native.Mathlib.Omega.{arith}
 use lib.Dec.{ltb}
 use lib.IntN.{ℤ, pos, negsuc, subℕ, _-ℤ_}
 use lib.Signed.{mag}
-use lib.Ieee.{Float}
+use lib.Ieee.{Float, binary32, mul}
 use mir.Syntax.{w32}
 use mir.Val.{SFits, toZ}
 use mir.ValLaws.{toZ-pos}
 use borrow.Author.Tests.{le-ltb}
 use Rattle.shapes.specs.Numbers.{one}
-use Rattle.refine_operator.specs.Basis.{side, samples, quadraticBasis}
+use Rattle.refine_operator.specs.Steps.{phiAt}
+use Rattle.refine_operator.specs.Basis.{side, samples, offset}
 
 -- ---- the offset
 minus-is : (a b : ℕ) → pos a -ℤ pos b ≡ subℕ a b
@@ -34,20 +35,17 @@ pub difference-fits : (a b : ℕ) → a ≤ 14 → b ≤ 7 → SFits w32 (toZ w3
 difference-fits a b p q = record { sfits = subst (λ (z : ℤ). mag z < 0x8000_0000) (sym (difference a b p q)) (sub-small a b 0x8000_0000 (omega arith) (omega arith)) }
 
 -- ---- the regressors
-pub last-basis : (j : ℕ) (x y : Float) → 5 ≤ j → quadraticBasis j x y ≡ one
-last-basis zero x y h = absurd (let z : ⊥ = omega arith in z)
-last-basis (suc zero) x y h = absurd (let z : ⊥ = omega arith in z)
-last-basis (suc (suc zero)) x y h = absurd (let z : ⊥ = omega arith in z)
-last-basis (suc (suc (suc zero))) x y h = absurd (let z : ⊥ = omega arith in z)
-last-basis (suc (suc (suc (suc zero)))) x y h = absurd (let z : ⊥ = omega arith in z)
-last-basis (suc (suc (suc (suc (suc j))))) x y h = refl
+pub phi-is : (radius x y : ℕ) (u v a b c d e : Float) → u ≡ offset radius x → v ≡ offset radius y → a ≡ mul binary32 u u → b ≡ mul binary32 u v → c ≡ mul binary32 v v → d ≡ u → e ≡ v
+    → record { a = a; b = b; c = c; d = d; e = e; f = one } ≡ phiAt radius x y
+phi-is radius x y u v a b c d e hu hv ha hb hc hd he =
+    ap (λ (z : Float). record { a = z; b = b; c = c; d = d; e = e; f = one }) ha
+    ∙ ap (λ (z : Float). record { a = mul binary32 u u; b = z; c = c; d = d; e = e; f = one }) hb
+    ∙ ap (λ (z : Float). record { a = mul binary32 u u; b = mul binary32 u v; c = z; d = d; e = e; f = one }) hc
+    ∙ ap (λ (z : Float). record { a = mul binary32 u u; b = mul binary32 u v; c = mul binary32 v v; d = z; e = e; f = one }) hd
+    ∙ ap (λ (z : Float). record { a = mul binary32 u u; b = mul binary32 u v; c = mul binary32 v v; d = u; e = z; f = one }) he
+    ∙ ap (λ (z : Float). record { a = mul binary32 z z; b = mul binary32 z v; c = mul binary32 v v; d = z; e = v; f = one }) hu
+    ∙ ap (λ (z : Float). record { a = mul binary32 (offset radius x) (offset radius x); b = mul binary32 (offset radius x) z; c = mul binary32 z z; d = offset radius x; e = z; f = one }) hv
 
 -- ---- the square
 pub samples-most : (radius : ℕ) → radius ≤ 7 → samples radius ≤ 225
 samples-most radius h = le-trans (mul-le-mul {n₁ = side radius} {m₁ = side radius} {n₂ = 15} {m₂ = 15} (omega arith) (omega arith)) (omega arith)
-
-pub column-inside : (radius k : ℕ) → k % side radius < side radius
-column-inside radius k = mod-lt k (omega arith)
-
-pub row-inside : (radius k : ℕ) → k < samples radius → k / side radius < side radius
-row-inside radius k h = div-lt-iff-lt-mul {k = side radius} {x = k} {y = side radius} (omega arith) .1 h

@@ -1,34 +1,23 @@
 -- Laws of the call: which way it goes, and that each way ends as it should.
 use mathlib.Core.Path.{_≡_, refl, sym, ap, _∙_, subst}
 use mathlib.Core.Bool.{Bool, true, false, cond}
-use mathlib.Core.List.{List, _++_}
+use mathlib.Core.List.{List}
 use Prim.Native.Nat.{ℕ, _*_, _≤_, _<_}
 use lib.Dec.{leb}
-use lib.ListN.{length, drop}
+use lib.ListN.{length}
 use lib.Ieee.{Float}
 use borrow.Author.Tests.{le-leb, lt-leb}
 use Rattle.shapes.proofs.ListLaws.{length-tabulated}
-use Rattle.shapes.specs.Lists.{tabulated, overwritten}
+use Rattle.shapes.specs.Lists.{overwritten}
 use Rattle.refine_operator.specs.declared.Operator.{Operator}
 use Rattle.refine_operator.specs.declared.Operator.the-variants.{Built, Singular, Refused}
 use Rattle.refusals.specs.declared.Refusal.the-variants.{BadRadius}
 use Rattle.refine_operator.specs.Basis.{samples}
 use Rattle.refine_operator.specs.Inverse.{Reduced, singular, reduced, reduceFrom, normalMatrix, inverseNormalMatrix}
 use Rattle.refine_operator.specs.Rows.{columnsOf, overlapOf}
-use Rattle.refine_operator.specs.Call.{Way, refused, none, built, wayFrom, wayOf, answerOf, columnsAfter, overlapAfter, Done}
-use Rattle.refine_operator.specs.Steps.{reducedBy, OperatorOf, rowAt, columnAt, overlapAt}
+use Rattle.refine_operator.specs.Call.{Way, refused, none, built, wayFrom, wayOf, answerOf, columnsAfter, overlapAfter, Done, ColumnsDone, OverlapDone}
+use Rattle.refine_operator.specs.Steps.{reducedBy, columnAt}
 use Rattle.refine_operator.proofs.InverseLaws.{first-of, second-of}
-use Rattle.refine_operator.proofs.RowLaws.{columns-is, overlap-is}
-
--- ---- what is kept
-pub kept : (radius : ℕ) (m old rows columns columns' overlap' : List Float) → rows ≡ overwritten (5 * samples radius) (rowAt radius m) old
-    → columns' ≡ overwritten (5 * samples radius) (columnAt rows) columns → overlap' ≡ tabulated 225 (overlapAt radius rows) → OperatorOf radius m columns columns' overlap'
-unfolding overwritten
-kept radius m old rows columns columns' overlap' e p q =
-    record {
-      columns-is = p ∙ ap (λ (l : List Float). l ++ drop (5 * samples radius) columns) (columns-is radius m rows old e);
-      overlap-is = q ∙ overlap-is radius m rows old e;
-    }
 
 -- ---- the way
 bad-way : (radius : ℕ) → 7 < radius → wayOf radius ≡ refused BadRadius
@@ -44,25 +33,44 @@ way-is radius m m' regular t h e r d =
     ∙ ap (λ (x : Reduced). wayFrom radius x) (r ∙ ap (λ (b : Bool). reducedBy b m') d)
 
 -- ---- the end of each way
-ends : (radius : ℕ) (columns overlap columns' overlap' : List Float) (w : Way) → wayOf radius ≡ w → columns' ≡ columnsAfter radius columns w → overlap' ≡ overlapAfter overlap w
-    → Done radius columns overlap (answerOf w) columns' overlap'
-ends radius columns overlap columns' overlap' w e p q =
-    record {
-      answers = ap answerOf (sym e);
-      leaves-columns = p ∙ ap (λ (v : Way). columnsAfter radius columns v) (sym e);
-      leaves-overlap = q ∙ ap (λ (v : Way). overlapAfter overlap v) (sym e);
-    }
+columns-end : (radius : ℕ) (columns columns' : List Float) (w : Way) → wayOf radius ≡ w → columns' ≡ columnsAfter radius columns w → ColumnsDone radius columns (answerOf w) columns'
+columns-end radius columns columns' w e p =
+    record { answers = ap answerOf (sym e); leaves = p ∙ ap (λ (v : Way). columnsAfter radius columns v) (sym e) }
 
-pub bad-ends : (radius : ℕ) (columns overlap : List Float) → 7 < radius → Done radius columns overlap (Refused BadRadius) columns overlap
-bad-ends radius columns overlap h = ends radius columns overlap columns overlap (refused BadRadius) (bad-way radius h) refl refl
+overlap-end : (radius : ℕ) (overlap overlap' : List Float) (w : Way) → wayOf radius ≡ w → overlap' ≡ overlapAfter overlap w → OverlapDone radius overlap (answerOf w) overlap'
+overlap-end radius overlap overlap' w e p = record { answers = ap answerOf (sym e); leaves = p ∙ ap (λ (v : Way). overlapAfter overlap v) (sym e) }
 
-module _ (radius : ℕ) (columns overlap m m' : List Float) (regular : Bool) (h : radius ≤ 7) (e : m ≡ normalMatrix radius) (r : reduceFrom 6 0 m ≡ reducedBy regular m') where
-  pub singular-ends : regular ≡ false → Done radius columns overlap Singular columns overlap
-  singular-ends d = ends radius columns overlap columns overlap none (way-is radius m m' regular false h e r d) refl refl
+pub columns-bad : (radius : ℕ) (columns : List Float) → 7 < radius → ColumnsDone radius columns (Refused BadRadius) columns
+columns-bad radius columns h = columns-end radius columns columns (refused BadRadius) (bad-way radius h) refl
 
-  pub built-ends : (columns' overlap' : List Float) → regular ≡ true → OperatorOf radius m' columns columns' overlap' → Done radius columns overlap Built columns' overlap'
-  built-ends columns' overlap' d k =
-      ends radius columns overlap columns' overlap' (built (columnsOf radius m') (overlapOf radius m')) (way-is radius m m' regular true h e r d) (k .columns-is) (k .overlap-is)
+pub overlap-bad : (radius : ℕ) (overlap : List Float) → 7 < radius → OverlapDone radius overlap (Refused BadRadius) overlap
+overlap-bad radius overlap h = overlap-end radius overlap overlap (refused BadRadius) (bad-way radius h) refl
+
+module _ (radius : ℕ) (m m' : List Float) (regular : Bool) (h : radius ≤ 7) (e : m ≡ normalMatrix radius) (r : reduceFrom 6 0 m ≡ reducedBy regular m') where
+  pub columns-singular : (columns : List Float) → regular ≡ false → ColumnsDone radius columns Singular columns
+  columns-singular columns d = columns-end radius columns columns none (way-is radius m m' regular false h e r d) refl
+
+  pub overlap-singular : (overlap : List Float) → regular ≡ false → OverlapDone radius overlap Singular overlap
+  overlap-singular overlap d = overlap-end radius overlap overlap none (way-is radius m m' regular false h e r d) refl
+
+  pub columns-built : (columns columns' : List Float) → regular ≡ true → columns' ≡ overwritten (5 * samples radius) (columnAt radius m') columns → ColumnsDone radius columns Built columns'
+  unfolding overwritten columnsOf
+  columns-built columns columns' d k =
+      columns-end radius columns columns' (built (columnsOf radius m') (overlapOf radius m')) (way-is radius m m' regular true h e r d) k
+
+  pub overlap-built : (overlap overlap' : List Float) → regular ≡ true → overlap' ≡ overlapOf radius m' → OverlapDone radius overlap Built overlap'
+  overlap-built overlap overlap' d k =
+      overlap-end radius overlap overlap' (built (columnsOf radius m') (overlapOf radius m')) (way-is radius m m' regular true h e r d) k
+
+-- both at once
+pub both : (radius : ℕ) (columns overlap columns' overlap' : List Float) (answer : Operator) → ColumnsDone radius columns answer columns' → OverlapDone radius overlap answer overlap'
+    → Done radius columns overlap answer columns' overlap'
+both radius columns overlap columns' overlap' answer c o = record { answers = c .answers; leaves-columns = c .leaves; leaves-overlap = o .leaves }
+
+-- with the columns alone the overlaps may be thought of as built
+pub with-overlap : (radius : ℕ) (columns overlap columns' : List Float) (answer : Operator) → ColumnsDone radius columns answer columns'
+    → Done radius columns overlap answer columns' (overlapAfter overlap (wayOf radius))
+with-overlap radius columns overlap columns' answer c = record { answers = c .answers; leaves-columns = c .leaves; leaves-overlap = refl }
 
 -- ---- the columns that are built are five a sample
 abbrev isBuilt : Way → Type 0

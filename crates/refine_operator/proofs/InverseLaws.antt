@@ -1,23 +1,22 @@
--- Laws of the inverse: each way through an entry of a stage, and one turn of the search for the pivot and of the reduction.
-use mathlib.Core.Path.{_≡_, sym, ap, _∙_}
+-- Laws of the inverse: an entry after a column's stages, and one turn of the search for the pivot and of the reduction.
+use mathlib.Core.Path.{_≡_, refl, sym, ap, _∙_}
 use mathlib.Core.Bool.{Bool, true, false, cond}
 use mathlib.Core.List.{List}
 use Prim.Native.Nat.{ℕ, suc, _+_, _-_, _*_, _/_, _%_, _≤_, _<_}
 use native.Mathlib.Nat.{sub-eq-zero-of-le}
 use native.Mathlib.Omega.{arith}
-use lib.Dec.{eqb, ltb}
+use lib.Dec.{eqb}
 use lib.ListN.{length}
-use lib.Ieee.{Float, nan, binary64, add, sub, mul, div, lt}
-use borrow.Author.Tests.{eq-eqb, ne-eqb, lt-ltb, le-ltb}
+use lib.Ieee.{Float, nan, binary64, sub, mul, div, lt}
+use borrow.Author.Tests.{eq-eqb, ne-eqb}
 use Rattle.floats.specs.Magnitude.{magnitude}
 use Rattle.floats.specs.TotalOrder.{totalCmp}
 use Rattle.floats.specs.declared.Order.{Order}
-use Rattle.shapes.proofs.ListLaws.{length-tabulated, getD-tabulated}
-use Rattle.shapes.proofs.TurnLaws.{turns-more}
-use Rattle.shapes.specs.Numbers.{entry, plusZero, one}
-use Rattle.shapes.specs.Turns.{turns}
-use Rattle.refine_operator.specs.Basis.{samples, phi}
-use Rattle.refine_operator.specs.Inverse.{normalEntry, normalMatrix, better, pivotFrom, pivotOf, exchanged, swapped, scaled, cleared, leastPivot, singular, reduced, reduceFrom}
+use Rattle.shapes.proofs.ListLaws.{length-tabulated, getD-tabulated, tabulated-by}
+use Rattle.shapes.specs.Numbers.{entry, one}
+use Rattle.refine_operator.specs.Inverse.{better, pivotFrom, pivotOf, exchanged, swapped, scaled, cleared, leastPivot, singular, reduced, reduceFrom}
+use Rattle.refine_operator.specs.Steps.{Continued, reducedAt}
+use Rattle.refine_operator.proofs.WrittenLaws.{continued-whole}
 
 module _ {A : Type 0} (t : Bool) (x y : A) where
   pub first-of : t ≡ true → cond t x y ≡ x
@@ -25,45 +24,6 @@ module _ {A : Type 0} (t : Bool) (x y : A) where
 
   pub second-of : t ≡ false → cond t x y ≡ y
   second-of e = ap (λ (b : Bool). cond b x y) e
-
--- ---- the normal matrix
--- a sum's next term: the regressors `row` and `col` at the sample k, multiplied
-abbrev pub productTerm : ℕ → ℕ → ℕ → ℕ → Float → Float
-productTerm radius row col k a = add binary64 a (mul binary64 (phi radius row k) (phi radius col k))
-
-pub product-more : (radius row col k : ℕ) (sum x y : Float) → sum ≡ turns k (productTerm radius row col) plusZero → x ≡ phi radius row k → y ≡ phi radius col k
-    → add binary64 sum (mul binary64 x y) ≡ turns (k + 1) (productTerm radius row col) plusZero
-product-more radius row col k sum x y e p q =
-    ap (λ (z : Float). add binary64 z (mul binary64 x y)) e
-    ∙ ap (λ (z : Float). add binary64 (turns k (productTerm radius row col) plusZero) (mul binary64 z y)) p
-    ∙ ap (λ (z : Float). add binary64 (turns k (productTerm radius row col) plusZero) (mul binary64 (phi radius row k) z)) q
-    ∙ sym (turns-more k (productTerm radius row col) plusZero)
-
-pub normal-all : (radius row col k : ℕ) (sum : Float) → k ≡ samples radius → sum ≡ turns k (productTerm radius row col) plusZero → sum ≡ normalEntry radius row col
-unfolding normalEntry
-normal-all radius row col k sum e p = p ∙ ap (λ (n : ℕ). turns n (productTerm radius row col) plusZero) e
-
--- the entry i
-abbrev normalAt : ℕ → ℕ → Float
-normalAt radius i = cond (ltb (i % 12) 6) (normalEntry radius (i / 12) (i % 12)) (cond (eqb (i % 12) (6 + i / 12)) one plusZero)
-
-pub length-normal : (radius : ℕ) → length (normalMatrix radius) ≡ 72
-unfolding normalMatrix
-length-normal radius = length-tabulated 72 (normalAt radius)
-
-module _ (radius i : ℕ) (h : i < 72) where
-  at-normal : entry (normalMatrix radius) i ≡ normalAt radius i
-  unfolding normalMatrix
-  at-normal = getD-tabulated 72 (normalAt radius) i nan h
-
-  pub normal-left : i % 12 < 6 → normalEntry radius (i / 12) (i % 12) ≡ entry (normalMatrix radius) i
-  normal-left l = sym (at-normal ∙ first-of _ _ _ (lt-ltb (i % 12) 6 l))
-
-  pub normal-one : 6 ≤ i % 12 → i % 12 ≡ 6 + i / 12 → one ≡ entry (normalMatrix radius) i
-  normal-one l e = sym (at-normal ∙ second-of _ _ _ (le-ltb (i % 12) 6 l) ∙ first-of _ one plusZero (eq-eqb (i % 12) (6 + i / 12) e))
-
-  pub normal-zero : 6 ≤ i % 12 → (i % 12 ≡ 6 + i / 12 → ⊥) → plusZero ≡ entry (normalMatrix radius) i
-  normal-zero l e = sym (at-normal ∙ second-of _ _ _ (le-ltb (i % 12) 6 l) ∙ second-of _ one plusZero (ne-eqb (i % 12) (6 + i / 12) e))
 
 -- ---- the stages of a column
 pub exchanged-first : (a b r : ℕ) → r ≡ a → b ≡ exchanged a b r
@@ -85,19 +45,11 @@ scaledAt col m i = cond (eqb (i / 12) col) (mul binary64 (entry m i) (div binary
 abbrev clearedAt : ℕ → List Float → ℕ → Float
 clearedAt col m i = cond (eqb (i / 12) col) (entry m i) (sub binary64 (entry m i) (mul binary64 (entry m (12 * (i / 12) + col)) (entry m (12 * col + i % 12))))
 
-pub length-swapped : (a b : ℕ) (m : List Float) → length (swapped a b m) ≡ 72
-unfolding swapped
-length-swapped a b m = length-tabulated 72 (swappedAt a b m)
-
-pub length-scaled : (col : ℕ) (m : List Float) → length (scaled col m) ≡ 72
-unfolding scaled
-length-scaled col m = length-tabulated 72 (scaledAt col m)
-
 pub length-cleared : (col : ℕ) (m : List Float) → length (cleared col m) ≡ 72
 unfolding cleared
 length-cleared col m = length-tabulated 72 (clearedAt col m)
 
-pub swapped-entry : (a b i r : ℕ) (m : List Float) (x : Float) → i < 72 → r ≡ exchanged a b (i / 12) → x ≡ entry m (12 * r + i % 12) → x ≡ entry (swapped a b m) i
+swapped-entry : (a b i r : ℕ) (m : List Float) (x : Float) → i < 72 → r ≡ exchanged a b (i / 12) → x ≡ entry m (12 * r + i % 12) → x ≡ entry (swapped a b m) i
 unfolding swapped
 swapped-entry a b i r m x h e p = p ∙ ap (λ (q : ℕ). entry m (12 * q + i % 12)) e ∙ sym (getD-tabulated 72 (swappedAt a b m) i nan h)
 
@@ -110,25 +62,57 @@ module _ (col i : ℕ) (m : List Float) (h : i < 72) where
   unfolding cleared
   at-cleared = getD-tabulated 72 (clearedAt col m) i nan h
 
-  pub scaled-pivot : (x y : Float) → i / 12 ≡ col → x ≡ entry m i → y ≡ entry m (12 * col + col) → mul binary64 x (div binary64 one y) ≡ entry (scaled col m) i
+  scaled-pivot : (x y : Float) → i / 12 ≡ col → x ≡ entry m i → y ≡ entry m (12 * col + col) → mul binary64 x (div binary64 one y) ≡ entry (scaled col m) i
   scaled-pivot x y e p q =
       ap (λ (z : Float). mul binary64 z (div binary64 one y)) p
       ∙ ap (λ (z : Float). mul binary64 (entry m i) (div binary64 one z)) q
       ∙ sym (at-scaled ∙ first-of (eqb (i / 12) col) _ (entry m i) (eq-eqb (i / 12) col e))
 
-  pub scaled-other : (x : Float) → (i / 12 ≡ col → ⊥) → x ≡ entry m i → x ≡ entry (scaled col m) i
+  scaled-other : (x : Float) → (i / 12 ≡ col → ⊥) → x ≡ entry m i → x ≡ entry (scaled col m) i
   scaled-other x e p = p ∙ sym (at-scaled ∙ second-of (eqb (i / 12) col) _ (entry m i) (ne-eqb (i / 12) col e))
 
-  pub cleared-pivot : (x : Float) → i / 12 ≡ col → x ≡ entry m i → x ≡ entry (cleared col m) i
+  cleared-pivot : (x : Float) → i / 12 ≡ col → x ≡ entry m i → x ≡ entry (cleared col m) i
   cleared-pivot x e p = p ∙ sym (at-cleared ∙ first-of (eqb (i / 12) col) (entry m i) _ (eq-eqb (i / 12) col e))
 
-  pub cleared-other : (x y z : Float) → (i / 12 ≡ col → ⊥) → x ≡ entry m i → y ≡ entry m (12 * (i / 12) + col) → z ≡ entry m (12 * col + i % 12)
+  cleared-other : (x y z : Float) → (i / 12 ≡ col → ⊥) → x ≡ entry m i → y ≡ entry m (12 * (i / 12) + col) → z ≡ entry m (12 * col + i % 12)
       → sub binary64 x (mul binary64 y z) ≡ entry (cleared col m) i
   cleared-other x y z e p q r =
       ap (λ (w : Float). sub binary64 w (mul binary64 y z)) p
       ∙ ap (λ (w : Float). sub binary64 (entry m i) (mul binary64 w z)) q
       ∙ ap (λ (w : Float). sub binary64 (entry m i) (mul binary64 (entry m (12 * (i / 12) + col)) w)) r
       ∙ sym (at-cleared ∙ second-of (eqb (i / 12) col) (entry m i) _ (ne-eqb (i / 12) col e))
+
+-- ---- a column at once: an entry of the matrix exchanged, scaled and cleared, from the matrix before
+module _ (col pivot : ℕ) (m : List Float) (hc : col < 6) (hp : pivot < 6) where
+  swapped-at : (row from j : ℕ) → row < 6 → j < 12 → from ≡ exchanged col pivot row → entry m (12 * from + j) ≡ entry (swapped col pivot m) (12 * row + j)
+  swapped-at row from j h l e =
+      swapped-entry col pivot (12 * row + j) from m (entry m (12 * from + j)) (omega arith)
+      (e ∙ ap (λ (n : ℕ). exchanged col pivot n) (let q : row ≡ (12 * row + j) / 12 = omega arith in q))
+      (ap (λ (n : ℕ). entry m (12 * from + n)) (let q : j ≡ (12 * row + j) % 12 = omega arith in q))
+
+  scaled-here : (j : ℕ) → j < 12 → mul binary64 (entry m (12 * pivot + j)) (div binary64 one (entry m (12 * pivot + col))) ≡ entry (scaled col (swapped col pivot m)) (12 * col + j)
+  scaled-here j l =
+      scaled-pivot col (12 * col + j) (swapped col pivot m) (omega arith) _ _ (omega arith) (swapped-at col pivot j hc l (exchanged-first col pivot col refl)) (swapped-at col pivot col hc (omega arith) (exchanged-first col pivot col refl))
+
+  scaled-there : (row from j : ℕ) → row < 6 → j < 12 → from ≡ exchanged col pivot row → (row ≡ col → ⊥) → entry m (12 * from + j) ≡ entry (scaled col (swapped col pivot m)) (12 * row + j)
+  scaled-there row from j h l e n =
+      scaled-other col (12 * row + j) (swapped col pivot m) (omega arith) _ (λ d. n ((let q : row ≡ (12 * row + j) / 12 = omega arith in q) ∙ d)) (swapped-at row from j h l e)
+
+  pub pivot-entry : (j : ℕ) → j < 12 → mul binary64 (entry m (12 * pivot + j)) (div binary64 one (entry m (12 * pivot + col))) ≡ reducedAt col pivot m (12 * col + j)
+  pivot-entry j l = cleared-pivot col (12 * col + j) (scaled col (swapped col pivot m)) (omega arith) _ (omega arith) (scaled-here j l)
+
+  pub other-entry : (row from j : ℕ) → row < 6 → j < 12 → from ≡ exchanged col pivot row → (row ≡ col → ⊥)
+      → sub binary64 (entry m (12 * from + j)) (mul binary64 (entry m (12 * from + col)) (mul binary64 (entry m (12 * pivot + j)) (div binary64 one (entry m (12 * pivot + col)))))
+      ≡ reducedAt col pivot m (12 * row + j)
+  other-entry row from j h l e n =
+      cleared-other col (12 * row + j) (scaled col (swapped col pivot m)) (omega arith) _ _ _ (λ d. n ((let q : row ≡ (12 * row + j) / 12 = omega arith in q) ∙ d)) (scaled-there row from j h l e n)
+      (scaled-there row from col h (omega arith) e n ∙ ap (λ (k : ℕ). entry (scaled col (swapped col pivot m)) (12 * k + col)) (let q : row ≡ (12 * row + j) / 12 = omega arith in q))
+      (scaled-here j l ∙ ap (λ (k : ℕ). entry (scaled col (swapped col pivot m)) (12 * col + k)) (let q : j ≡ (12 * row + j) % 12 = omega arith in q))
+
+  pub column-done : (l l' : List Float) → length l ≡ 72 → Continued 0 72 (reducedAt col pivot m) l l' → l' ≡ cleared col (scaled col (swapped col pivot m))
+  column-done l l' h c =
+      continued-whole 72 (reducedAt col pivot m) l l' h c
+      ∙ tabulated-by 72 nan (cleared col (scaled col (swapped col pivot m))) (length-cleared col (scaled col (swapped col pivot m)))
 
 -- ---- the pivot
 pub better-is : (m : List Float) (col best p : ℕ) (x y : Float) (o : Order) → x ≡ entry m (12 * best + col) → y ≡ entry m (12 * p + col) → o ≡ totalCmp x y

@@ -1,41 +1,59 @@
--- Laws of the rows: one more term of a row's sum, the shifted sample, each way through an overlap's term, and reading the rows that were kept.
+-- Laws of the rows: a row's sum is its entry at the sample, the column of a sample, and the shifts.
 use mathlib.Core.Path.{_≡_, refl, sym, ap, _∙_, subst}
-use mathlib.Core.Bool.{Bool, true, false, _&&_, cond, and-eq-true-iff}
-use mathlib.Core.List.{List}
+use mathlib.Core.Bool.{Bool, true, false, _&&_, and-eq-true-iff}
+use mathlib.Core.List.{List, [], _∷_}
 use Prim.Native.Nat.{ℕ, _+_, _-_, _*_, _/_, _%_, _≤_, _<_}
-use native.Mathlib.Nat.{mul-le-mul-right}
+use native.Mathlib.Nat.{mul-le-mul, le-trans}
 use native.Mathlib.Omega.{arith}
 use lib.Dec.{leb, ltb}
-use lib.ListN.{drop, List·getD-append}
-use lib.Ieee.{Float, nan, binary32, binary64, add, mul}
+use lib.Ieee.{Float, nan, binary32}
 use borrow.Author.Tests.{le-leb, lt-leb, leb-true, ltb-true}
 use Rattle.floats.specs.Convert.{convert}
-use Rattle.shapes.proofs.ListLaws.{tabulated-cong, getD-tabulated, length-tabulated}
-use Rattle.shapes.proofs.TurnLaws.{turns-more, turns-cong}
-use Rattle.shapes.specs.Lists.{tabulated, overwritten}
-use Rattle.shapes.specs.Numbers.{entry, plusZero, minusZero}
+use Rattle.shapes.proofs.ListLaws.{getD-tabulated}
+use Rattle.shapes.specs.Lists.{tabulated}
+use Rattle.shapes.specs.Numbers.{entry}
 use Rattle.shapes.specs.Turns.{turns}
-use Rattle.refine_operator.specs.Basis.{side, samples, phi}
-use Rattle.refine_operator.specs.Rows.{rowEntry, columnsOf, stays, shifted, overlapEntry, overlapOf}
-use Rattle.refine_operator.specs.Steps.{rowAt, columnAt, overlapTerm, overlapSum, overlapAt}
-use Rattle.refine_operator.proofs.InverseLaws.{first-of, second-of}
+use Rattle.refine_operator.specs.declared.Phi.{Phi}
+use Rattle.refine_operator.specs.Basis.{side, phi}
+use Rattle.refine_operator.specs.Rows.{rowEntry, stays}
+use Rattle.refine_operator.specs.Steps.{phiBy, phiAt, rowSum, fiveAt, columnAt}
+use Rattle.refine_operator.proofs.NormalLaws.{phi-here}
+use Rattle.refine_operator.proofs.WrittenLaws.{more-rows}
 
 -- ---- a row's sum
--- its next term: the inverse's entry times the regressor
-abbrev pub rowTerm : ℕ → List Float → ℕ → ℕ → ℕ → Float → Float
-rowTerm radius m c k j a = add binary64 a (mul binary64 (entry m (12 * c + (6 + j))) (phi radius j k))
+sum-is : (radius : ℕ) (m : List Float) (c k : ℕ) → rowSum m c (phiBy (λ j. phi radius j k)) ≡ rowEntry radius m c k
+unfolding rowEntry turns
+sum-is radius m c k = refl
 
-pub row-more : (radius : ℕ) (m : List Float) (c k j : ℕ) (sum x y : Float) → sum ≡ turns j (rowTerm radius m c k) minusZero → x ≡ entry m (12 * c + (6 + j)) → y ≡ phi radius j k
-    → add binary64 sum (mul binary64 x y) ≡ turns (j + 1) (rowTerm radius m c k) minusZero
-row-more radius m c k j sum x y e p q =
-    ap (λ (z : Float). add binary64 z (mul binary64 x y)) e
-    ∙ ap (λ (z : Float). add binary64 (turns j (rowTerm radius m c k) minusZero) (mul binary64 z y)) p
-    ∙ ap (λ (z : Float). add binary64 (turns j (rowTerm radius m c k) minusZero) (mul binary64 (entry m (12 * c + (6 + j))) z)) q
-    ∙ sym (turns-more j (rowTerm radius m c k) minusZero)
+pub fives : (radius : ℕ) (m : List Float) (x y : ℕ) (p : Phi) (a b c d e : Float) → p ≡ phiAt radius x y → a ≡ rowSum m 0 p → b ≡ rowSum m 1 p → c ≡ rowSum m 2 p → d ≡ rowSum m 3 p → e ≡ rowSum m 4 p
+    → a ∷ b ∷ c ∷ d ∷ e ∷ [] ≡ fiveAt radius m x y
+unfolding fiveAt tabulated
+fives radius m x y p a b c d e h ha hb hc hd he =
+    ap (λ (z : Float). z ∷ b ∷ c ∷ d ∷ e ∷ []) ha
+    ∙ ap (λ (z : Float). rowSum m 0 p ∷ z ∷ c ∷ d ∷ e ∷ []) hb
+    ∙ ap (λ (z : Float). rowSum m 0 p ∷ rowSum m 1 p ∷ z ∷ d ∷ e ∷ []) hc
+    ∙ ap (λ (z : Float). rowSum m 0 p ∷ rowSum m 1 p ∷ rowSum m 2 p ∷ z ∷ e ∷ []) hd
+    ∙ ap (λ (z : Float). rowSum m 0 p ∷ rowSum m 1 p ∷ rowSum m 2 p ∷ rowSum m 3 p ∷ z ∷ []) he
+    ∙ ap (λ (q : Phi). rowSum m 0 q ∷ rowSum m 1 q ∷ rowSum m 2 q ∷ rowSum m 3 q ∷ rowSum m 4 q ∷ []) h
 
-pub row-all : (radius : ℕ) (m : List Float) (c k j : ℕ) (sum : Float) → j ≡ 6 → sum ≡ turns j (rowTerm radius m c k) minusZero → sum ≡ rowEntry radius m c k
-unfolding rowEntry
-row-all radius m c k j sum e p = p ∙ ap (λ (n : ℕ). turns n (rowTerm radius m c k) minusZero) e
+pub five-entry : (radius : ℕ) (m : List Float) (x y c : ℕ) → x < side radius → c < 5 → entry (fiveAt radius m x y) c ≡ rowEntry radius m c (y * side radius + x)
+unfolding fiveAt
+five-entry radius m x y c h l =
+    getD-tabulated 5 (λ i. rowSum m i (phiAt radius x y)) c nan l ∙ ap (λ (p : Phi). rowSum m c p) (phi-here radius x y h) ∙ sum-is radius m c (y * side radius + x)
+
+pub column-entry : (radius : ℕ) (m : List Float) (x y k c : ℕ) (five : List Float) (v : Float) → x < side radius → k ≡ y * side radius + x → c < 5 → five ≡ fiveAt radius m x y
+    → v ≡ convert binary32 (entry five c) → v ≡ columnAt radius m (5 * k + c)
+column-entry radius m x y k c five v h d l e p =
+    p
+    ∙ ap (λ (z : List Float). convert binary32 (entry z c)) e
+    ∙ ap (λ (z : Float). convert binary32 z) (five-entry radius m x y c h l)
+    ∙ ap (λ (n : ℕ). convert binary32 (rowEntry radius m c n)) (sym d)
+    ∙ ap (λ (n : ℕ). convert binary32 (rowEntry radius m n k)) (let q : c ≡ (5 * k + c) % 5 = omega arith in q)
+    ∙ ap (λ (n : ℕ). convert binary32 (rowEntry radius m ((5 * k + c) % 5) n)) (let q : k ≡ (5 * k + c) / 5 = omega arith in q)
+
+-- ---- the square
+pub line-inside : (radius y : ℕ) → y < side radius → radius ≤ 7 → y * side radius + side radius ≤ 225
+line-inside radius y h l = subst (λ (n : ℕ). n ≤ 225) (sym (more-rows y (side radius))) (le-trans (mul-le-mul {n₁ = y + 1} {m₁ = side radius} {n₂ = 15} {m₂ = 15} (omega arith) (omega arith)) (omega arith))
 
 -- ---- shifts
 pub stays-low : (radius i s : ℕ) → i + s < 1 → false ≡ stays radius i s
@@ -48,66 +66,3 @@ pub stays-is : (radius i s : ℕ) → stays radius i s ≡ true → (1 ≤ i + s
 stays-is radius i s e =
     let p = and-eq-true-iff (leb 1 (i + s)) (ltb (i + s - 1) (side radius)) .0 e in
     (leb-true 1 (i + s) (p .0), ltb-true (i + s - 1) (side radius) (p .1))
-
-inside : (n x y : ℕ) → x < n → y < n → y * n + x < n * n
-inside n x y p q = omega (arith, mul-le-mul-right n q)
-
-pub sample-inside : (radius x y dx dy : ℕ) → stays radius x dx ≡ true → stays radius y dy ≡ true → (y + dy - 1) * side radius + (x + dx - 1) < samples radius
-sample-inside radius x y dx dy p q = inside (side radius) (x + dx - 1) (y + dy - 1) (stays-is radius x dx p .1) (stays-is radius y dy q .1)
-
--- ---- an overlap's term
-module _ (radius : ℕ) (rows : List Float) (d r s k : ℕ) (sum : Float) where
-  pub term-left : stays radius (k % side radius) (d % 3) ≡ false → sum ≡ overlapTerm radius rows d r s k sum
-  term-left e = sym (second-of _ _ sum (ap (λ (t : Bool). t && stays radius (k / side radius) (d / 3)) e))
-
-  pub term-right : stays radius (k % side radius) (d % 3) ≡ true → stays radius (k / side radius) (d / 3) ≡ false → sum ≡ overlapTerm radius rows d r s k sum
-  term-right e f = sym (second-of _ _ sum (ap (λ (t : Bool). t && stays radius (k / side radius) (d / 3)) e ∙ f))
-
-  pub term-in : (x y : Float) → stays radius (k % side radius) (d % 3) ≡ true → stays radius (k / side radius) (d / 3) ≡ true
-      → x ≡ entry rows (5 * k + r) → y ≡ entry rows (5 * shifted radius d k + s) → add binary64 sum (mul binary64 x y) ≡ overlapTerm radius rows d r s k sum
-  term-in x y e f p q =
-      ap (λ (z : Float). add binary64 sum (mul binary64 z y)) p
-      ∙ ap (λ (z : Float). add binary64 sum (mul binary64 (entry rows (5 * k + r)) z)) q
-      ∙ sym (first-of _ _ sum (ap (λ (t : Bool). t && stays radius (k / side radius) (d / 3)) e ∙ f))
-
--- ---- what is kept of the rows is what the definitions say
-module _ (radius : ℕ) (m rows old : List Float) (kept : rows ≡ overwritten (5 * samples radius) (rowAt radius m) old) where
-  at-row : (i : ℕ) → i < 5 * samples radius → entry rows i ≡ rowAt radius m i
-  unfolding overwritten
-  at-row i h =
-      ap (λ (l : List Float). entry l i) kept
-      ∙ List·getD-append (tabulated (5 * samples radius) (rowAt radius m)) (drop (5 * samples radius) old) nan i (subst (λ (n : ℕ). i < n) (sym (length-tabulated (5 * samples radius) (rowAt radius m))) h)
-      ∙ getD-tabulated (5 * samples radius) (rowAt radius m) i nan h
-
-  at-sample : (k c : ℕ) → k < samples radius → c < 5 → entry rows (5 * k + c) ≡ rowEntry radius m c k
-  at-sample k c h l =
-      at-row (5 * k + c) (within k c (samples radius) h l)
-      ∙ ap (λ (i : ℕ). rowEntry radius m i ((5 * k + c) / 5)) (let e : (5 * k + c) % 5 ≡ c = omega arith in e)
-      ∙ ap (λ (i : ℕ). rowEntry radius m c i) (let e : (5 * k + c) / 5 ≡ k = omega arith in e)
-    where
-      within : (k c n : ℕ) → k < n → c < 5 → 5 * k + c < 5 * n
-      within k c n h l = omega arith
-
-  pub columns-is : tabulated (5 * samples radius) (columnAt rows) ≡ columnsOf radius m
-  unfolding columnsOf
-  columns-is = tabulated-cong (5 * samples radius) (columnAt rows) _ (λ i h. ap (λ (x : Float). convert binary32 x) (at-row i h))
-
-  term-is : (d r s k : ℕ) → r < 5 → s < 5 → k < samples radius → (a : Float)
-      → overlapTerm radius rows d r s k a
-      ≡ cond (stays radius (k % side radius) (d % 3) && stays radius (k / side radius) (d / 3)) (add binary64 a (mul binary64 (rowEntry radius m r k) (rowEntry radius m s (shifted radius d k)))) a
-  term-is d r s k hr hs hk a = by (stays radius (k % side radius) (d % 3)) (stays radius (k / side radius) (d / 3)) refl refl
-    where
-      by : (t u : Bool) → stays radius (k % side radius) (d % 3) ≡ t → stays radius (k / side radius) (d / 3) ≡ u
-          → cond (t && u) (add binary64 a (mul binary64 (entry rows (5 * k + r)) (entry rows (5 * shifted radius d k + s)))) a
-          ≡ cond (t && u) (add binary64 a (mul binary64 (rowEntry radius m r k) (rowEntry radius m s (shifted radius d k)))) a
-      by true true e f =
-          ap (λ (z : Float). add binary64 a (mul binary64 z (entry rows (5 * shifted radius d k + s)))) (at-sample k r hk hr)
-          ∙ ap (λ (z : Float). add binary64 a (mul binary64 (rowEntry radius m r k) z)) (at-sample (shifted radius d k) s (sample-inside radius (k % side radius) (k / side radius) (d % 3) (d / 3) e f) hs)
-      by true false e f = refl
-      by false u e f = refl
-
-  pub overlap-is : tabulated 225 (overlapAt radius rows) ≡ overlapOf radius m
-  unfolding overlapOf overlapSum overlapEntry
-  overlap-is =
-      tabulated-cong 225 (overlapAt radius rows) _
-      (λ i h. ap (λ (x : Float). convert binary32 x) (turns-cong (samples radius) _ _ plusZero (λ k l a. term-is (i / 25) (i % 25 / 5) (i % 5) k (omega arith) (omega arith) l a)))

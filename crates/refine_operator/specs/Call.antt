@@ -53,3 +53,13 @@ pub record Done (radius : ℕ) (columns overlap : List Float) (answer : Operator
   pub answers : answer ≡ answerOf (wayOf radius)
   pub leaves-columns : columns' ≡ columnsAfter radius columns (wayOf radius)
   pub leaves-overlap : overlap' ≡ overlapAfter overlap (wayOf radius)
+
+-- the columns alone
+pub record ColumnsDone (radius : ℕ) (columns : List Float) (answer : Operator) (columns' : List Float) : Type 0 where
+  pub answers : answer ≡ answerOf (wayOf radius)
+  pub leaves : columns' ≡ columnsAfter radius columns (wayOf radius)
+
+-- the overlaps alone
+pub record OverlapDone (radius : ℕ) (overlap : List Float) (answer : Operator) (overlap' : List Float) : Type 0 where
+  pub answers : answer ≡ answerOf (wayOf radius)
+  pub leaves : overlap' ≡ overlapAfter overlap (wayOf radius)

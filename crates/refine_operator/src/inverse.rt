@@ -1,57 +1,15 @@
-// The normal matrix and its inverse, by Gauss-Jordan with partial pivoting: six rows of twelve, flat, the identity beside the matrix.
-// Each stage of a column makes the matrix anew, entry by entry.
+// The inverse of the normal matrix, by Gauss-Jordan with partial pivoting: six rows of twelve, flat, the identity beside the matrix.
+// A column makes the matrix anew, row by row: exchanged, scaled and cleared at once.
 ghost use mathlib.Core.Path.{_≡_};
-ghost use Prim.Native.Nat.{_≤_, _<_};
+ghost use Prim.Native.Nat.{_+_, _*_, _<_};
+ghost use lib.ListN.{length};
 ghost use lib.Ieee.{lt};
 ghost use Rattle.floats.specs.Magnitude.{magnitude};
 ghost use Rattle.shapes.specs.Numbers.{entry};
-ghost use Rattle.refine_operator.specs.Inverse.{normalEntry, normalMatrix, exchanged, swapped, scaled, cleared, leastPivot, reduceFrom};
-ghost use Rattle.refine_operator.specs.Steps.{Better, Pivot, reducedBy};
+ghost use Rattle.refine_operator.specs.Inverse.{exchanged, swapped, scaled, cleared, leastPivot, reduceFrom};
+ghost use Rattle.refine_operator.specs.Steps.{Better, Pivot, reducedBy, reducedAt, Continued};
 use crate::basis;
 use floats::Order;
-
-// The sum over the samples of the regressors `row` and `col`, multiplied.
-fn normal_entry(radius: usize, row: usize, col: usize) -> f64
-    requires { ⌜ radius ≤ 7 ⌝ }
-    ensures { λ r. ⌜ r ≡ normalEntry radius row col ⌝ }
-{
-    let n = basis::samples_of(radius);
-    let mut sum: f64 = 0.0;
-    let mut k: usize = 0;
-    while k < n {
-        sum = sum + basis::phi_at(radius, row, k) * basis::phi_at(radius, col, k);
-        k = k + 1;
-    }
-    sum
-}
-
-fn normal_at(radius: usize, i: usize) -> f64
-    requires { ⌜ (radius ≤ 7) × (i < 72) ⌝ }
-    ensures { λ r. ⌜ r ≡ entry (normalMatrix radius) i ⌝ }
-{
-    let row = i / 12;
-    let col = i % 12;
-    if col < 6 {
-        return normal_entry(radius, row, col);
-    }
-    if col == 6 + row {
-        return 1.0;
-    }
-    0.0
-}
-
-pub fn normal_matrix(radius: usize) -> [f64; 72]
-    requires { ⌜ radius ≤ 7 ⌝ }
-    ensures { λ r. ⌜ r ≡ normalMatrix radius ⌝ }
-{
-    let mut m = [0.0f64; 72];
-    let mut i: usize = 0;
-    while i < 72 {
-        m[i] = normal_at(radius, i);
-        i = i + 1;
-    }
-    m
-}
 
 pub fn entry(m: &[f64; 72], i: usize) -> f64
     requires { ⌜ i < 72 ⌝ }
@@ -101,94 +59,75 @@ fn exchanged_row(a: usize, b: usize, row: usize) -> usize
     row
 }
 
-fn swapped_rows(m: &[f64; 72], a: usize, b: usize) -> [f64; 72]
-    requires { ⌜ (a < 6) × (b < 6) ⌝ }
-    ensures { λ r. ⌜ r ≡ swapped a b (now (m .entry)) ⌝ }
-{
-    let mut out = [0.0f64; 72];
-    let mut i: usize = 0;
-    while i < 72 {
-        let row = exchanged_row(a, b, i / 12);
-        out[i] = entry(m, 12 * row + i % 12);
-        i = i + 1;
-    }
-    out
-}
-
-fn scaled_at(m: &[f64; 72], col: usize, i: usize) -> f64
-    requires { ⌜ (col < 6) × (i < 72) ⌝ }
-    ensures { λ r. ⌜ r ≡ entry (scaled col (now (m .entry))) i ⌝ }
-{
-    if i / 12 == col {
-        return entry(m, i) * (1.0 / entry(m, 12 * col + col));
-    }
-    entry(m, i)
-}
-
-// The pivot's row made to have one at the pivot.
-fn scaled_row(m: &[f64; 72], col: usize) -> [f64; 72]
-    requires { ⌜ col < 6 ⌝ }
-    ensures { λ r. ⌜ r ≡ scaled col (now (m .entry)) ⌝ }
-{
-    let mut out = [0.0f64; 72];
-    let mut i: usize = 0;
-    while i < 72 {
-        out[i] = scaled_at(m, col, i);
-        i = i + 1;
-    }
-    out
-}
-
-fn cleared_at(m: &[f64; 72], col: usize, i: usize) -> f64
-    requires { ⌜ (col < 6) × (i < 72) ⌝ }
-    ensures { λ r. ⌜ r ≡ entry (cleared col (now (m .entry))) i ⌝ }
-{
-    if i / 12 == col {
-        return entry(m, i);
-    }
-    entry(m, i) - entry(m, 12 * (i / 12) + col) * entry(m, 12 * col + i % 12)
-}
-
-// The pivot's row taken from every other, so that they have zero there.
-fn cleared_rows(m: &[f64; 72], col: usize) -> [f64; 72]
-    requires { ⌜ col < 6 ⌝ }
-    ensures { λ r. ⌜ r ≡ cleared col (now (m .entry)) ⌝ }
-{
-    let mut out = [0.0f64; 72];
-    let mut i: usize = 0;
-    while i < 72 {
-        out[i] = cleared_at(m, col, i);
-        i = i + 1;
-    }
-    out
-}
-
 fn is_below_least(x: f64) -> bool
     ensures { λ r. ⌜ r ≡ lt (magnitude x) leastPivot ⌝ }
 {
     floats::magnitude_f64(x) < 0.000000001
 }
 
-fn reduced_column(m: &[f64; 72], col: usize, pivot: usize) -> [f64; 72]
-    requires { ⌜ (col < 6) × (pivot < 6) ⌝ }
-    ensures { λ r. ⌜ r ≡ cleared col (scaled col (swapped col pivot (now (m .entry)))) ⌝ }
+// The pivot's row made to have one at the pivot.
+fn pivot_row(m: &[f64; 72], col: usize, pivot: usize, out: &mut [f64])
+    requires { ⌜ (col < 6) × (pivot < 6) × (length (now out) ≡ 72) ⌝ }
+    ensures { λ _. ⌜ Continued (12 * col) (12 * col + 12) (reducedAt col pivot (now (m .entry))) (now (out .entry)) (now (out .exit)) ⌝ }
 {
-    let a = swapped_rows(m, col, pivot);
-    let b = scaled_row(&a, col);
-    cleared_rows(&b, col)
+    let scale = 1.0 / m[12 * pivot + col];
+    let mut j: usize = 0;
+    while j < 12 {
+        out[12 * col + j] = m[12 * pivot + j] * scale;
+        j = j + 1;
+    }
+}
+
+// Another row, which stands at `from` before the exchange, less so much of the pivot's that it has zero there.
+fn cleared_row(m: &[f64; 72], col: usize, pivot: usize, from: usize, row: usize, out: &mut [f64])
+    requires { ⌜ (col < 6) × (pivot < 6) × (from < 6) × (row < 6) × (length (now out) ≡ 72) ⌝ }
+    requires { ⌜ (from ≡ exchanged col pivot row) × (row ≡ col → ⊥) ⌝ }
+    ensures { λ _. ⌜ Continued (12 * row) (12 * row + 12) (reducedAt col pivot (now (m .entry))) (now (out .entry)) (now (out .exit)) ⌝ }
+{
+    let scale = 1.0 / m[12 * pivot + col];
+    let factor = m[12 * from + col];
+    let mut j: usize = 0;
+    while j < 12 {
+        out[12 * row + j] = m[12 * from + j] - factor * (m[12 * pivot + j] * scale);
+        j = j + 1;
+    }
+}
+
+fn reduced_row(m: &[f64; 72], col: usize, pivot: usize, row: usize, out: &mut [f64])
+    requires { ⌜ (col < 6) × (pivot < 6) × (row < 6) × (length (now out) ≡ 72) ⌝ }
+    ensures { λ _. ⌜ Continued (12 * row) (12 * row + 12) (reducedAt col pivot (now (m .entry))) (now (out .entry)) (now (out .exit)) ⌝ }
+{
+    if row == col {
+        pivot_row(m, col, pivot, out);
+        return;
+    }
+    cleared_row(m, col, pivot, exchanged_row(col, pivot, row), row, out);
+}
+
+fn reduced_column(m: &[f64; 72], col: usize, pivot: usize, out: &mut [f64])
+    requires { ⌜ (col < 6) × (pivot < 6) × (length (now out) ≡ 72) ⌝ }
+    ensures { λ _. ⌜ now (out .exit) ≡ cleared col (scaled col (swapped col pivot (now (m .entry)))) ⌝ }
+{
+    let mut row: usize = 0;
+    while row < 6 {
+        reduced_row(m, col, pivot, row, out);
+        row = row + 1;
+    }
 }
 
 // Reduces the matrix, column after column; false where a pivot is too small.
 pub fn reduce(m: &mut [f64; 72]) -> bool
     ensures { λ r. ⌜ reduceFrom 6 0 (now (m .entry)) ≡ reducedBy r (now (m .exit)) ⌝ }
 {
+    let mut next = [0.0f64; 72];
     let mut col: usize = 0;
     while col < 6 {
         let p = pivot_of(m, col);
         if is_below_least(entry(m, 12 * p + col)) {
             return false;
         }
-        *m = reduced_column(m, col, p);
+        reduced_column(m, col, p, &mut next);
+        *m = next;
         col = col + 1;
     }
     true

@@ -1,12 +1,11 @@
 // The fit operator of the saddle-point refiner, after `saddle_point.rs`: built once for a radius and lent to every fit.
 ghost use mathlib.Core.Path.{_≡_};
-ghost use Prim.Native.Nat.{_≤_};
-ghost use lib.ListN.{length};
-ghost use Rattle.refine_operator.specs.Call.{Done};
-ghost use Rattle.refine_operator.specs.Steps.{OperatorOf};
+ghost use Rattle.refine_operator.specs.Call.{Done, ColumnsDone, OverlapDone};
 
 mod basis;
 mod inverse;
+mod normal;
+mod overlap;
 mod rows;
 
 use refusals::Refusal;
@@ -18,6 +17,41 @@ pub enum Operator {
     Refused(Refusal),
 }
 
+// The six regressors of a sample.
+struct Phi {
+    a: f64,
+    b: f64,
+    c: f64,
+    d: f64,
+    e: f64,
+    f: f64,
+}
+
+// The sums of the normal matrix on its diagonal and right of it; the others are the same.
+struct Upper {
+    aa: f64,
+    ab: f64,
+    ac: f64,
+    ad: f64,
+    ae: f64,
+    af: f64,
+    bb: f64,
+    bc: f64,
+    bd: f64,
+    be: f64,
+    bf: f64,
+    cc: f64,
+    cd: f64,
+    ce: f64,
+    cf: f64,
+    dd: f64,
+    de: f64,
+    df: f64,
+    ee: f64,
+    ef: f64,
+    ff: f64,
+}
+
 // Builds the operator for a radius: five coefficients a sample, and the nine overlaps.
 pub fn fit_operator(radius: usize, columns: &mut [f32; 1125], overlap: &mut [f32; 225]) -> Operator
     ensures { λ r. ⌜ Done radius (now (columns .entry)) (now (overlap .entry)) r (now (columns .exit)) (now (overlap .exit)) ⌝ }
@@ -25,21 +59,41 @@ pub fn fit_operator(radius: usize, columns: &mut [f32; 1125], overlap: &mut [f32
     if 7 < radius {
         return Operator::Refused(Refusal::BadRadius);
     }
-    let mut m = inverse::normal_matrix(radius);
+    let mut m = normal::normal_matrix(radius);
     if !inverse::reduce(&mut m) {
         return Operator::Singular;
     }
-    keep(radius, &m, columns, overlap);
+    rows::fill_columns(radius, &m, columns);
+    overlap::fill_overlap(radius, &m, overlap);
     Operator::Built
 }
 
-// The columns and overlaps of a reduced matrix. The rows stand in binary64 only here.
-fn keep(radius: usize, m: &[f64; 72], columns: &mut [f32], overlap: &mut [f32])
-    requires { ⌜ (radius ≤ 7) × (length (now columns) ≡ 1125) × (length (now overlap) ≡ 225) ⌝ }
-    ensures { λ _. ⌜ OperatorOf radius (now (m .entry)) (now (columns .entry)) (now (columns .exit)) (now (overlap .exit)) ⌝ }
+// The coefficients alone: a list of seeds needs no overlaps.
+pub fn fit_columns(radius: usize, columns: &mut [f32; 1125]) -> Operator
+    ensures { λ r. ⌜ ColumnsDone radius (now (columns .entry)) r (now (columns .exit)) ⌝ }
 {
-    let mut rows = [0.0f64; 1125];
-    rows::fill_rows(radius, m, &mut rows);
-    rows::fill_columns(radius, &rows, columns);
-    rows::fill_overlap(radius, &rows, overlap);
+    if 7 < radius {
+        return Operator::Refused(Refusal::BadRadius);
+    }
+    let mut m = normal::normal_matrix(radius);
+    if !inverse::reduce(&mut m) {
+        return Operator::Singular;
+    }
+    rows::fill_columns(radius, &m, columns);
+    Operator::Built
+}
+
+// The overlaps alone, for where a covariance is wanted.
+pub fn fit_overlap(radius: usize, overlap: &mut [f32; 225]) -> Operator
+    ensures { λ r. ⌜ OverlapDone radius (now (overlap .entry)) r (now (overlap .exit)) ⌝ }
+{
+    if 7 < radius {
+        return Operator::Refused(Refusal::BadRadius);
+    }
+    let mut m = normal::normal_matrix(radius);
+    if !inverse::reduce(&mut m) {
+        return Operator::Singular;
+    }
+    overlap::fill_overlap(radius, &m, overlap);
+    Operator::Built
 }

@@ -60,7 +60,7 @@ pub fn refine(
     }
 }
 
-// A seed that passed the tests, with the operator of the settings' radius; at radius 0 there is none.
+// A seed that passed the tests, with the operator of the settings' radius; at radius 0 there is none. Overlaps serve the covariance alone.
 fn refine_fresh(
     img: &[u8],
     sizes: Sizes,
@@ -73,7 +73,10 @@ fn refine_fresh(
 {
     let mut columns = [0.0f32; 1125];
     let mut overlap = [0.0f32; 225];
-    let operator = refine_operator::fit_operator(cfg.radius, &mut columns, &mut overlap);
+    let operator = refine_operator::fit_columns(cfg.radius, &mut columns);
+    if wanted {
+        refine_operator::fit_overlap(cfg.radius, &mut overlap);
+    }
     match operator {
         Operator::Built => refine_seed(img, sizes, cfg, seed, wanted, &columns, &overlap),
         Operator::Singular => Refined::Unmoved(Why::IllConditioned, 0.0),

@@ -1,23 +1,26 @@
 -- `refine_list::list::refine_list` meets its contract: the operator that was built is usable, and without one no seed is accepted.
 use mathlib.Core.Bool.{false}
+use mathlib.Core.List.{[]}
 use borrow.Author.Needs.{needs}
 use Rattle.imageview.specs.Image.{imageOf}
+use Rattle.refine_operator.specs.Call.{wayOf, overlapAfter}
+use Rattle.refine_operator.proofs.CallLaws.{with-overlap}
 use Rattle.refine_seed.proofs.LentLaws.{lent-is-built, none-singular, none-refused}
 use Rattle.refine_list.proofs.ListLaws.{empty}
 use Rattle.refine_list.proofs.list.refine_list.Statement.{statement}
 use Rattle.refine_list.proofs.list.refine_list.Tie as tie
 
-fit-operator-requires : tie.Need-fit-operator-requires
-fit-operator-requires c κs = search needs
+fit-columns-requires : tie.Need-fit-columns-requires
+fit-columns-requires c κs = search needs
 
 enum-told : tie.Need-enum-told
 enum-told c = search needs
 
 refine-all-requires : tie.Need-refine-all-requires
 refine-all-requires c κs =
-    let s = c .before .before .before .before .before .before .before .before .before .before in
-    let f = c .before .before .before .before .fit-operator in
-    (s .pre, record { overlap = f .last .1 .1 .0; same = λ img x y wanted. lent-is-built img (s .args .cfg) x y wanted _ _ _ _ _ (f .ensures) (c .before .before .enum-told .given .1) })
+    let s = c .before .before .before .before .before .before .before .before .before in
+    let f = c .before .before .before .before .fit-columns in
+    (s .pre, record { overlap = overlapAfter [] (wayOf (s .args .cfg .radius)); same = λ img x y wanted. lent-is-built img (s .args .cfg) x y wanted _ [] _ _ _ (with-overlap (s .args .cfg .radius) _ [] _ _ (f .ensures)) (c .before .before .enum-told .given .1) })
 
 enum-told-2 : tie.Need-enum-told-2
 enum-told-2 c = search needs
@@ -33,15 +36,15 @@ returns c = search needs
 
 returns-2 : tie.Need-returns-2
 returns-2 c =
-    let a = c .before .before .before .before .before .before .before .before .args in
+    let a = c .before .before .before .before .before .before .before .args in
     let img = imageOf (a .img .now) (a .sizes) in
-    empty img (a .cfg) (a .corners .now) (a .out .now) (λ x y. none-singular img (a .cfg) x y false _ _ _ _ _ (c .before .before .fit-operator .ensures) (c .enum-told2 .given .1))
+    empty img (a .cfg) (a .corners .now) (a .out .now) (λ x y. none-singular img (a .cfg) x y false _ [] _ _ _ (with-overlap (a .cfg .radius) _ [] _ _ (c .before .before .fit-columns .ensures)) (c .enum-told2 .given .1))
 
 returns-3 : tie.Need-returns-3
 returns-3 c =
-    let a = c .before .before .before .before .before .before .before .before .args in
+    let a = c .before .before .before .before .before .before .before .args in
     let img = imageOf (a .img .now) (a .sizes) in
-    empty img (a .cfg) (a .corners .now) (a .out .now) (λ x y. none-refused img (a .cfg) x y false _ _ _ _ _ (c .before .before .fit-operator .ensures) _ (c .enum-told3 .given .1))
+    empty img (a .cfg) (a .corners .now) (a .out .now) (λ x y. none-refused img (a .cfg) x y false _ [] _ _ _ (with-overlap (a .cfg .radius) _ [] _ _ (c .before .before .fit-columns .ensures)) _ (c .enum-told3 .given .1))
 
 pub refine-list-spec : {M : Type 1} → statement M
-refine-list-spec = tie.close (tie.spec fit-operator-requires enum-told refine-all-requires enum-told-2 enum-told-3 same-length returns returns-2 returns-3)
+refine-list-spec = tie.close (tie.spec fit-columns-requires enum-told refine-all-requires enum-told-2 enum-told-3 same-length returns returns-2 returns-3)
