@@ -25,7 +25,7 @@ ShowsUnpadded = (img : Image) → isImage img ≡ true → SamePixels img (unpad
 abbrev pub NoPadding : Type 0
 NoPadding = (img : Image) → isImage img ≡ true → img .pitch ≡ img .width → unpadded img ≡ img
 
--- two images of one size and pitch that agree outside the padding show the same
+-- two images of one size that agree outside the padding show the same, whatever their pitches
 abbrev pub AgreeOutside : Type 0
 AgreeOutside =
     (a b : Image) → isImage a ≡ true → isImage b ≡ true → a .width ≡ b .width → a .height ≡ b .height
