@@ -62,10 +62,19 @@ module _ (radius : ℕ) (m m' : List Float) (regular : Bool) (h : radius ≤ 7) 
   overlap-built overlap overlap' d k =
       overlap-end radius overlap overlap' (built (columnsOf radius m') (overlapOf radius m')) (way-is radius m m' regular true h e r d) k
 
--- both at once
-pub both : (radius : ℕ) (columns overlap columns' overlap' : List Float) (answer : Operator) → ColumnsDone radius columns answer columns' → OverlapDone radius overlap answer overlap'
-    → Done radius columns overlap answer columns' overlap'
-both radius columns overlap columns' overlap' answer c o = record { answers = c .answers; leaves-columns = c .leaves; leaves-overlap = o .leaves }
+-- both, one after the other
+pub both : (radius : ℕ) (columns overlap columns' overlap' : List Float) (first second : Operator) → ColumnsDone radius columns first columns' → OverlapDone radius overlap second overlap'
+    → Done radius columns overlap second columns' overlap'
+both radius columns overlap columns' overlap' first second c o = record { answers = o .answers; leaves-columns = c .leaves; leaves-overlap = o .leaves }
+
+-- without columns there are no overlaps
+unbuilt : (overlap : List Float) (w : Way) (answer : Operator) → answer ≡ answerOf w → (answer ≡ Built → ⊥) → overlap ≡ overlapAfter overlap w
+unbuilt overlap (refused r) answer e n = refl
+unbuilt overlap none answer e n = refl
+unbuilt overlap (built c o) answer e n = absurd (n e)
+
+pub neither : (radius : ℕ) (columns overlap columns' : List Float) (first answer : Operator) → ColumnsDone radius columns first columns' → first ≡ answer → (answer ≡ Built → ⊥) → Done radius columns overlap answer columns' overlap
+neither radius columns overlap columns' first answer c e n = record { answers = sym e ∙ c .answers; leaves-columns = c .leaves; leaves-overlap = unbuilt overlap (wayOf radius) answer (sym e ∙ c .answers) n }
 
 -- with the columns alone the overlaps may be thought of as built
 pub with-overlap : (radius : ℕ) (columns overlap columns' : List Float) (answer : Operator) → ColumnsDone radius columns answer columns'

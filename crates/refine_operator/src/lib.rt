@@ -52,20 +52,17 @@ struct Upper {
     ff: f64,
 }
 
-// Builds the operator for a radius: five coefficients a sample, and the nine overlaps.
+// Builds the operator for a radius: five coefficients a sample, and the nine overlaps. Each part works out the inverse for itself: so neither's matrices stand in a
+// caller's stack, and less is kept in registers.
 pub fn fit_operator(radius: usize, columns: &mut [f32; 1125], overlap: &mut [f32; 225]) -> Operator
     ensures { λ r. ⌜ Done radius (now (columns .entry)) (now (overlap .entry)) r (now (columns .exit)) (now (overlap .exit)) ⌝ }
 {
-    if 7 < radius {
-        return Operator::Refused(Refusal::BadRadius);
+    let operator = fit_columns(radius, columns);
+    match operator {
+        Operator::Built => fit_overlap(radius, overlap),
+        Operator::Singular => Operator::Singular,
+        Operator::Refused(refusal) => Operator::Refused(refusal),
     }
-    let mut m = normal::normal_matrix(radius);
-    if !inverse::reduce(&mut m) {
-        return Operator::Singular;
-    }
-    rows::fill_columns(radius, &m, columns);
-    overlap::fill_overlap(radius, &m, overlap);
-    Operator::Built
 }
 
 // The coefficients alone: a list of seeds needs no overlaps.

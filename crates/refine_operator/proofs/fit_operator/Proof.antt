@@ -1,47 +1,52 @@
--- `refine_operator::fit_operator` meets its contract: each answer is the end of its way.
-use borrow.Author.Tests.{not-true, not-false}
+-- `refine_operator::fit_operator` meets its contract: the overlaps follow the columns, and without columns they stay.
+use mathlib.Core.Path.{_≡_}
+use Prim.Native.Nat.{ℕ}
+use native.Mathlib.Omega.{arith}
+use Rattle.refine_operator.specs.declared.Operator.the-variants.{Singular, Refused}
+use Rattle.refine_operator.proofs.CallLaws.{both, neither}
 use borrow.Author.Needs.{needs}
-use Rattle.refine_operator.proofs.CallLaws.{both, columns-bad, columns-singular, columns-built, overlap-bad, overlap-singular, overlap-built}
 use Rattle.refine_operator.proofs.fit_operator.Statement.{statement}
 use Rattle.refine_operator.proofs.fit_operator.Tie as tie
 
+fit-columns-requires : tie.Need-fit-columns-requires
+fit-columns-requires c κs = search needs
+
+enum-told : tie.Need-enum-told
+enum-told c = search needs
+
+fit-overlap-requires : tie.Need-fit-overlap-requires
+fit-overlap-requires c κs = search needs
+
+enum-told-2 : tie.Need-enum-told-2
+enum-told-2 c = search needs
+
+enum-known-operator : tie.Need-enum-known-operator
+enum-known-operator c = search needs
+
 returns : tie.Need-returns
-returns c = both (c .before .args .radius) (c .before .args .columns .now) (c .before .args .overlap .now) _ _ _ (columns-bad (c .before .args .radius) (c .before .args .columns .now) (c .if1 .taken)) (overlap-bad (c .before .args .radius) (c .before .args .overlap .now) (c .if1 .taken))
-
-normal-matrix-requires : tie.Need-normal-matrix-requires
-normal-matrix-requires c κs = search needs
-
-reduce-requires : tie.Need-reduce-requires
-reduce-requires c κs = search needs
+returns c =
+    let a = c .before .before .before .before .before .before .args in
+    both (a .radius) (a .columns .now) (a .overlap .now) _ _ (c .before .before .before .before .fit-columns .result) (c .fit-overlap .result) (c .before .before .before .before .fit-columns .ensures) (c .fit-overlap .ensures)
 
 returns-2 : tie.Need-returns-2
 returns-2 c =
-    let a = c .before .before .before .before .before .args in
-    let m = c .before .before .before .normal-matrix in
-    let r = c .before .reduce in
-    both (a .radius) (a .columns .now) (a .overlap .now) _ _ _ (columns-singular (a .radius) (m .result) (r .last .0) (r .result) (c .before .before .before .before .if1 .left) (m .ensures) (r .ensures) (a .columns .now) (not-true (r .result) (c .if2 .taken))) (overlap-singular (a .radius) (m .result) (r .last .0) (r .result) (c .before .before .before .before .if1 .left) (m .ensures) (r .ensures) (a .overlap .now) (not-true (r .result) (c .if2 .taken)))
-
-fill-columns-requires : tie.Need-fill-columns-requires
-fill-columns-requires c κs = search needs
-
-fill-overlap-requires : tie.Need-fill-overlap-requires
-fill-overlap-requires c κs = search needs
+    let a = c .before .before .before .before .args in
+    neither (a .radius) (a .columns .now) (a .overlap .now) _ (c .before .before .fit-columns .result) Singular (c .before .before .fit-columns .ensures) (c .enum-told2 .given .1) (λ e. let z : _≡_ {A = ℕ} 0 1 = cc in omega arith)
 
 returns-3 : tie.Need-returns-3
 returns-3 c =
-    let a = c .before .before .before .before .before .before .before .before .before .before .before .args in
-    let m = c .before .before .before .before .before .before .before .before .before .normal-matrix in
-    let r = c .before .before .before .before .before .before .before .reduce in
-    both (a .radius) (a .columns .now) (a .overlap .now) _ _ _ (columns-built (a .radius) (m .result) (r .last .0) (r .result) (c .before .before .before .before .before .before .before .before .before .before .if1 .left) (m .ensures) (r .ensures) (a .columns .now) _ (not-false (r .result) (c .before .before .before .before .before .before .if2 .left)) (c .before .before .before .fill-columns .ensures)) (overlap-built (a .radius) (m .result) (r .last .0) (r .result) (c .before .before .before .before .before .before .before .before .before .before .if1 .left) (m .ensures) (r .ensures) (a .overlap .now) _ (not-false (r .result) (c .before .before .before .before .before .before .if2 .left)) (c .fill-overlap .ensures))
+    let a = c .before .before .before .before .before .args in
+    neither (a .radius) (a .columns .now) (a .overlap .now) _ (c .before .before .before .fit-columns .result) (Refused (c .before .operator .given .0 .0)) (c .before .before .before .fit-columns .ensures) (c .before .operator .given .1) (λ e. let z : _≡_ {A = ℕ} 0 1 = cc in omega arith)
 
 pub fit-operator-spec : {M : Type 1} → statement M
 fit-operator-spec =
     tie.close
     (tie.spec
+    fit-columns-requires
+    enum-told
+    fit-overlap-requires
+    enum-told-2
+    enum-known-operator
     returns
-    normal-matrix-requires
-    reduce-requires
     returns-2
-    fill-columns-requires
-    fill-overlap-requires
     returns-3)
