@@ -21,12 +21,11 @@ use lib.Ieee.{Float, nan}
 use Rattle.imageview.specs.Image.{Image}
 use Rattle.refine_fits.specs.declared.IntegerFits.{IntegerFits}
 use Rattle.refine_fits.specs.declared.Looked.{Looked}
-use Rattle.refine_fits.specs.declared.Around.{Around}
 use Rattle.imageview.specs.Patch.{inside, supportsPatch}
 use Rattle.imageview.proofs.PatchLaws.{before}
 use Rattle.refine_fits.specs.StepsAdding.{Sound, PatchWithin, FourWithin, hasRoom}
 use Rattle.refine_formulas.proofs.Choice.{and-both, and-first, and-second}
-use Rattle.refine_fits.specs.StepsCache.{fitIn, centreX, centreY, named, slotted, Shaped, Kept, Slot, Counted, Found, fitsOf, Surrounds}
+use Rattle.refine_fits.specs.StepsCache.{fitIn, centreX, centreY, named, slotted, Shaped, Kept, Slot, Counted, Found, Surrounds}
 
 -- ---- the count
 pub count-again : (len : ℕ) → len ≡ 17 → Counted len 9
@@ -46,7 +45,7 @@ count-on len h g = record { small = below (eq-or-lt-of-le (le-of-suc-le-suc h));
     split slot a b = ⊎-elim (λ (e : slot ≡ len). inr (last slot a e)) (λ (l : slot < len). inl l) (eq-or-lt-of-le (let k : slot ≤ len = omega arith in k))
 
 -- ---- five stores in a row
-five : {a b c d e a' b' c' d' e' : Float} → a ≡ a' → b ≡ b' → c ≡ c' → d ≡ d' → e ≡ e' → a ∷ b ∷ c ∷ d ∷ e ∷ [] ≡ a' ∷ b' ∷ c' ∷ d' ∷ e' ∷ []
+pub five : {a b c d e a' b' c' d' e' : Float} → a ≡ a' → b ≡ b' → c ≡ c' → d ≡ d' → e ≡ e' → a ∷ b ∷ c ∷ d ∷ e ∷ [] ≡ a' ∷ b' ∷ c' ∷ d' ∷ e' ∷ []
 five {a} {b} {c} {d} {e} {a'} {b'} {c'} {d'} {e'} p q r s t =
     ap (λ (v : Float). v ∷ b ∷ c ∷ d ∷ e ∷ []) p
     ∙ ap (λ (v : Float). a' ∷ v ∷ c ∷ d ∷ e ∷ []) q
@@ -114,7 +113,7 @@ pair-y : (l : List ℕ) (p x y : ℕ) → p + 1 < length l → getD (pair l p x 
 pair-y l p x y h = getD-set-same (set l p x) (p + 1) y 0 (subst (λ (n : ℕ). p + 1 < n) (sym (length-set l p x)) h)
 
 -- ---- storing a fit
-abbrev fiveOf : List Float → List Float
+abbrev pub fiveOf : List Float → List Float
 fiveOf l = entry l 0 ∷ entry l 1 ∷ entry l 2 ∷ entry l 3 ∷ entry l 4 ∷ []
 
 pub record Stored (fits : IntegerFits) (x y : ℕ) (coefs : List Float) (r : IntegerFits) : Type 0 where
@@ -194,7 +193,7 @@ hit img columns radius x y slot fits k h l =
     ∙ ap (λ (v : ℕ). coefficients img columns radius x v) (h .at-y l)
 
 -- five entries of a fit are the fit
-all-five : (img : Image) (columns : List Float) (radius x y : ℕ) → fiveOf (coefficients img columns radius x y) ≡ coefficients img columns radius x y
+pub all-five : (img : Image) (columns : List Float) (radius x y : ℕ) → fiveOf (coefficients img columns radius x y) ≡ coefficients img columns radius x y
 unfolding coefficients tabulated
 all-five img columns radius x y = refl
 
@@ -341,7 +340,7 @@ module _ (img : Image) (columns : List Float) (radius x y : ℕ) where
       ∙ ap (λ (f : Fit). fits4 (fitted (coefficients img columns radius x y)) (fitted (coefficients img columns radius (x + 1) y)) (fitted (coefficients img columns radius x (y + 1))) f) (there img columns radius (x + 1) (y + 1) (room11 w))
 
   -- the fits that were looked up, as the new corners
-  pub looked : (c00 c10 c01 c11 : List Float) (fits : IntegerFits) → FourWithin img radius x y → c00 ≡ coefficients img columns radius x y → c10 ≡ coefficients img columns radius (x + 1) y → c01 ≡ coefficients img columns radius x (y + 1) → c11 ≡ coefficients img columns radius (x + 1) (y + 1) → Kept img columns radius fits → Surrounds img columns radius x y (record { found = true; fits = record { centres = fits .centres; coefs = fits .coefs; len = fits .len; corners = record { c00 = c00; c10 = c10; c01 = c01; c11 = c11 }; «base_x» = x; «base_y» = y } })
+  pub looked : (c00 c10 c01 c11 : List Float) (fits : IntegerFits) → FourWithin img radius x y → c00 ≡ coefficients img columns radius x y → c10 ≡ coefficients img columns radius (x + 1) y → c01 ≡ coefficients img columns radius x (y + 1) → c11 ≡ coefficients img columns radius (x + 1) (y + 1) → Kept img columns radius fits → Surrounds img columns radius x y (record { centres = fits .centres; coefs = fits .coefs; len = fits .len; corners = record { c00 = c00; c10 = c10; c01 = c01; c11 = c11 }; «base_x» = x; «base_y» = y })
   looked c00 c10 c01 c11 fits w a b c d k =
       let e : cornersAt img columns radius (pos x) (pos y) ≡ four (record { c00 = c00; c10 = c10; c01 = c01; c11 = c11 }) =
       has-four w
@@ -381,7 +380,7 @@ module _ (img : Image) (columns : List Float) (radius x y : ℕ) where
         fourth = λ j q. e ∙ ap about (let r : k ≡ j = omega arith in r);
       }
 
-  pub look-last : (fits : IntegerFits) (c00 c10 c01 c11 : List Float) (k : ℕ) → FourWithin img radius x y → Looking fits c00 c10 c01 c11 k → 4 ≤ k → Surrounds img columns radius x y (record { found = true; fits = record { centres = fits .centres; coefs = fits .coefs; len = fits .len; corners = record { c00 = c00; c10 = c10; c01 = c01; c11 = c11 }; «base_x» = x; «base_y» = y } })
+  pub look-last : (fits : IntegerFits) (c00 c10 c01 c11 : List Float) (k : ℕ) → FourWithin img radius x y → Looking fits c00 c10 c01 c11 k → 4 ≤ k → Surrounds img columns radius x y (record { centres = fits .centres; coefs = fits .coefs; len = fits .len; corners = record { c00 = c00; c10 = c10; c01 = c01; c11 = c11 }; «base_x» = x; «base_y» = y })
   look-last fits c00 c10 c01 c11 k w l h =
       looked c00 c10 c01 c11 fits w
       (l .first 0 (let r : k ≡ 0 + 4 = omega (arith, l .most) in r) ∙ ap (λ (u : ℕ). coefficients img columns radius u (y + 0)) (add-zero x) ∙ ap (λ (v : ℕ). coefficients img columns radius x v) (add-zero y))
@@ -389,7 +388,3 @@ module _ (img : Image) (columns : List Float) (radius x y : ℕ) where
       (l .third 2 (let r : k ≡ 2 + 2 = omega (arith, l .most) in r) ∙ ap (λ (u : ℕ). coefficients img columns radius u (y + 1)) (add-zero x))
       (l .fourth 3 (let r : k ≡ 3 + 1 = omega (arith, l .most) in r))
       (l .kept)
-
-  -- the last corners
-  pub again : (fits : IntegerFits) → Kept img columns radius fits → fits .«base_x» ≡ x → fits .«base_y» ≡ y → x < 8192 → Surrounds img columns radius x y (record { found = true; fits = fits })
-  again fits k p q h = record { is = ap (λ (n : ℕ). cornersAt img columns radius (pos n) (pos y)) (sym p) ∙ ap (λ (n : ℕ). cornersAt img columns radius (pos (fits .«base_x»)) (pos n)) (sym q) ∙ k .about (subst (λ (n : ℕ). n < 8192) (sym p) h); kept = k }

@@ -107,7 +107,7 @@ same-corners img columns radius z w s =
     along (img .width) radius (λ u. cornersAt img columns radius u w) (s .image .sized .width-most) (λ u h. far-x img columns radius u w h) z
     ∙ along (img .height) radius (λ v. cornersAt img columns radius (pos (pixelOf z)) v) (s .image .sized .height-most) (λ v h. far-y img columns radius (pos (pixelOf z)) v h) w
 
-pub pixel-most : (z : ℤ) → pixelOf z ≤ 8192
+pixel-most : (z : ℤ) → pixelOf z ≤ 8192
 pixel-most (negsuc n) = omega arith
 pixel-most (pos n) = by (ltb n 8192) refl
   where
@@ -131,3 +131,8 @@ window-is cx cy x y ox oy fx fy i j p q a b c d =
   where
     window : ℕ → ℕ → Float → Float → Window
     window x y tx ty = record { «base_x» = x; «base_y» = y; tx = tx; ty = ty }
+
+-- its base is the number of a pixel, or of none
+pub bases-most : (w : Window) (cx cy : ℤ) (ox oy : Float) → w ≡ windowOf (windowPlace cx cy ox oy) → (w .«base_x» ≤ 8192) × (w .«base_y» ≤ 8192)
+bases-most w cx cy ox oy e =
+    (subst (λ (n : ℕ). n ≤ 8192) (sym (ap (λ (v : Window). v .«base_x») e)) (pixel-most (windowPlace cx cy ox oy .baseX)), subst (λ (n : ℕ). n ≤ 8192) (sym (ap (λ (v : Window). v .«base_y») e)) (pixel-most (windowPlace cx cy ox oy .baseY)))

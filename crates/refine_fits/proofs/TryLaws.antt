@@ -16,17 +16,15 @@ use Rattle.refine_formulas.specs.declared.Corners.{Corners}
 use Rattle.refine_fits.specs.declared.Seed.{Seed}
 use Rattle.refine_fits.specs.declared.Window.{Window}
 use Rattle.refine_fits.specs.declared.Weighed.{Weighed}
-use Rattle.refine_fits.specs.declared.Candidate.{Candidate}
-use Rattle.refine_fits.specs.declared.Around.{Around}
-use Rattle.refine_fits.specs.declared.IntegerFits.{IntegerFits}
+use Rattle.refine_fits.specs.declared.Bases.{Bases}
 use Rattle.refine_formulas.specs.Numbers.{_⊕_}
 use Rattle.refine_formulas.specs.Solve.{solve, norm2}
 use Rattle.refine_fits.specs.Windows.{WindowPlace, windowPlace, Fits, four, cornersAt}
 use Rattle.refine_formulas.specs.Between.{blend}
 use Rattle.refine_fits.specs.Candidate.{Tried, passed, taken, nearAlong, nearSeed, judged, weighed, candidate, taskAt}
-use Rattle.refine_fits.specs.StepsTries.{windowOf, Weighs, Tries}
+use Rattle.refine_fits.specs.StepsTries.{windowOf, Weighs, Judges, Tries}
 use Rattle.refine_fits.specs.StepsAdding.{Sound}
-use Rattle.refine_fits.specs.StepsCache.{Kept, fitsOf, Surrounds}
+use Rattle.refine_fits.specs.StepsBases.{cornersIn, fitsOf, Stands}
 use Rattle.refine_formulas.proofs.Choice.{and-both, and-first, and-second}
 use Rattle.refine_fits.proofs.PlaceLaws.{same-corners}
 
@@ -65,31 +63,27 @@ module _ (cfg : SaddlePointConfig) (seed : Seed) (f : PatchSaddle) (ox oy : Floa
     pub no-better : lt n m ≡ false → Weighs cfg seed f ox oy c tx ty (record { taken = false; fit = f })
     no-better h = record { is = λ img columns w p q. by-saddle g is img columns w p q ∙ sym (and-first (lt (norm2 g) (norm2 f)) (near g) (stands w g) passed (sym less ∙ h)) }
 
+-- ---- fits that may be lacking
+module _ (cfg : SaddlePointConfig) (seed : Seed) (f : PatchSaddle) (ox oy : Float) (room : Bool) (c : Corners) (tx ty : Float) where
+  pub weighs-there : (r : Weighed) → room ≡ true → Weighs cfg seed f ox oy c tx ty r → Judges cfg seed f ox oy room c tx ty r
+  weighs-there r h w = record { is = λ img columns p q k. ap (λ (b : Bool). weighed (taskAt img columns cfg seed) f ox oy p (fitsOf b c)) h ∙ w .is img columns p q k }
+
+  pub passes-lacking : room ≡ false → Judges cfg seed f ox oy room c tx ty (record { taken = false; fit = f })
+  passes-lacking h = record { is = λ img columns p q k. ap (λ (b : Bool). weighed (taskAt img columns cfg seed) f ox oy p (fitsOf b c)) h }
+
 -- ---- the candidate, from the four fits about its window
-module _ (img : Image) (columns : List Float) (cfg : SaddlePointConfig) (seed : Seed) (f : PatchSaddle) (ox oy : Float) (sound : Sound img (cfg .radius)) (window : Window) (a : Around) (placed : window ≡ windowOf (windowPlace (pos (seed .«centre_x»)) (pos (seed .«centre_y»)) ox oy)) (around : Surrounds img columns (cfg .radius) (window .«base_x») (window .«base_y») a) where
-  abbrev place : WindowPlace
-  place = windowPlace (pos (seed .«centre_x»)) (pos (seed .«centre_y»)) ox oy
-
-  corners-are : cornersAt img columns (cfg .radius) (place .baseX) (place .baseY) ≡ fitsOf (a .found) (a .fits .corners)
-  corners-are =
-      same-corners img columns (cfg .radius) (place .baseX) (place .baseY) sound
-      ∙ ap (λ (w : Window). cornersAt img columns (cfg .radius) (pos (w .«base_x»)) (pos (w .«base_y»))) (sym placed)
-      ∙ around .is
-
-  by-corners : candidate (taskAt img columns cfg seed) f ox oy ≡ weighed (taskAt img columns cfg seed) f ox oy place (fitsOf (a .found) (a .fits .corners))
-  unfolding candidate
-  by-corners = ap (λ (v : Fits). weighed (taskAt img columns cfg seed) f ox oy place v) corners-are
-
-  pub weighed-up : (r : Weighed) → a .found ≡ true → Weighs cfg seed f ox oy (a .fits .corners) (window .tx) (window .ty) r → Tries (taskAt img columns cfg seed) f ox oy (record { taken = r .taken; window = window; fit = r .fit; fits = a .fits })
-  weighed-up r h w =
-      record {
-        is =
-            by-corners
-            ∙ ap (λ (b : Bool). weighed (taskAt img columns cfg seed) f ox oy place (fitsOf b (a .fits .corners))) h
-            ∙ w .is img columns place (ap (λ (v : Window). v .tx) (sym placed)) (ap (λ (v : Window). v .ty) (sym placed));
-        window = placed;
-        kept = around .kept;
-      }
-
-  pub passed-by : a .found ≡ false → Tries (taskAt img columns cfg seed) f ox oy (record { taken = false; window = window; fit = f; fits = a .fits })
-  passed-by h = record { is = by-corners ∙ ap (λ (b : Bool). weighed (taskAt img columns cfg seed) f ox oy place (fitsOf b (a .fits .corners))) h; window = placed; kept = around .kept }
+pub tries : (img : Image) (columns : List Float) (cfg : SaddlePointConfig) (seed : Seed) (f : PatchSaddle) (ox oy : Float) (window : Window) (room : Bool) (to : ℕ) (bases : Bases) (flat : List Float) (c : Corners) (r : Weighed) → Sound img (cfg .radius) → window ≡ windowOf (windowPlace (pos (seed .«centre_x»)) (pos (seed .«centre_y»)) ox oy) → Stands img columns (cfg .radius) (window .«base_x») (window .«base_y») room to bases flat → c ≡ cornersIn flat to → Judges cfg seed f ox oy room c (window .tx) (window .ty) r → Tries (taskAt img columns cfg seed) f ox oy c r
+unfolding candidate
+tries img columns cfg seed f ox oy window room to bases flat c r sound placed ready e j =
+    record {
+      is =
+          ap (λ (v : Fits). weighed (taskAt img columns cfg seed) f ox oy place v)
+          (same-corners img columns (cfg .radius) (place .baseX) (place .baseY) sound
+          ∙ ap (λ (w : Window). cornersAt img columns (cfg .radius) (pos (w .«base_x»)) (pos (w .«base_y»))) (sym placed)
+          ∙ ready .is
+          ∙ ap (fitsOf room) (sym e))
+          ∙ j .is img columns place (ap (λ (v : Window). v .tx) (sym placed)) (ap (λ (v : Window). v .ty) (sym placed));
+    }
+  where
+    place : WindowPlace
+    place = windowPlace (pos (seed .«centre_x»)) (pos (seed .«centre_y»)) ox oy

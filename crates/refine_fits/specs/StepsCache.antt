@@ -1,7 +1,6 @@
 -- The nine kept fits: what a slot holds, and that each is the fresh fit at its centre.
 use mathlib.Core.Path.{_≡_}
 use mathlib.Core.Logic.{_⊎_}
-use mathlib.Core.Bool.{Bool, true, false}
 use mathlib.Core.List.{List, [], _∷_}
 use Prim.Native.Nat.{ℕ, _+_, _*_, _%_, _≤_, _<_}
 use lib.IntN.{pos}
@@ -9,12 +8,10 @@ use lib.ListN.{length, getD, set}
 use lib.Ieee.{Float}
 use Rattle.shapes.specs.Numbers.{entry}
 use Rattle.imageview.specs.Image.{Image}
-use Rattle.refine_formulas.specs.declared.Corners.{Corners}
-use Rattle.refine_fits.specs.declared.Around.{Around}
 use Rattle.refine_fits.specs.declared.IntegerFits.{IntegerFits}
 use Rattle.refine_fits.specs.declared.Looked.{Looked}
 use Rattle.refine_fits.specs.Fit.{coefficients}
-use Rattle.refine_fits.specs.Windows.{Fits, lacking, four, cornersAt}
+use Rattle.refine_fits.specs.Windows.{four, cornersAt}
 
 -- the fit in a slot, and its centre
 abbrev pub fitIn : List Float → ℕ → List Float
@@ -65,10 +62,6 @@ pub record Found (img : Image) (columns : List Float) (radius x y : ℕ) (r : Lo
   pub kept : Kept img columns radius (r .fits)
 
 -- ---- the four fits about a base
-abbrev pub fitsOf : Bool → Corners → Fits
-fitsOf true c = four c
-fitsOf false c = lacking
-
-pub record Surrounds (img : Image) (columns : List Float) (radius x y : ℕ) (r : Around) : Type 0 where
-  pub is : cornersAt img columns radius (pos x) (pos y) ≡ fitsOf (r .found) (r .fits .corners)
-  pub kept : Kept img columns radius (r .fits)
+pub record Surrounds (img : Image) (columns : List Float) (radius x y : ℕ) (r : IntegerFits) : Type 0 where
+  pub is : cornersAt img columns radius (pos x) (pos y) ≡ four (r .corners)
+  pub kept : Kept img columns radius r

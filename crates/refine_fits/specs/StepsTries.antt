@@ -13,10 +13,9 @@ use Rattle.refine_formulas.specs.declared.Corners.{Corners}
 use Rattle.refine_fits.specs.declared.Window.{Window}
 use Rattle.refine_fits.specs.declared.Seed.{Seed}
 use Rattle.refine_fits.specs.declared.Weighed.{Weighed}
-use Rattle.refine_fits.specs.declared.Candidate.{Candidate}
 use Rattle.refine_fits.specs.Windows.{WindowPlace, windowPlace, four}
 use Rattle.refine_fits.specs.Candidate.{taskAt, Task, Tried, passed, taken, weighed, candidate}
-use Rattle.refine_fits.specs.StepsCache.{Kept}
+use Rattle.refine_fits.specs.StepsBases.{fitsOf}
 
 -- a whole number as a pixel's number; 8192 is none, since no image is as wide
 abbrev pub pixelOf : ℤ → ℕ
@@ -32,8 +31,10 @@ triedBy b ox oy w c f = cond b (taken (record { ox = ox; oy = oy; place = w; cor
 pub record Weighs (cfg : SaddlePointConfig) (seed : Seed) (f : PatchSaddle) (ox oy : Float) (c : Corners) (tx ty : Float) (r : Weighed) : Type 0 where
   pub is : (img : Image) (columns : List Float) (w : WindowPlace) → w .tx ≡ tx → w .ty ≡ ty → weighed (taskAt img columns cfg seed) f ox oy w (four c) ≡ triedBy (r .taken) ox oy w c (r .fit)
 
--- a candidate's outcome, and the cache after it
-pub record Tries (t : Task) (f : PatchSaddle) (ox oy : Float) (r : Candidate) : Type 0 where
-  pub is : candidate t f ox oy ≡ triedBy (r .taken) ox oy (windowPlace (t .centreX) (t .centreY) ox oy) (r .fits .corners) (r .fit)
-  pub window : r .window ≡ windowOf (windowPlace (t .centreX) (t .centreY) ox oy)
-  pub kept : Kept (t .img) (t .columns) (t .cfg .radius) (r .fits)
+-- the same of fits that may be lacking
+pub record Judges (cfg : SaddlePointConfig) (seed : Seed) (f : PatchSaddle) (ox oy : Float) (room : Bool) (c : Corners) (tx ty : Float) (r : Weighed) : Type 0 where
+  pub is : (img : Image) (columns : List Float) (w : WindowPlace) → w .tx ≡ tx → w .ty ≡ ty → weighed (taskAt img columns cfg seed) f ox oy w (fitsOf room c) ≡ triedBy (r .taken) ox oy w c (r .fit)
+
+-- a candidate's outcome, with the four fits about its window
+pub record Tries (t : Task) (f : PatchSaddle) (ox oy : Float) (c : Corners) (r : Weighed) : Type 0 where
+  pub is : candidate t f ox oy ≡ triedBy (r .taken) ox oy (windowPlace (t .centreX) (t .centreY) ox oy) c (r .fit)

@@ -1,15 +1,13 @@
 // Nine fits kept by their centre pixel: each look-up gives what a fresh fit gives.
-use super::Around;
 use super::IntegerFits;
 use super::Looked;
 use crate::fits;
 use imageview::Sizes;
 use refine_formulas::Corners;
 ghost use mathlib.Core.Path.{_≡_};
-ghost use mathlib.Core.Bool.{true};
-ghost use Prim.Native.Nat.{_+_, _*_, _<_, _≤_};
+ghost use Prim.Native.Nat.{_<_};
 ghost use Rattle.imageview.specs.Image.{imageOf};
-ghost use Rattle.refine_fits.specs.StepsAdding.{Sound, PatchWithin, FourWithin, hasRoom};
+ghost use Rattle.refine_fits.specs.StepsAdding.{PatchWithin, FourWithin};
 ghost use Rattle.refine_fits.specs.StepsCache.{Kept, Slot, fitIn, named, slotted, Counted, Found, Surrounds};
 
 impl IntegerFits {
@@ -44,39 +42,8 @@ impl IntegerFits {
         Looked { coefs, fits: self }
     }
 
-    // The four fits about the base (x, y), where all four patches lie in the image: the last ones, or looked up.
-    pub fn about(
-        self,
-        img: &[u8],
-        sizes: Sizes,
-        x: usize,
-        y: usize,
-        radius: usize,
-        columns: &[f32; 1125],
-    ) -> Around
-        requires { ⌜ Sound (imageOf (now img) sizes) radius ⌝ ∗ ⌜ Kept (imageOf (now img) sizes) (now columns) radius self ⌝ ∗ ⌜ (x ≤ 8192) × (y ≤ 8192) ⌝ }
-        ensures { λ r. ⌜ Surrounds (imageOf (now (img .entry)) sizes) (now (columns .entry)) radius x y r ⌝ }
-    {
-        if !has_room(sizes, x, y, radius) {
-            return Around {
-                found: false,
-                fits: self,
-            };
-        }
-        if (self.base_x == x) & (self.base_y == y) {
-            return Around {
-                found: true,
-                fits: self,
-            };
-        }
-        Around {
-            found: true,
-            fits: self.look(img, sizes, x, y, radius, columns),
-        }
-    }
-
     // The four fits about (x, y), one after the other.
-    fn look(
+    pub fn look(
         self,
         img: &[u8],
         sizes: Sizes,
@@ -86,7 +53,7 @@ impl IntegerFits {
         columns: &[f32; 1125],
     ) -> IntegerFits
         requires { ⌜ FourWithin (imageOf (now img) sizes) radius x y ⌝ ∗ ⌜ Kept (imageOf (now img) sizes) (now columns) radius self ⌝ }
-        ensures { λ r. ⌜ Surrounds (imageOf (now (img .entry)) sizes) (now (columns .entry)) radius x y (record { found = true; fits = r }) ⌝ }
+        ensures { λ r. ⌜ Surrounds (imageOf (now (img .entry)) sizes) (now (columns .entry)) radius x y r ⌝ }
     {
         let mut fits = self;
         let mut c00 = [0.0f32; 5];
@@ -110,14 +77,6 @@ impl IntegerFits {
         fits.base_y = y;
         fits
     }
-}
-
-// Whether all four patches about the base (x, y) lie in the image.
-fn has_room(sizes: Sizes, x: usize, y: usize, radius: usize) -> bool
-    requires { ⌜ (x ≤ 8192) × (y ≤ 8192) × (radius ≤ 7) ⌝ }
-    ensures { λ r. ⌜ r ≡ hasRoom radius x y (sizes .width) (sizes .height) ⌝ }
-{
-    (radius <= x) & (x + 1 + radius < sizes.width) & (radius <= y) & (y + 1 + radius < sizes.height)
 }
 
 // The slot of the fit about (x, y), or 9 where it is not kept.

@@ -1,12 +1,14 @@
-// The fit on the patch about a pixel: rows one after the other, each a part of the image.
+// The fit on the patch about a pixel: rows one after the other, each a part of the image; and the four fits about a base at once.
 use super::Sums;
 use imageview::Sizes;
+use refine_patch::Firsts;
 ghost use mathlib.Core.Path.{_≡_};
 ghost use Prim.Native.Nat.{_+_, _*_, _<_, _≤_};
 ghost use lib.ListN.{length};
 ghost use Rattle.imageview.specs.Image.{imageOf};
 ghost use Rattle.refine_fits.specs.Fit.{coefficients};
-ghost use Rattle.refine_fits.specs.StepsAdding.{added, rowAdded, PatchWithin};
+ghost use Rattle.refine_fits.specs.StepsAdding.{added, rowAdded, PatchWithin, FourWithin};
+ghost use Rattle.refine_fits.specs.StepsBases.{firstPlace, Laid};
 
 // The sums with the sample k, which is z above the centre's.
 fn add_sample(s: Sums, columns: &[f32; 1125], k: usize, z: f32) -> Sums
@@ -65,4 +67,37 @@ pub fn fit_patch(
         row += 1;
     }
     [sums.a, sums.b, sums.c, sums.d, sums.e]
+}
+
+// Where the patch about (x, y) begins in the image's bytes.
+pub fn first_place(sizes: Sizes, x: usize, y: usize, radius: usize) -> usize
+    requires { ⌜ (radius ≤ x) × (radius ≤ y) × (x ≤ 4096) × (y ≤ 4096) × (sizes .pitch ≤ 8192) ⌝ }
+    ensures { λ r. ⌜ r ≡ firstPlace (sizes .pitch) radius x y ⌝ }
+{
+    (y - radius) * sizes.pitch + (x - radius)
+}
+
+// The four fits about the base (x, y), to `flat` from `to` on.
+pub fn fit_about(
+    img: &[u8],
+    sizes: Sizes,
+    x: usize,
+    y: usize,
+    radius: usize,
+    columns: &[f32; 1125],
+    flat: &mut [f32; 40],
+    to: usize,
+)
+    requires { ⌜ FourWithin (imageOf (now img) sizes) radius x y ⌝ ∗ ⌜ (length (now flat) ≡ 40) × (to ≤ 20) ⌝ }
+    ensures { λ _. ⌜ Laid (imageOf (now (img .entry)) sizes) (now (columns .entry)) radius x y to (now (flat .entry)) (now (flat .exit)) ⌝ }
+{
+    let pitch = sizes.pitch;
+    let at = first_place(sizes, x, y, radius);
+    let firsts = Firsts {
+        a: at,
+        b: at + 1,
+        c: at + pitch,
+        d: at + pitch + 1,
+    };
+    refine_patch::fit_four(img, pitch, columns, radius, firsts, flat, to);
 }

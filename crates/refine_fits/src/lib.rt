@@ -4,7 +4,8 @@ use refine_formulas::PatchSaddle;
 
 mod cache;
 pub mod fits;
-mod place;
+pub mod laid;
+pub mod place;
 pub mod tries;
 
 // Fits that were worked out, by their centre pixel, the oldest overwritten first, and the four about the last base.
@@ -25,10 +26,20 @@ pub struct Looked {
     pub coefs: [f32; 5],
 }
 
-// The cache after the four fits about a base were asked for; where they are there, they are its corners.
-pub struct Around {
-    pub fits: IntegerFits,
-    pub found: bool,
+// The two bases whose four fits stand in a flat array, the first and the last one; an x of 8192 is none.
+pub struct Bases {
+    pub x0: usize,
+    pub y0: usize,
+    pub x1: usize,
+    pub y1: usize,
+}
+
+// A base that is made ready: whether all four patches lie in the image, and then where their fits stand. Those of a further base have yet to be laid there.
+pub struct Ready {
+    pub bases: Bases,
+    pub room: bool,
+    pub further: bool,
+    pub to: usize,
 }
 
 // A window between pixels: the pixel below and before it, 8192 where that lies outside every image, and how far on it lies.
@@ -50,14 +61,6 @@ pub struct Seed {
 // Whether a candidate is taken, and then its saddle.
 pub struct Weighed {
     pub taken: bool,
-    pub fit: PatchSaddle,
-}
-
-// A candidate with its window, and the cache after it; where it is taken, the corners are those about the window.
-pub struct Candidate {
-    pub fits: IntegerFits,
-    pub taken: bool,
-    pub window: Window,
     pub fit: PatchSaddle,
 }
 

@@ -1,10 +1,6 @@
 // One candidate window: its fit, and whether it is taken.
-use super::Candidate;
-use super::IntegerFits;
 use super::Seed;
 use super::Weighed;
-use crate::place;
-use imageview::Sizes;
 use refine_formulas::Corners;
 use refine_formulas::PatchSaddle;
 use refine_formulas::SaddlePointConfig;
@@ -15,11 +11,8 @@ ghost use mathlib.Core.Path.{_≡_};
 ghost use mathlib.Core.Bool.{_&&_};
 ghost use Prim.Native.Nat.{_<_, _≤_};
 ghost use lib.IntN.{pos};
-ghost use Rattle.imageview.specs.Image.{imageOf};
-ghost use Rattle.refine_fits.specs.Candidate.{halfSide, nearAlong, taskAt};
-ghost use Rattle.refine_fits.specs.StepsTries.{Weighs, Tries};
-ghost use Rattle.refine_fits.specs.StepsAdding.{Sound};
-ghost use Rattle.refine_fits.specs.StepsCache.{Kept};
+ghost use Rattle.refine_fits.specs.Candidate.{halfSide, nearAlong};
+ghost use Rattle.refine_fits.specs.StepsTries.{Weighs, Judges};
 
 // Half the side of the box about the seed.
 fn half_side(cfg: SaddlePointConfig) -> f32
@@ -89,42 +82,26 @@ fn weigh(
     }
 }
 
-// The window at an offset from the centre.
+// A candidate window at an offset from the centre, with the four fits about it where there is room for them.
 pub fn candidate(
-    fits: IntegerFits,
-    img: &[u8],
-    sizes: Sizes,
-    columns: &[f32; 1125],
     cfg: SaddlePointConfig,
     seed: Seed,
     f: PatchSaddle,
     ox: f32,
     oy: f32,
-) -> Candidate
-    requires { ⌜ Sound (imageOf (now img) sizes) (cfg .radius) ⌝ ∗ ⌜ (seed .«centre_x» < 4096) × (seed .«centre_y» < 4096) ⌝ ∗ ⌜ Kept (imageOf (now img) sizes) (now columns) (cfg .radius) fits ⌝ }
-    ensures { λ r. ⌜ Tries (taskAt (imageOf (now (img .entry)) sizes) (now (columns .entry)) cfg seed) f ox oy r ⌝ }
+    room: bool,
+    corners: Corners,
+    tx: f32,
+    ty: f32,
+) -> Weighed
+    requires { ⌜ (cfg .radius ≤ 7) × (seed .«centre_x» < 4096) × (seed .«centre_y» < 4096) ⌝ }
+    ensures { λ r. ⌜ Judges cfg seed f ox oy room corners tx ty r ⌝ }
 {
-    let window = place::window_at(seed.centre_x, seed.centre_y, ox, oy);
-    let radius = cfg.radius;
-    let base_x = window.base_x;
-    let base_y = window.base_y;
-    let around = fits.about(img, sizes, base_x, base_y, radius, columns);
-    let next = around.fits;
-    if around.found {
-        let corners = next.corners;
-        let weighed = weigh(cfg, seed, f, ox, oy, corners, window.tx, window.ty);
-        let fit = weighed.fit;
-        return Candidate {
-            taken: weighed.taken,
-            window,
-            fit,
-            fits: next,
-        };
+    if room {
+        return weigh(cfg, seed, f, ox, oy, corners, tx, ty);
     }
-    Candidate {
+    Weighed {
         taken: false,
-        window,
         fit: f,
-        fits: next,
     }
 }

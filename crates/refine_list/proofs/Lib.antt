@@ -1,4 +1,5 @@
 -- Laws of refining a list.
 pub mod ListLaws
+pub mod FirstLaws
 pub mod CallLaws
 pub mod PixelsAlone

@@ -1,13 +1,16 @@
--- What the list's inner functions do: records written to the front of the output.
+-- What the list's inner functions do: records written to the front of the output, and the first fits of four seeds at once.
 use mathlib.Core.Path.{_≡_}
 use mathlib.Core.Bool.{Bool}
 use mathlib.Core.List.{List, _++_}
-use Prim.Native.Nat.{ℕ, _*_, _/_, _≤_}
+use Prim.Native.Nat.{ℕ, _+_, _*_, _/_, _≤_, _<_}
 use lib.ListN.{length, drop}
 use lib.Ieee.{Float}
+use Rattle.shapes.specs.Numbers.{entry}
 use Rattle.imageview.specs.Image.{Image}
 use Rattle.refine_formulas.specs.declared.SaddlePointConfig.{SaddlePointConfig}
-use Rattle.refine_seed.specs.Refine.{refineLent, refineOf}
+use Rattle.refine_fits.specs.StepsBases.{coefsIn}
+use Rattle.refine_seed.specs.Refine.{admitOf, refineLent, refineOf}
+use Rattle.refine_seed.specs.StepsSpot.{firstFor, Fitted}
 use Rattle.refine_list.specs.Refining.{recordsOf}
 
 -- so many numbers, those of l, were written to the front
@@ -29,3 +32,14 @@ pub record Going (img : Image) (cfg : SaddlePointConfig) (corners out : List Flo
 pub record Usable (cfg : SaddlePointConfig) (columns : List Float) : Type 0 where
   pub overlap : List Float
   pub same : (img : Image) (x y : Float) (wanted : Bool) → refineLent img cfg x y wanted columns overlap ≡ refineOf img cfg x y wanted
+
+-- ---- the first fits of four seeds at once
+-- those of the seeds 4 · group to 4 · group + 3 stand at the front of the list, one after the other; past the last seed anything may stand
+pub record FirstFits (img : Image) (cfg : SaddlePointConfig) (columns corners : List Float) (group : ℕ) (flat : List Float) : Type 0 where
+  pub long : length flat ≡ 40
+  pub fitted : (l : ℕ) → l < 4 → 4 * group + l < length corners / 3 → Fitted img columns cfg (entry corners (3 * (4 * group + l))) (entry corners (3 * (4 * group + l) + 1)) (coefsIn flat l)
+
+-- where the patch of the seed number i begins, or of some patch of the image
+pub record Begins (img : Image) (cfg : SaddlePointConfig) (corners : List Float) (i r : ℕ) : Type 0 where
+  pub is : i < length corners / 3 → r ≡ firstFor (img .pitch) (cfg .radius) (admitOf img cfg (entry corners (3 * i)) (entry corners (3 * i + 1)))
+  pub else : length corners / 3 ≤ i → r ≡ 0

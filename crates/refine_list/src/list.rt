@@ -1,16 +1,18 @@
 // The list itself: the columns of one operator for all seeds.
 ghost use mathlib.Core.Path.{_≡_};
-ghost use mathlib.Core.List.{_∷_, [], _++_};
+ghost use mathlib.Core.List.{_++_};
 ghost use Prim.Native.Nat.{_+_, _*_, _/_, _<_, _≤_};
 ghost use lib.ListN.{length, take, drop};
 ghost use Rattle.imageview.specs.Image.{imageOf};
-ghost use Rattle.refine_operator.specs.Call.{built, wayOf, columnsAfter};
 ghost use Rattle.refine_list.specs.Refining.{recordOf};
-ghost use Rattle.refine_list.specs.Steps.{Front, AllWritten, Usable};
+ghost use Rattle.refine_list.specs.Steps.{AllWritten, Usable, FirstFits, Begins};
+ghost use Rattle.refine_fits.specs.StepsAdding.{Sound};
 use corners::Corner;
 use imageview::Sizes;
+use refine_fits::laid;
 use refine_formulas::SaddlePointConfig;
 use refine_operator::Operator;
+use refine_patch::Firsts;
 use refine_seed::Spot;
 
 // How many numbers were written. Without an operator no seed is accepted.
@@ -21,7 +23,7 @@ pub fn refine_list(
     corners: &[f32],
     out: &mut [f32],
 ) -> usize
-    requires { ⌜ length (now corners) ≤ length (now out) ⌝ }
+    requires { ⌜ length (now corners) ≤ length (now out) ⌝ ∗ ⌜ Sound (imageOf (now img) sizes) (cfg .radius) ⌝ }
     ensures { λ n. ⌜ AllWritten (imageOf (now (img .entry)) sizes) cfg (now (corners .entry)) (now (out .entry)) n (now (out .exit)) ⌝ }
 {
     let mut columns = [0.0f32; 1125];
@@ -42,13 +44,18 @@ fn refine_all(
     corners: &[f32],
     out: &mut [f32],
 ) -> usize
-    requires { ⌜ length (now corners) ≤ length (now out) ⌝ ∗ ⌜ Usable cfg (now columns) ⌝ }
+    requires { ⌜ length (now corners) ≤ length (now out) ⌝ ∗ ⌜ Usable cfg (now columns) ⌝ ∗ ⌜ Sound (imageOf (now img) sizes) (cfg .radius) ⌝ }
     ensures { λ n. ⌜ AllWritten (imageOf (now (img .entry)) sizes) cfg (now (corners .entry)) (now (out .entry)) n (now (out .exit)) ⌝ }
 {
     let n = corners.len() / 3;
+    let mut flat = [0.0f32; 40];
     let mut written = 0;
     let mut i = 0;
     while i < n {
+        if i % 4 == 0 {
+            first_fits(img, sizes, cfg, columns, corners, i / 4, &mut flat);
+        }
+        let here = laid::coefs_at(&flat, i % 4);
         let spot = refine_seed::spot_with(
             img,
             sizes,
@@ -56,11 +63,49 @@ fn refine_all(
             corners[3 * i],
             corners[3 * i + 1],
             columns,
+            here,
         );
         written = put(out, written, spot, corners[3 * i + 2]);
         i += 1;
     }
     written
+}
+
+// The first fits of the four seeds of a group, to the front of `flat`. Where no patch fits into the image no seed has one.
+fn first_fits(
+    img: &[u8],
+    sizes: Sizes,
+    cfg: SaddlePointConfig,
+    columns: &[f32; 1125],
+    corners: &[f32],
+    group: usize,
+    flat: &mut [f32; 40],
+)
+    requires { ⌜ Sound (imageOf (now img) sizes) (cfg .radius) ⌝ ∗ ⌜ (length (now flat) ≡ 40) × (4 * group < length (now corners) / 3) ⌝ }
+    ensures { λ _. ⌜ FirstFits (imageOf (now (img .entry)) sizes) cfg (now (columns .entry)) (now (corners .entry)) group (now (flat .exit)) ⌝ }
+{
+    let most = 2 * cfg.radius;
+    if (sizes.width <= most) | (sizes.height <= most) {
+        return;
+    }
+    let i = 4 * group;
+    let at = Firsts {
+        a: first_of(img, sizes, cfg, corners, i),
+        b: first_of(img, sizes, cfg, corners, i + 1),
+        c: first_of(img, sizes, cfg, corners, i + 2),
+        d: first_of(img, sizes, cfg, corners, i + 3),
+    };
+    refine_patch::fit_four(img, sizes.pitch, columns, cfg.radius, at, flat, 0);
+}
+
+// Where the patch about the seed number i begins; 0 for a seed that is not refined, and past the last.
+fn first_of(img: &[u8], sizes: Sizes, cfg: SaddlePointConfig, corners: &[f32], i: usize) -> usize
+    ensures { λ r. ⌜ Begins (imageOf (now (img .entry)) sizes) cfg (now (corners .entry)) i r ⌝ }
+{
+    if corners.len() / 3 <= i {
+        return 0;
+    }
+    refine_seed::first_place(img, sizes, cfg, corners[3 * i], corners[3 * i + 1])
 }
 
 // The record of a seed, after so many numbers.

@@ -6,10 +6,12 @@ use Prim.Native.Nat.{ℕ, zero, suc, _+_, _-_, _*_, _≤_, _<_}
 use native.Mathlib.Nat.{zero-add, add-zero}
 use native.Mathlib.Numerals.{add-one}
 use native.Mathlib.Omega.{arith}
+use lib.ListN.{length}
 use lib.Ieee.{Float}
 use Rattle.shapes.specs.Numbers.{plusZero, one}
 use Rattle.refine_formulas.specs.declared.PatchSaddle.{PatchSaddle}
 use Rattle.refine_formulas.specs.declared.Move.{Move}
+use Rattle.refine_formulas.specs.declared.Corners.{Corners}
 use Rattle.refine_seed.specs.declared.Estimate.{Estimate}
 use Rattle.refine_formulas.specs.Numbers.{_⊕_, _⊗_, half}
 use Rattle.refine_fits.specs.Windows.{windowPlace}
@@ -18,12 +20,14 @@ use Rattle.refine_seed.specs.PixelSlope.{slopeAt}
 use Rattle.refine_fits.specs.Candidate.{Task, Stand, Tried, passed, taken, candidate}
 use Rattle.refine_seed.specs.Run.{Finish, atStart, atStand, picked, orElse, laterMove, searchFrom, stepsFrom, runOf}
 use Rattle.refine_formulas.specs.Solve.{settled}
-use Rattle.refine_fits.specs.StepsTries.{Tries}
+use Rattle.refine_fits.specs.StepsTries.{windowOf, Tries}
 use Rattle.refine_seed.specs.Refine.{single, closed, closedAt, finished}
 use Rattle.refine_seed.specs.declared.Ended.{Ended}
-use Rattle.refine_fits.specs.declared.Candidate.{Candidate}
+use Rattle.refine_fits.specs.declared.Weighed.{Weighed}
 use Rattle.refine_fits.specs.declared.Window.{Window}
 use Rattle.refine_fits.specs.declared.IntegerFits.{IntegerFits}
+use Rattle.refine_fits.specs.declared.Bases.{Bases}
+use Rattle.refine_fits.specs.StepsBases.{Held, NoBases}
 use Rattle.refine_fits.specs.StepsCache.{Shaped, Kept, Fresh}
 use Rattle.refine_seed.specs.StepsEnding.{onward, from, Going, Ends}
 
@@ -108,8 +112,8 @@ differs true = Unit
 differs false = ⊥
 
 module _ (t : Task) (first : PatchSaddle) where
-  pub starts : (fits : IntegerFits) → settled first ≡ false → Fresh fits → Going t first fits first plusZero plusZero (record { x = first .ux; y = first .uy }) one 4 15 0
-  starts fits h f = record { kept = f .kept (t .img) (t .columns) (t .cfg .radius); most = omega arith; is = λ overlap wanted. first-step t first overlap wanted h }
+  pub starts : (fits : IntegerFits) (bases : Bases) (flat : List Float) → settled first ≡ false → Fresh fits → NoBases bases → length flat ≡ 40 → Going t first fits bases flat first plusZero plusZero (record { x = first .ux; y = first .uy }) one 4 15 0
+  starts fits bases flat h f b l = record { kept = f .kept (t .img) (t .columns) (t .cfg .radius); held = b .held (t .img) (t .columns) (t .cfg .radius) flat l; most = omega arith; is = λ overlap wanted. first-step t first overlap wanted h }
 
   -- a run that does not settle
   pub unsettled : (r : Ended) → r .settled ≡ false → ((overlap : List Float) (wanted : Bool) → finished t overlap wanted first (runOf t first) ≡ single t first (r .tries)) → Ends t first r
@@ -120,14 +124,14 @@ module _ (t : Task) (first : PatchSaddle) where
         ty = λ g. absurd (subst differs (sym g ∙ h) tt);
       }
 
-  module _ (fits : IntegerFits) (f : PatchSaddle) (ox oy : Float) (m : Move) (scale : Float) (halvings left n : ℕ) where
-    pub runs-out : Going t first fits f ox oy m scale halvings left n → halvings ≡ 0 → (overlap : List Float) (wanted : Bool) → finished t overlap wanted first (runOf t first) ≡ single t first n
+  module _ (fits : IntegerFits) (bases : Bases) (flat : List Float) (f : PatchSaddle) (ox oy : Float) (m : Move) (scale : Float) (halvings left n : ℕ) where
+    pub runs-out : Going t first fits bases flat f ox oy m scale halvings left n → halvings ≡ 0 → (overlap : List Float) (wanted : Bool) → finished t overlap wanted first (runOf t first) ≡ single t first n
     runs-out g h overlap wanted =
         g .is overlap wanted
         ∙ ap (λ (k : ℕ). from t first overlap wanted left k f ox oy m scale n) h
         ∙ no-more t first overlap wanted left 0 n f ox oy m scale
 
-    module _ (c : Candidate) (tried : Tries t f (ox ⊕ scale ⊗ m .x) (oy ⊕ scale ⊗ m .y) c) where
+    module _ (c : Weighed) (window : Window) (corners : Corners) (placed : window ≡ windowOf (windowPlace (t .centreX) (t .centreY) (ox ⊕ scale ⊗ m .x) (oy ⊕ scale ⊗ m .y))) (tried : Tries t f (ox ⊕ scale ⊗ m .x) (oy ⊕ scale ⊗ m .y) corners c) where
       abbrev nx : Float
       nx = ox ⊕ scale ⊗ m .x
 
@@ -135,7 +139,7 @@ module _ (t : Task) (first : PatchSaddle) where
       ny = oy ⊕ scale ⊗ m .y
 
       abbrev stand : Stand
-      stand = record { ox = nx; oy = ny; place = windowPlace (t .centreX) (t .centreY) nx ny; corners = c .fits .corners; fit = c .fit }
+      stand = record { ox = nx; oy = ny; place = windowPlace (t .centreX) (t .centreY) nx ny; corners = corners; fit = c .fit }
 
       not-taken : c .taken ≡ false → candidate t f nx ny ≡ passed
       not-taken h = tried .is ∙ no (c .taken) (taken stand) passed h
@@ -143,62 +147,66 @@ module _ (t : Task) (first : PatchSaddle) where
       is-taken : c .taken ≡ true → candidate t f nx ny ≡ taken stand
       is-taken h = tried .is ∙ yes (c .taken) (taken stand) passed h
 
-      window-tx : c .window .tx ≡ stand .place .tx
-      window-tx = ap (λ (w : Window). w .tx) (tried .window)
+      window-tx : window .tx ≡ stand .place .tx
+      window-tx = ap (λ (w : Window). w .tx) placed
 
-      window-ty : c .window .ty ≡ stand .place .ty
-      window-ty = ap (λ (w : Window). w .ty) (tried .window)
+      window-ty : window .ty ≡ stand .place .ty
+      window-ty = ap (λ (w : Window). w .ty) placed
 
       one-down : (overlap : List Float) (wanted : Bool) → 0 < halvings → from t first overlap wanted left halvings f ox oy m scale n ≡ from t first overlap wanted left (suc (halvings - 1)) f ox oy m scale n
       one-down overlap wanted h = ap (λ (k : ℕ). from t first overlap wanted left k f ox oy m scale n) (let e : halvings ≡ suc (halvings - 1) = omega arith in e)
 
-      pub passes : Going t first fits f ox oy m scale halvings left n → 0 < halvings → c .taken ≡ false → Going t first (c .fits) f ox oy m (scale ⊗ half) (halvings - 1) left (n + 1)
-      passes g p h =
-          record {
-            kept = tried .kept;
-            most = omega (arith, g .most);
-            is = λ overlap wanted. g .is overlap wanted ∙ one-down overlap wanted p ∙ pass t first overlap wanted left (halvings - 1) n f ox oy m scale (not-taken h);
-          }
-
-      at-stand : Going t first fits f ox oy m scale halvings left n → 0 < halvings → c .taken ≡ true → (overlap : List Float) (wanted : Bool) → finished t overlap wanted first (runOf t first) ≡ finished t overlap wanted first (stepsFrom left t stand (n + 1))
+      at-stand : Going t first fits bases flat f ox oy m scale halvings left n → 0 < halvings → c .taken ≡ true → (overlap : List Float) (wanted : Bool) → finished t overlap wanted first (runOf t first) ≡ finished t overlap wanted first (stepsFrom left t stand (n + 1))
       at-stand g p h overlap wanted = g .is overlap wanted ∙ one-down overlap wanted p ∙ take t first overlap wanted left (halvings - 1) n f ox oy m scale stand (is-taken h)
 
-      pub settled-there : Going t first fits f ox oy m scale halvings left n → 0 < halvings → c .taken ≡ true → settled (c .fit) ≡ true → Ends t first (record { settled = true; tries = n + 1; ox = nx; oy = ny; tx = c .window .tx; ty = c .window .ty; fit = c .fit; corners = c .fits .corners })
+      pub settled-there : Going t first fits bases flat f ox oy m scale halvings left n → 0 < halvings → c .taken ≡ true → settled (c .fit) ≡ true → Ends t first (record { settled = true; tries = n + 1; ox = nx; oy = ny; tx = window .tx; ty = window .ty; fit = c .fit; corners = corners })
       settled-there g p h q =
           record {
             is = λ overlap wanted.
                 at-stand g p h overlap wanted
                 ∙ settles t first overlap wanted left (n + 1) stand q
-                ∙ ap (λ (v : Float). closed t overlap wanted nx ny (stand .place) (c .fit) (n + 1) (slopeWithin (c .fits .corners) v (stand .place .ty))) (sym window-tx)
-                ∙ ap (λ (v : Float). closed t overlap wanted nx ny (stand .place) (c .fit) (n + 1) (slopeWithin (c .fits .corners) (c .window .tx) v)) (sym window-ty);
+                ∙ ap (λ (v : Float). closed t overlap wanted nx ny (stand .place) (c .fit) (n + 1) (slopeWithin corners v (stand .place .ty))) (sym window-tx)
+                ∙ ap (λ (v : Float). closed t overlap wanted nx ny (stand .place) (c .fit) (n + 1) (slopeWithin corners (window .tx) v)) (sym window-ty);
             tx = λ _. window-tx;
             ty = λ _. window-ty;
           }
 
-      pub no-steps : Going t first fits f ox oy m scale halvings left n → 0 < halvings → c .taken ≡ true → settled (c .fit) ≡ false → left ≡ 0 → (overlap : List Float) (wanted : Bool) → finished t overlap wanted first (runOf t first) ≡ single t first (n + 1)
+      pub no-steps : Going t first fits bases flat f ox oy m scale halvings left n → 0 < halvings → c .taken ≡ true → settled (c .fit) ≡ false → left ≡ 0 → (overlap : List Float) (wanted : Bool) → finished t overlap wanted first (runOf t first) ≡ single t first (n + 1)
       no-steps g p h q z overlap wanted = at-stand g p h overlap wanted ∙ ap (λ (k : ℕ). finished t overlap wanted first (stepsFrom k t stand (n + 1))) z ∙ last-step t first overlap wanted (n + 1) stand q
 
-      pub steps-on : (step : Move) → Going t first fits f ox oy m scale halvings left n → 0 < halvings → c .taken ≡ true → settled (c .fit) ≡ false → (left ≡ 0 → ⊥) → step ≡ newtonStep (sensitivity (saddleJacobian (c .fit)) (slopeWithin (c .fits .corners) (c .window .tx) (c .window .ty))) (c .fit) → Going t first (c .fits) (c .fit) nx ny step one 4 (left - 1) (n + 1)
-      steps-on step g p h q z e =
-          let l : left ≡ suc (left - 1) = above left z in
-          record {
-            kept = tried .kept;
-            most = omega (arith, g .most, l);
-            is = λ overlap wanted.
-                at-stand g p h overlap wanted
-                ∙ ap (λ (k : ℕ). finished t overlap wanted first (stepsFrom k t stand (n + 1))) l
-                ∙ next-step t first overlap wanted (left - 1) (n + 1) stand q
-                ∙ ap (λ (v : Move). from t first overlap wanted (left - 1) 4 (c .fit) nx ny v one (n + 1)) (sym (e ∙ moves-on));
-          }
-        where
-          above : (k : ℕ) → (k ≡ 0 → ⊥) → k ≡ suc (k - 1)
-          above zero z = absurd (z refl)
-          above (suc k) z = omega arith
+      -- with what is kept afterwards
+      module _ (kept : IntegerFits) (held : Bases) (after : List Float) (keeps : Kept (t .img) (t .columns) (t .cfg .radius) kept) (holds : Held (t .img) (t .columns) (t .cfg .radius) held after) where
+        pub passes : Going t first fits bases flat f ox oy m scale halvings left n → 0 < halvings → c .taken ≡ false → Going t first kept held after f ox oy m (scale ⊗ half) (halvings - 1) left (n + 1)
+        passes g p h =
+            record {
+              kept = keeps;
+              held = holds;
+              most = omega (arith, g .most);
+              is = λ overlap wanted. g .is overlap wanted ∙ one-down overlap wanted p ∙ pass t first overlap wanted left (halvings - 1) n f ox oy m scale (not-taken h);
+            }
 
-          moves-on : newtonStep (sensitivity (saddleJacobian (c .fit)) (slopeWithin (c .fits .corners) (c .window .tx) (c .window .ty))) (c .fit) ≡ laterMove stand
-          moves-on =
-              ap (λ (v : Float). newtonStep (sensitivity (saddleJacobian (c .fit)) (slopeWithin (c .fits .corners) v (c .window .ty))) (c .fit)) window-tx
-              ∙ ap (λ (v : Float). newtonStep (sensitivity (saddleJacobian (c .fit)) (slopeWithin (c .fits .corners) (stand .place .tx) v)) (c .fit)) window-ty
+        pub steps-on : (step : Move) → Going t first fits bases flat f ox oy m scale halvings left n → 0 < halvings → c .taken ≡ true → settled (c .fit) ≡ false → (left ≡ 0 → ⊥) → step ≡ newtonStep (sensitivity (saddleJacobian (c .fit)) (slopeWithin corners (window .tx) (window .ty))) (c .fit) → Going t first kept held after (c .fit) nx ny step one 4 (left - 1) (n + 1)
+        steps-on step g p h q z e =
+            let l : left ≡ suc (left - 1) = above left z in
+            record {
+              kept = keeps;
+              held = holds;
+              most = omega (arith, g .most, l);
+              is = λ overlap wanted.
+                  at-stand g p h overlap wanted
+                  ∙ ap (λ (k : ℕ). finished t overlap wanted first (stepsFrom k t stand (n + 1))) l
+                  ∙ next-step t first overlap wanted (left - 1) (n + 1) stand q
+                  ∙ ap (λ (v : Move). from t first overlap wanted (left - 1) 4 (c .fit) nx ny v one (n + 1)) (sym (e ∙ moves-on));
+            }
+          where
+            above : (k : ℕ) → (k ≡ 0 → ⊥) → k ≡ suc (k - 1)
+            above zero z = absurd (z refl)
+            above (suc k) z = omega arith
+
+            moves-on : newtonStep (sensitivity (saddleJacobian (c .fit)) (slopeWithin corners (window .tx) (window .ty))) (c .fit) ≡ laterMove stand
+            moves-on =
+                ap (λ (v : Float). newtonStep (sensitivity (saddleJacobian (c .fit)) (slopeWithin corners v (window .ty))) (c .fit)) window-tx
+                ∙ ap (λ (v : Float). newtonStep (sensitivity (saddleJacobian (c .fit)) (slopeWithin corners (stand .place .tx) v)) (c .fit)) window-ty
 
 -- a cache of none
 pub none-kept : (fits : IntegerFits) → Shaped fits → fits .len ≡ 0 → fits .«base_x» ≡ 8192 → Fresh fits

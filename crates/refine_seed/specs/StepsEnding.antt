@@ -11,7 +11,9 @@ use Rattle.refine_formulas.specs.declared.Move.{Move}
 use Rattle.refine_seed.specs.declared.Estimate.{Estimate}
 use Rattle.refine_seed.specs.declared.Ended.{Ended}
 use Rattle.refine_fits.specs.declared.IntegerFits.{IntegerFits}
+use Rattle.refine_fits.specs.declared.Bases.{Bases}
 use Rattle.refine_fits.specs.StepsCache.{Kept}
+use Rattle.refine_fits.specs.StepsBases.{Held}
 use Rattle.refine_fits.specs.Windows.{WindowPlace, windowPlace}
 use Rattle.refine_fits.specs.Fit.{fitAt}
 use Rattle.refine_fits.specs.Candidate.{taskAt, Task, Stand, Tried, passed, taken}
@@ -48,8 +50,9 @@ from t first overlap wanted left halvings f ox oy m scale n =
     onward (r .outcome) (λ s. finished t overlap wanted first (stepsFrom left t s (n + r .count))) (single t first (n + r .count))
 
 -- where the loop stands
-pub record Going (t : Task) (first : PatchSaddle) (fits : IntegerFits) (f : PatchSaddle) (ox oy : Float) (m : Move) (scale : Float) (halvings left n : ℕ) : Type 0 where
+pub record Going (t : Task) (first : PatchSaddle) (fits : IntegerFits) (bases : Bases) (flat : List Float) (f : PatchSaddle) (ox oy : Float) (m : Move) (scale : Float) (halvings left n : ℕ) : Type 0 where
   pub kept : Kept (t .img) (t .columns) (t .cfg .radius) fits
+  pub held : Held (t .img) (t .columns) (t .cfg .radius) bases flat
   pub most : n + 4 * left + halvings ≤ 64
   pub is : (overlap : List Float) (wanted : Bool) → finished t overlap wanted first (runOf t first) ≡ from t first overlap wanted left halvings f ox oy m scale n
 

@@ -16,6 +16,7 @@ pub use entry::old_number;
 pub use entry::refine;
 pub use entry::refine_with;
 pub use entry::why_number;
+pub use spots::first_place;
 pub use spots::spot_with;
 
 // Where the steps ended: settled or not, after how many tries, and where they settled the window's offset and fractions, the saddle and the four fits.

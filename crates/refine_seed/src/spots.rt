@@ -17,13 +17,28 @@ ghost use lib.IntN.{pos};
 ghost use lib.Ieee.{binary32, ofInt};
 ghost use Rattle.imageview.specs.Image.{imageOf};
 ghost use Rattle.refine_formulas.specs.Numbers.{_⊕_};
+ghost use Rattle.refine_fits.specs.Fit.{coefficients};
 ghost use Rattle.refine_fits.specs.StepsAdding.{PatchWithin};
 ghost use Rattle.refine_fits.specs.Candidate.{taskAt};
 ghost use Rattle.refine_seed.specs.declared.Spot.the-variants.{At};
-ghost use Rattle.refine_seed.specs.Refine.{refineWith, lentWith, refineLent};
-ghost use Rattle.refine_seed.specs.StepsSpot.{Comes, Lands};
+ghost use Rattle.refine_seed.specs.Refine.{admitOf, refineWith, lentWith, refineLent};
+ghost use Rattle.refine_seed.specs.StepsSpot.{firstFor, Fitted, Comes, Lands};
 
-// The spot of one seed with an operator that is lent.
+// Where the patch about a seed begins in the image's bytes; 0 for a seed that does not pass its tests.
+pub fn first_place(img: &[u8], sizes: Sizes, cfg: SaddlePointConfig, x: f32, y: f32) -> usize
+    ensures { λ r. ⌜ r ≡ firstFor (sizes .pitch) (cfg .radius) (admitOf (imageOf (now (img .entry)) sizes) cfg x y) ⌝ }
+{
+    let admitted = entry::admit(img, sizes, cfg, x, y);
+    match admitted {
+        Admitted::Good(seed) => {
+            fits::first_place(sizes, seed.centre_x, seed.centre_y, cfg.radius)
+        }
+        Admitted::Unmoved(_) => 0,
+        Admitted::Refused(_) => 0,
+    }
+}
+
+// The spot of one seed with an operator that is lent and the seed's first fit, which a list works out for four seeds at once.
 pub fn spot_with(
     img: &[u8],
     sizes: Sizes,
@@ -31,12 +46,14 @@ pub fn spot_with(
     x: f32,
     y: f32,
     columns: &[f32; 1125],
+    here: [f32; 5],
 ) -> Spot
+    requires { ⌜ Fitted (imageOf (now img) sizes) (now columns) cfg x y here ⌝ }
     ensures { λ r. ⌜ Lands (λ overlap wanted. refineLent (imageOf (now (img .entry)) sizes) cfg x y wanted (now (columns .entry)) overlap) r ⌝ }
 {
     let admitted = entry::admit(img, sizes, cfg, x, y);
     match admitted {
-        Admitted::Good(seed) => spot_lent(img, sizes, cfg, seed, columns),
+        Admitted::Good(seed) => spot_lent(img, sizes, cfg, seed, columns, here),
         Admitted::Unmoved(_) => Spot::Nowhere,
         Admitted::Refused(_) => Spot::Nowhere,
     }
@@ -49,14 +66,15 @@ fn spot_lent(
     cfg: SaddlePointConfig,
     seed: Seed,
     columns: &[f32; 1125],
+    here: [f32; 5],
 ) -> Spot
-    requires { ⌜ PatchWithin (imageOf (now img) sizes) (cfg .radius) (seed .«centre_x») (seed .«centre_y») ⌝ }
+    requires { ⌜ PatchWithin (imageOf (now img) sizes) (cfg .radius) (seed .«centre_x») (seed .«centre_y») ⌝ ∗ ⌜ here ≡ coefficients (imageOf (now img) sizes) (now columns) (cfg .radius) (seed .«centre_x») (seed .«centre_y») ⌝ }
     ensures { λ r. ⌜ Lands (λ overlap wanted. lentWith cfg (refineWith (imageOf (now (img .entry)) sizes) cfg seed wanted (now (columns .entry)) overlap)) r ⌝ }
 {
     if cfg.radius == 0 {
         return Spot::Nowhere;
     }
-    spot_of_seed(img, sizes, cfg, seed, columns)
+    spot_of_seed(img, sizes, cfg, seed, columns, here)
 }
 
 // A seed that passed the tests: the first fit decides acceptance.
@@ -66,14 +84,11 @@ fn spot_of_seed(
     cfg: SaddlePointConfig,
     seed: Seed,
     columns: &[f32; 1125],
+    here: [f32; 5],
 ) -> Spot
-    requires { ⌜ PatchWithin (imageOf (now img) sizes) (cfg .radius) (seed .«centre_x») (seed .«centre_y») ⌝ }
+    requires { ⌜ PatchWithin (imageOf (now img) sizes) (cfg .radius) (seed .«centre_x») (seed .«centre_y») ⌝ ∗ ⌜ here ≡ coefficients (imageOf (now img) sizes) (now columns) (cfg .radius) (seed .«centre_x») (seed .«centre_y») ⌝ }
     ensures { λ r. ⌜ Lands (λ overlap wanted. refineWith (imageOf (now (img .entry)) sizes) cfg seed wanted (now (columns .entry)) overlap) r ⌝ }
 {
-    let radius = cfg.radius;
-    let cx = seed.centre_x;
-    let cy = seed.centre_y;
-    let here = fits::fit_patch(img, sizes, cx, cy, radius, columns);
     let solved = solve::solve(cfg, here);
     match solved {
         Solved::Refused(_, _) => Spot::Nowhere,

@@ -5,6 +5,8 @@ use imageview::Sizes;
 use refine_fits::IntegerFits;
 use refine_fits::Seed;
 use refine_fits::Window;
+use refine_fits::laid;
+use refine_fits::place;
 use refine_fits::tries;
 use refine_formulas::Corners;
 use refine_formulas::Move;
@@ -143,18 +145,40 @@ pub fn run(
     ensures { λ r. ⌜ Ends (taskAt (imageOf (now (img .entry)) sizes) (now (columns .entry)) cfg seed) first r ⌝ }
 {
     let mut fits = no_fits();
+    let mut bases = laid::no_bases();
+    let mut flat = [0.0f32; 40];
     let mut fit = first;
     let mut step = first_step(first);
     let mut tries: u32 = 0;
     while 0 < step.halvings {
         let nx = step.ox + step.scale * step.x;
         let ny = step.oy + step.scale * step.y;
-        let c = tries::candidate(fits, img, sizes, columns, cfg, seed, fit, nx, ny);
-        fits = c.fits;
+        let w = place::window_at(seed.centre_x, seed.centre_y, nx, ny);
+        let r = bases.ready(
+            img,
+            sizes,
+            w.base_x,
+            w.base_y,
+            cfg.radius,
+            columns,
+            &mut flat,
+        );
+        bases = r.bases;
+        if r.further {
+            fits = fits.lay(
+                img,
+                sizes,
+                w.base_x,
+                w.base_y,
+                cfg.radius,
+                columns,
+                &mut flat,
+            );
+        }
+        let corners = laid::corners_at(&flat, r.to);
+        let c = tries::candidate(cfg, seed, fit, nx, ny, r.room, corners, w.tx, w.ty);
         tries += 1;
         if c.taken {
-            let w = c.window;
-            let corners = fits.corners;
             fit = c.fit;
             if solve::settled(fit) {
                 return settled_at(tries, nx, ny, w, fit, corners);

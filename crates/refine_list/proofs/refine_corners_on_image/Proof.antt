@@ -6,6 +6,7 @@ use borrow.Author.Needs.{needs}
 use borrow.Author.Tests.{not-true, not-false}
 use Rattle.corners.specs.Corners.{whole, tooMany}
 use Rattle.imageview.specs.Image.{Image, imageOf, isImage}
+use Rattle.imageview.proofs.ImageLaws.{tested, passed}
 use Rattle.refine_seed.specs.Refine.{goodLimits}
 use Rattle.refine_list.proofs.CallLaws.{bad-image, bad-radius, bad-limit, bad-length, too-many, bad-out, refined}
 use Rattle.refine_list.proofs.refine_corners_on_image.Statement.{statement}
@@ -79,7 +80,12 @@ returns-6 c =
     bad-out (image s) (s .args .cfg) (s .args .corners .now) (s .args .out .now) (is-one (e .before .before)) (e .if2 .left) (limits-good l) (records w) (few m) (c .if6 .taken)
 
 refine-list-requires : tie.Need-refine-list-requires
-refine-list-requires c κs = search needs
+refine-list-requires c κs =
+    let o = c .before in
+    let m = o .before in
+    let l = m .before .before .before .before in
+    let e = l .before .before in
+    (o .if6 .left, record { image = tested (image (e .before .before .before .before .before .before .before)) (passed (is-one (e .before .before))); small = e .if2 .left })
 
 same-length : tie.Need-same-length
 same-length c = search needs

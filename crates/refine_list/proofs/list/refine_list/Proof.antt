@@ -20,7 +20,7 @@ refine-all-requires : tie.Need-refine-all-requires
 refine-all-requires c κs =
     let s = c .before .before .before .before .before .before .before .before .before in
     let f = c .before .before .before .before .fit-columns in
-    (s .pre, record { overlap = overlapAfter [] (wayOf (s .args .cfg .radius)); same = λ img x y wanted. lent-is-built img (s .args .cfg) x y wanted _ [] _ _ _ (with-overlap (s .args .cfg .radius) _ [] _ _ (f .ensures)) (c .before .before .enum-told .given .1) })
+    (s .pre .0, (record { overlap = overlapAfter [] (wayOf (s .args .cfg .radius)); same = λ img x y wanted. lent-is-built img (s .args .cfg) x y wanted _ [] _ _ _ (with-overlap (s .args .cfg .radius) _ [] _ _ (f .ensures)) (c .before .before .enum-told .given .1) }, s .pre .1))
 
 enum-told-2 : tie.Need-enum-told-2
 enum-told-2 c = search needs

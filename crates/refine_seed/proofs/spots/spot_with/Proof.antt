@@ -15,8 +15,11 @@ enum-known-admitted c = search needs
 
 spot-lent-requires : tie.Need-spot-lent-requires
 spot-lent-requires c κs =
-    let a = c .before .before .before .before .before .args in
-    good-within (imageOf (a .img .now) (a .sizes)) (a .cfg) (a .x) (a .y) (c .before .admitted .given .0 .0) (sym (c .before .before .before .admit .ensures) ∙ c .before .admitted .given .1)
+    let s = c .before .before .before .before .before in
+    let a = s .args in
+    let seed = c .before .admitted .given .0 .0 in
+    let good = sym (c .before .before .before .admit .ensures) ∙ c .before .admitted .given .1 in
+    (good-within (imageOf (a .img .now) (a .sizes)) (a .cfg) (a .x) (a .y) seed good, s .pre .is seed good)
 
 enum-told : tie.Need-enum-told
 enum-told c = search needs

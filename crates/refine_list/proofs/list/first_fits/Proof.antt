@@ -1,0 +1,73 @@
+-- `refine_list::list::first_fits` meets its contract: no seed is refined where no patch fits, and else the four patches lie in the image.
+use mathlib.Core.Path.{_≡_}
+use Prim.Native.Nat.{_*_}
+use native.Mathlib.Omega.{arith}
+use lib.Dec.{leb}
+use borrow.Author.Tests.{leb-false}
+use Rattle.imageview.specs.Image.{imageOf}
+use Rattle.refine_list.proofs.FirstLaws.{neither, too-small, all-reach, first-fits}
+use borrow.Author.Needs.{needs}
+use Rattle.refine_list.proofs.list.first_fits.Statement.{statement}
+use Rattle.refine_list.proofs.list.first_fits.Tie as tie
+
+mul-most : tie.Need-mul-most
+mul-most c = search needs
+
+returns : tie.Need-returns
+returns c =
+    let s = c .before .before .before .before .before .before in
+    let a = s .args in
+    too-small (imageOf (a .img .now) (a .sizes)) (a .cfg) (a .columns .now) (a .corners .now) (a .group) (a .flat .now) (s .pre .1 .0) (c .if1 .taken)
+
+mul-i : tie.Need-mul-i
+mul-i c = search needs
+
+first-of-requires : tie.Need-first-of-requires
+first-of-requires c κs = search needs
+
+add-first-of : tie.Need-add-first-of
+add-first-of c = search needs
+
+first-of-requires-2 : tie.Need-first-of-requires-2
+first-of-requires-2 c κs = search needs
+
+add-first-of-2 : tie.Need-add-first-of-2
+add-first-of-2 c = search needs
+
+first-of-requires-3 : tie.Need-first-of-requires-3
+first-of-requires-3 c κs = search needs
+
+add-first-of-3 : tie.Need-add-first-of-3
+add-first-of-3 c = search needs
+
+first-of-requires-4 : tie.Need-first-of-requires-4
+first-of-requires-4 c κs = search needs
+
+fit-four-requires : tie.Need-fit-four-requires
+fit-four-requires c κs =
+    let s = c .before .before .before .before .before .before .before .before .before .before .before in
+    let a = s .args in
+    let n = neither (leb (a .sizes .width) (2 * a .cfg .radius)) (leb (a .sizes .height) (2 * a .cfg .radius)) (c .before .before .before .before .before .if1 .left) in
+    ((s .pre .1 .0, omega arith), all-reach (imageOf (a .img .now) (a .sizes)) (a .cfg) (s .pre .0) (leb-false (a .sizes .width) (2 * a .cfg .radius) (n .0)) (leb-false (a .sizes .height) (2 * a .cfg .radius) (n .1)) (a .corners .now) _ (4 * a .group) (c .before .before .before .before .first-of .ensures) (c .before .before .before .first-of2 .ensures) (c .before .before .first-of3 .ensures) (c .before .first-of4 .ensures))
+
+returns-2 : tie.Need-returns-2
+returns-2 c =
+    let a = c .before .before .before .before .before .before .before .before .before .before .before .before .args in
+    first-fits (imageOf (a .img .now) (a .sizes)) (a .cfg) (a .columns .now) (a .corners .now) (a .group) _ (a .flat .now) _ (c .fit-four .ensures) (c .before .before .before .before .before .first-of .ensures) (c .before .before .before .before .first-of2 .ensures) (c .before .before .before .first-of3 .ensures) (c .before .before .first-of4 .ensures)
+
+pub first-fits-spec : {M : Type 1} → statement M
+first-fits-spec =
+    tie.close
+    (tie.spec
+    mul-most
+    returns
+    mul-i
+    first-of-requires
+    add-first-of
+    first-of-requires-2
+    add-first-of-2
+    first-of-requires-3
+    add-first-of-3
+    first-of-requires-4
+    fit-four-requires
+    returns-2)

@@ -1,0 +1,39 @@
+-- `refine_patch::fit_four` meets its contract.
+use mathlib.Core.Path.{_∙_}
+use borrow.Author.Needs.{needs}
+use Rattle.refine_patch.specs.From.{coefficientFrom}
+use Rattle.refine_patch.specs.StepsFour.{laneOf}
+use Rattle.refine_patch.proofs.FourLaws.{blocks-written}
+use Rattle.refine_patch.proofs.RowLaws.{blocks-done}
+use Rattle.refine_patch.proofs.fit_four.Statement.{statement}
+use Rattle.refine_patch.proofs.fit_four.Tie as tie
+
+mul-centres : tie.Need-mul-centres
+mul-centres c = search needs
+
+add-centres : tie.Need-add-centres
+add-centres c = search needs
+
+centres-requires : tie.Need-centres-requires
+centres-requires c κs = search needs
+
+sum-rows-requires : tie.Need-sum-rows-requires
+sum-rows-requires c κs = search needs
+
+store-requires : tie.Need-store-requires
+store-requires c κs = search needs
+
+same-length : tie.Need-same-length
+same-length c = search needs
+
+returns : tie.Need-returns
+returns c =
+    let s = c .before .before .before .before .before .before .before .before in
+    let a = s .args in
+    let sums = c .before .before .before .before .sum-rows in
+    c .before .before .store .ensures
+    ∙ blocks-done (a .img .now) (a .pitch) (a .columns .now) (a .radius) (a .at) (sums .result) (a .to) (a .out .now) (sums .ensures)
+    ∙ blocks-written (λ c l. coefficientFrom (a .img .now) (a .pitch) (a .columns .now) (a .radius) (laneOf (a .at) l) c) (a .to) (a .out .now) (s .pre .0 .0) (s .pre .0 .1)
+
+pub fit-four-spec : {M : Type 1} → statement M
+fit-four-spec = tie.close (tie.spec mul-centres add-centres centres-requires sum-rows-requires store-requires same-length returns)
