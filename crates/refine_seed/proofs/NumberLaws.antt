@@ -6,7 +6,7 @@ use native.Mathlib.Omega.{arith}
 use lib.Dec.{leb}
 use borrow.Author.Tests.{lt-leb}
 use Rattle.refusals.specs.declared.Refusal.{Refusal}
-use Rattle.refusals.specs.declared.Refusal.the-variants.{BadImage, BadRadius, BadLimit, BadRing, EmptyRoi, BadOut, TooMany, GridTooBig, BadScratch, BadLength, BadBoard, BadPlaces, BadList}
+use Rattle.refusals.specs.declared.Refusal.the-variants.{BadImage, BadRadius, BadLimit, BadRing, EmptyRoi, BadOut, TooMany, GridTooBig, BadScratch, BadLength, NoMagic, BadHeader, BadGraymapSize, TooShort, LeftOver, BadBoard, BadPlaces, BadList, NoSuchCorner}
 use Rattle.refusals.specs.Numbers as Refusals
 use Rattle.refine_seed.specs.Refine.{oldNumber}
 
@@ -21,9 +21,15 @@ from-ten TooMany = omega arith
 from-ten GridTooBig = omega arith
 from-ten BadScratch = omega arith
 from-ten BadLength = omega arith
+from-ten NoMagic = omega arith
+from-ten BadHeader = omega arith
+from-ten BadGraymapSize = omega arith
+from-ten TooShort = omega arith
+from-ten LeftOver = omega arith
 from-ten BadBoard = omega arith
 from-ten BadPlaces = omega arith
 from-ten BadList = omega arith
+from-ten NoSuchCorner = omega arith
 
 -- ---- the old number
 pub old-flawed : (n : ℕ) → (leb 5 n && leb n 7) ≡ true → 3 ≡ oldNumber n

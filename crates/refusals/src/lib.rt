@@ -14,9 +14,15 @@ pub enum Refusal {
     GridTooBig,
     BadScratch,
     BadLength,
+    NoMagic,
+    BadHeader,
+    BadGraymapSize,
+    TooShort,
+    LeftOver,
     BadBoard,
     BadPlaces,
     BadList,
+    NoSuchCorner,
 }
 
 pub fn number(refusal: Refusal) -> u32
@@ -33,8 +39,14 @@ pub fn number(refusal: Refusal) -> u32
         Refusal::GridTooBig => 17,
         Refusal::BadScratch => 18,
         Refusal::BadLength => 19,
+        Refusal::NoMagic => 20,
+        Refusal::BadHeader => 21,
+        Refusal::BadGraymapSize => 22,
+        Refusal::TooShort => 23,
+        Refusal::LeftOver => 25,
         Refusal::BadBoard => 30,
         Refusal::BadPlaces => 31,
         Refusal::BadList => 32,
+        Refusal::NoSuchCorner => 35,
     }
 }
