@@ -1,10 +1,10 @@
 -- The calls that keep a summary beside a list of corners: afresh, adding, replacing, dropping. The tests in their order, the answer and what is left in the lent list and counts.
 -- The counts may hold anything: each call decides them all the same. No refusal writes.
 use mathlib.Core.Path.{_≡_}
-use mathlib.Core.Bool.{Bool, not, cond}
+use mathlib.Core.Bool.{not, cond}
 use mathlib.Core.List.{List}
 use Prim.Native.Nat.{ℕ, _+_, _-_, _*_}
-use lib.Dec.{leb, ltb}
+use lib.Dec.{ltb}
 use lib.ListN.{length, getD, set}
 use lib.Ieee.{Float}
 use Rattle.shapes.specs.Lists.{tabulated}

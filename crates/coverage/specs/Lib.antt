@@ -3,3 +3,4 @@ pub mod Tiles
 pub mod Summary
 pub mod Call
 pub mod Claims
+pub mod Steps
