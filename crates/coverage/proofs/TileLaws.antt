@@ -69,6 +69,9 @@ tile-under width height x y s = go (onAxis width x && onAxis height y) refl
         let b = eighth-under height (floor binary32 y) (s .high) (s .height-most) (below-end _ height (floor binary32 y) refl (second-of (onAxis width x) (onAxis height y) e)) in
         omega arith
 
+pub tile-with-bound : (width height : ℕ) (x y : Float) → Sized width height → {t : ℕ} → t ≡ tileOf width height x y → (t ≡ tileOf width height x y) × (t < 65)
+tile-with-bound width height x y s e = (e, subst (λ (n : ℕ). n < 65) (sym e) (tile-under width height x y s))
+
 -- ---- the tile by the steps that find it
 module _ (width height : ℕ) (x y across down : Float) (p q : Bool) (a : across ≡ floor binary32 x) (d : down ≡ floor binary32 y) (h : p ≡ isPixel width across) (g : q ≡ isPixel height down) where
   tests-are : (onAxis width x && onAxis height y) ≡ (p && q)

@@ -55,7 +55,8 @@ pub fn add_corner(
     let tile = tiles::tile_of(width, height, corner.x, corner.y);
     counts::count_more(counts, tile);
     corners::put(list, count, corner);
-    Coverage::Counted(count + 1)
+    let longer = count + 1;
+    Coverage::Counted(longer)
 }
 
 // The corner of this number is another one from now on.
@@ -102,7 +103,8 @@ pub fn drop_corner(
             let tile = tiles::tile_at(width, height, list, number);
             counts::count_less(counts, tile);
             moves::drop_record(list, count, number);
-            Coverage::Counted(count - 1)
+            let left = count - 1;
+            Coverage::Counted(left)
         }
     }
 }

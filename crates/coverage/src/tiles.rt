@@ -11,14 +11,14 @@ ghost use Rattle.coverage.specs.Tiles.{tileOf, tileAt};
 // The tile of corner k.
 pub fn tile_at(width: usize, height: usize, list: &[f32; 12288], k: usize) -> usize
     requires { ⌜ Sized width height × (k < 4096) ⌝ }
-    ensures { λ r. ⌜ r ≡ tileAt width height (now (list .entry)) k ⌝ }
+    ensures { λ r. ⌜ (r ≡ tileAt width height (now (list .entry)) k) × (r < 65) ⌝ }
 {
     tile_of(width, height, list[3 * k], list[3 * k + 1])
 }
 
 pub fn tile_of(width: usize, height: usize, x: f32, y: f32) -> usize
     requires { ⌜ Sized width height ⌝ }
-    ensures { λ r. ⌜ r ≡ tileOf width height x y ⌝ }
+    ensures { λ r. ⌜ (r ≡ tileOf width height x y) × (r < 65) ⌝ }
 {
     let across = floats::floor_f32(x);
     let down = floats::floor_f32(y);
@@ -39,7 +39,7 @@ fn is_pixel(n: usize, whole: f32) -> bool
 // Which eighth of the axis it lies in, in whole numbers.
 fn eighth(n: usize, whole: f32) -> usize
     requires { ⌜ (1 ≤ n) × (n ≤ 4096) × (lt whole (ofInt binary32 (pos n)) ≡ true) ⌝ }
-    ensures { λ r. ⌜ r ≡ toUnsigned 64 whole * 8 / n ⌝ }
+    ensures { λ r. ⌜ (r ≡ toUnsigned 64 whole * 8 / n) × (r < 8) ⌝ }
 {
     floats::f32_to_usize(whole) * 8 / n
 }

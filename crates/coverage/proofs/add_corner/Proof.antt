@@ -7,7 +7,6 @@ use borrow.Author.Tests.{not-true, not-false}
 use Rattle.imageview.proofs.ImageLaws.{sized, passed}
 use Rattle.refusals.specs.declared.Refusal.the-variants.{BadImage, TooMany}
 use Rattle.coverage.specs.Call.{more}
-use Rattle.coverage.proofs.TileLaws.{tile-under}
 use Rattle.coverage.proofs.WayLaws.{no-size, many, few, refusing, keeping}
 use Rattle.coverage.proofs.add_corner.Statement.{statement}
 use Rattle.coverage.proofs.add_corner.Tie as tie
@@ -34,24 +33,20 @@ tile-of-requires c κs =
     sized (a .width) (a .height) (passed (sym (s .ensures) ∙ not-false (s .result) (c .before .if1 .left)))
 
 count-more-requires : tie.Need-count-more-requires
-count-more-requires c κs =
-    let a = c .before .before .before .before .before .args in
-    let s = c .before .before .before .before .is-size in
-    let h = sized (a .width) (a .height) (passed (sym (s .ensures) ∙ not-false (s .result) (c .before .before .before .if1 .left))) in
-    omega (arith, c .before .tile-of .ensures, tile-under (a .width) (a .height) (a .corner .x) (a .corner .y) h)
+count-more-requires c κs = search needs
 
 put-requires : tie.Need-put-requires
 put-requires c κs = search needs
 
-add-t17 : tie.Need-add-t17
-add-t17 c = search needs
+add-longer : tie.Need-add-longer
+add-longer c = search needs
 
 returns-3 : tie.Need-returns-3
 returns-3 c =
     let a = c .before .before .before .before .before .before .before .before .args in
     let s = c .before .before .before .before .before .before .before .is-size in
     keeping (few (a .width) (a .height) (a .count + 1) _ (sym (s .ensures) ∙ not-false (s .result) (c .before .before .before .before .before .before .if1 .left)) (omega (arith, c .before .before .before .before .before .if2 .left)))
-    (c .put .ensures) (c .before .before .count-more .ensures ∙ ap (λ (t : ℕ). more (a .counts .now) t) (c .before .before .before .before .tile-of .ensures))
+    (c .put .ensures) (c .before .before .count-more .ensures ∙ ap (λ (t : ℕ). more (a .counts .now) t) (c .before .before .before .before .tile-of .ensures .0))
 
 pub add-corner-spec : {M : Type 1} → statement M
-add-corner-spec = tie.close (tie.spec is-size-requires returns returns-2 tile-of-requires count-more-requires put-requires add-t17 returns-3)
+add-corner-spec = tie.close (tie.spec is-size-requires returns returns-2 tile-of-requires count-more-requires put-requires add-longer returns-3)

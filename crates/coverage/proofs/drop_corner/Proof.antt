@@ -4,7 +4,6 @@ use Prim.Native.Nat.{ℕ}
 use native.Mathlib.Omega.{arith}
 use borrow.Author.Needs.{needs}
 use Rattle.coverage.specs.Call.{less}
-use Rattle.coverage.proofs.SummaryLaws.{tile-at-under}
 use Rattle.coverage.proofs.WayLaws.{stopped, passing, refusing, keeping}
 use Rattle.coverage.proofs.drop_corner.Statement.{statement}
 use Rattle.coverage.proofs.drop_corner.Tie as tie
@@ -25,10 +24,7 @@ tile-at-requires c κs =
     (p .size, omega (arith, p .fits, p .number))
 
 count-less-requires : tie.Need-count-less-requires
-count-less-requires c κs =
-    let a = c .before .before .before .before .before .before .args in
-    let p = passing (a .width) (a .height) (a .count) (a .number) _ (sym (c .before .before .before .enum-told .given .1) ∙ c .before .before .before .before .before .of-number .ensures) in
-    omega (arith, c .before .tile-at .ensures, tile-at-under (a .width) (a .height) (p .size) (a .list .now) (a .number))
+count-less-requires c κs = search needs
 
 drop-record-requires : tie.Need-drop-record-requires
 drop-record-requires c κs =
@@ -36,8 +32,8 @@ drop-record-requires c κs =
     let p = passing (a .width) (a .height) (a .count) (a .number) _ (sym (c .before .before .before .before .before .enum-told .given .1) ∙ c .before .before .before .before .before .before .before .of-number .ensures) in
     (p .number, p .fits, search needs)
 
-sub-t17 : tie.Need-sub-t17
-sub-t17 c =
+sub-left : tie.Need-sub-left
+sub-left c =
     let a = c .before .before .before .before .before .before .before .before .before .args in
     let p = passing (a .width) (a .height) (a .count) (a .number) _ (sym (c .before .before .before .before .before .before .enum-told .given .1) ∙ c .before .before .before .before .before .before .before .before .of-number .ensures) in
     omega (arith, p .number)
@@ -51,7 +47,7 @@ returns-2 : tie.Need-returns-2
 returns-2 c =
     let a = c .before .before .before .before .before .before .before .before .before .args in
     let p = passing (a .width) (a .height) (a .count) (a .number) _ (sym (c .before .before .before .before .before .before .enum-told .given .1) ∙ c .before .before .before .before .before .before .before .before .of-number .ensures) in
-    keeping (p .goes _) (c .drop-record .ensures) (c .before .before .count-less .ensures ∙ ap (λ (t : ℕ). less (a .counts .now) t) (c .before .before .before .before .tile-at .ensures))
+    keeping (p .goes _) (c .drop-record .ensures) (c .before .before .count-less .ensures ∙ ap (λ (t : ℕ). less (a .counts .now) t) (c .before .before .before .before .tile-at .ensures .0))
 
 pub drop-corner-spec : {M : Type 1} → statement M
-drop-corner-spec = tie.close (tie.spec of-number-requires enum-known-tested enum-told tile-at-requires count-less-requires drop-record-requires sub-t17 returns returns-2)
+drop-corner-spec = tie.close (tie.spec of-number-requires enum-known-tested enum-told tile-at-requires count-less-requires drop-record-requires sub-left returns returns-2)

@@ -2,8 +2,6 @@
 use mathlib.Core.Path.{sym, _∙_}
 use native.Mathlib.Omega.{arith}
 use borrow.Author.Needs.{needs}
-use Rattle.coverage.proofs.TileLaws.{tile-under}
-use Rattle.coverage.proofs.SummaryLaws.{tile-at-under}
 use Rattle.coverage.proofs.WayLaws.{stopped, passing, refusing, keeping, counted-anew}
 use Rattle.coverage.proofs.replace_corner.Statement.{statement}
 use Rattle.coverage.proofs.replace_corner.Tie as tie
@@ -30,16 +28,10 @@ tile-of-requires c κs =
     p .size
 
 count-less-requires : tie.Need-count-less-requires
-count-less-requires c κs =
-    let a = c .before .before .before .before .before .before .before .args in
-    let p = passing (a .width) (a .height) (a .count) (a .number) _ (sym (c .before .before .before .before .enum-told .given .1) ∙ c .before .before .before .before .before .before .of-number .ensures) in
-    omega (arith, c .before .before .tile-at .ensures, tile-at-under (a .width) (a .height) (p .size) (a .list .now) (a .number))
+count-less-requires c κs = search needs
 
 count-more-requires : tie.Need-count-more-requires
-count-more-requires c κs =
-    let a = c .before .before .before .before .before .before .before .before .before .args in
-    let p = passing (a .width) (a .height) (a .count) (a .number) _ (sym (c .before .before .before .before .before .before .enum-told .given .1) ∙ c .before .before .before .before .before .before .before .before .of-number .ensures) in
-    omega (arith, c .before .before .before .tile-of .ensures, tile-under (a .width) (a .height) (a .corner .x) (a .corner .y) (p .size), c .before .count-less .kept)
+count-more-requires c κs = search needs
 
 put-requires : tie.Need-put-requires
 put-requires c κs =
@@ -56,7 +48,7 @@ returns-2 : tie.Need-returns-2
 returns-2 c =
     let a = c .before .before .before .before .before .before .before .before .before .before .before .before .args in
     let p = passing (a .width) (a .height) (a .count) (a .number) _ (sym (c .before .before .before .before .before .before .before .before .before .enum-told .given .1) ∙ c .before .before .before .before .before .before .before .before .before .before .before .of-number .ensures) in
-    keeping (p .goes _) (c .put .ensures) (counted-anew (a .counts .now) _ _ _ _ (c .before .before .before .before .count-less .ensures) (c .before .before .count-more .ensures) (c .before .before .before .before .before .before .before .tile-at .ensures) (c .before .before .before .before .before .before .tile-of .ensures))
+    keeping (p .goes _) (c .put .ensures) (counted-anew (a .counts .now) _ _ _ _ (c .before .before .before .before .count-less .ensures) (c .before .before .count-more .ensures) (c .before .before .before .before .before .before .before .tile-at .ensures .0) (c .before .before .before .before .before .before .tile-of .ensures .0))
 
 pub replace-corner-spec : {M : Type 1} → statement M
 replace-corner-spec =

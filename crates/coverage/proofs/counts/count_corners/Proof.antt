@@ -8,7 +8,7 @@ use Rattle.shapes.proofs.TurnLaws.{ended}
 use Rattle.coverage.specs.Tiles.{tileAt}
 use Rattle.coverage.specs.Summary.{summary}
 use Rattle.coverage.specs.Call.{more}
-use Rattle.coverage.proofs.SummaryLaws.{tile-at-under, length-summary, summary-next}
+use Rattle.coverage.proofs.SummaryLaws.{length-summary, summary-next}
 use Rattle.coverage.proofs.counts.count_corners.Statement.{statement}
 use Rattle.coverage.proofs.counts.count_corners.Tie as tie
 
@@ -30,7 +30,7 @@ count-more-requires c κs =
     let a = s .args in
     let l = c .before .before .before .loop in
     let long : length (l .counts) ≡ 65 = ap length (l .inv .1) ∙ length-summary (a .width) (a .height) (s .pre .0) (a .list .now) (l .i) in
-    omega (arith, c .before .tile-at .ensures, tile-at-under (a .width) (a .height) (s .pre .0) (a .list .now) (l .i))
+    omega (arith, c .before .tile-at .ensures .1)
 
 add-i : tie.Need-add-i Inv-loop μ-loop
 add-i c = omega (arith, c .before .before .before .before .before .loop-test .taken)
@@ -46,7 +46,7 @@ loop-again c =
     let t = c .before .before .before .before .before .loop-test .taken in (
       omega arith,
       c .before .before .count-more .ensures
-          ∙ ap (λ (n : ℕ). more (l .counts) n) (c .before .before .before .before .tile-at .ensures)
+          ∙ ap (λ (n : ℕ). more (l .counts) n) (c .before .before .before .before .tile-at .ensures .0)
           ∙ ap (λ (m : List ℕ). more m (tileAt (a .width) (a .height) (a .list .now) (l .i))) (l .inv .1)
           ∙ summary-next (a .width) (a .height) (s .pre .0) (a .list .now) (l .i) (omega (arith, s .pre .1)),
     )
