@@ -7,7 +7,7 @@ use native.Mathlib.Omega.{arith}
 use lib.Dec.{ltb}
 use lib.ListN.{length, length-append}
 use lib.Seq.{sets}
-use borrow.Author.Tests.{ltb-false}
+use borrow.Author.Tests.{ltb-false, le-ltb}
 use Rattle.shapes.proofs.TestLaws.{first-not, second-not}
 use Rattle.imageview.specs.Image.{isSize}
 use Rattle.imageview.specs.Steps.{Sized}
@@ -19,7 +19,8 @@ use Rattle.salvage.specs.declared.Salvage.the-variants.{Saved, Refused}
 use Rattle.salvage.specs.Records.{wholeOf, isCut, keptOf, faultsOf, droppedOf}
 use Rattle.salvage.specs.Call.{Way, refused, saved, wayOf, answerOf, outAfter, faultsAfter, Done}
 use Rattle.salvage.specs.Steps.{fronted, Counted, Room, WholeRoom, Saving, Writing}
-use Rattle.salvage.proofs.WritingLaws.{noted}
+use Rattle.salvage.proofs.RecordLaws.{some-kept}
+use Rattle.salvage.proofs.WritingLaws.{stored}
 
 -- ---- with the cut record
 module _ (w h : ℕ) (file : List ℕ) where
@@ -52,6 +53,14 @@ module _ (w h : ℕ) (file : List ℕ) where
     short-by out faults e =
         ap₂ (λ (m n : ℕ). ltb out m || ltb faults n) (sym (c .bytes)) (ap (λ (t : ℕ). 2 * (whole - kept + t)) e ∙ sym (dropped-long (isCut file) refl))
 
+  -- outputs that hold any counts
+  pub never-short : (out faults : ℕ) → 12 * whole ≤ out → 2 * whole + 2 ≤ faults → false ≡ (ltb out (length (keptOf w h file whole)) || ltb faults (length (droppedOf w h file)))
+  never-short out faults a b =
+      let r = some-kept w h file whole (omega arith) in
+      sym (ap₂ (λ (s t : Bool). s || t)
+      (le-ltb out (length (keptOf w h file whole)) (omega (arith, r .1 .bytes, r .1 .numbers)))
+      (le-ltb faults (length (droppedOf w h file)) (omega (arith, dropped-long (r .1) (isCut file) refl, at-most-one (isCut file) refl, r .1 .numbers))))
+
   pub whole-room : {out faults : ℕ} → Room w h file out faults → WholeRoom w h file out faults
   whole-room r = record { few = r .few; kept-fit = r .kept-fit; faults-fit = omega (arith, r .dropped-fit, length-append (faultsOf w h file whole) (ending (isCut file))) }
 
@@ -72,7 +81,7 @@ module _ (w h : ℕ) (file : List ℕ) where
       leaves-faults =
           q
           ∙ ap (λ (l : List ℕ). sets l (2 * (whole - kept)) (whole ∷ 1 ∷ [])) (t .leaves-faults)
-          ∙ noted (faultsOf w h file whole) faults (2 * (whole - kept)) whole 1 (omega (arith, t .counts .numbers)) (ending-fits e)
+          ∙ stored (faultsOf w h file whole) (whole ∷ 1 ∷ []) faults (2 * (whole - kept)) (omega (arith, t .counts .numbers)) (ending-fits e)
           ∙ ap (λ (l : List ℕ). fronted l faults) (sym (with-ending true e));
     }
 

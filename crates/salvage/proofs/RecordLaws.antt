@@ -168,3 +168,10 @@ module _ (w h : ℕ) (file : List ℕ) where
 
   pub counted-more : (n k : ℕ) → 12 * n + 12 ≤ length file → Counted w h file n k → Counted w h file (n + 1) (cond (eqb (faultOf w h file n) 0) (k + 1) k)
   counted-more n k l c = counted-by n k l c (eqb (faultOf w h file n) 0) refl
+
+  pub some-kept : (n : ℕ) → 12 * n ≤ length file → (kept : ℕ) × Counted w h file n kept
+  some-kept zero l = (0, counted-none)
+  some-kept (suc n) l =
+      let r = some-kept n (omega arith) in
+      let k = cond (eqb (faultOf w h file n) 0) (r .0 + 1) (r .0) in
+      (k, subst (λ (m : ℕ). Counted w h file m k) (add-one n) (counted-more n (r .0) (omega arith) (r .1)))

@@ -14,7 +14,7 @@ use borrow.Author.Tests.{eqb-true, eq-eqb, ltb-false, le-ltb}
 use Rattle.salvage.specs.Records.{wholeOf, isCut, faultOf, keptOf, faultsOf, droppedOf}
 use Rattle.salvage.specs.Claims.{AllTold, SavedTwice, WholeStays}
 use Rattle.salvage.specs.Steps.{recordOf, Counted}
-use Rattle.salvage.proofs.RecordLaws.{fault-alone, length-record, kept-none, faults-none, kept-more, faults-more, counted-none, counted-more}
+use Rattle.salvage.proofs.RecordLaws.{fault-alone, length-record, kept-none, faults-none, kept-more, faults-more, some-kept}
 use Rattle.salvage.proofs.CallLaws.{dropped-long}
 
 module _ (w h : ℕ) (file : List ℕ) where
@@ -61,34 +61,32 @@ same-fault : (w h : ℕ) (a b : List ℕ) (i j : ℕ) → 12 * i + 12 ≤ length
 same-fault w h a b i j l m e = sym (fault-alone w h a i l) ∙ ap (λ (r : List ℕ). faultOf w h r 0) e ∙ fault-alone w h b j m
 
 -- ---- what was kept has nothing wrong
-module _ (w h : ℕ) (file : List ℕ) where
-  abbrev Good : List ℕ → ℕ → Type 0
-  Good list n = (i : ℕ) → i < n → faultOf w h list i ≡ 0
+module _ (w h : ℕ) where
+  abbrev Good : List ℕ → Type 0
+  Good list = (i : ℕ) → 12 * i + 12 ≤ length list → faultOf w h list i ≡ 0
 
-  good-more : (n k : ℕ) → 12 * n + 12 ≤ length file → length (keptOf w h file n) ≡ 12 * k → Good (keptOf w h file n) k → eqb (faultOf w h file n) 0 ≡ true → Good (keptOf w h file n ++ recordOf file n) (k + 1)
-  good-more n k l e good t i less =
-      let a = keptOf w h file n in
-      let b = recordOf file n in
-      let both : length (a ++ b) ≡ 12 * k + 12 = length-append a b ∙ (omega (arith, length-record file n l)) in
-      ⊎-elim
-      (λ q. same-fault w h (a ++ b) file i n (omega arith) l (record-behind a b i (omega arith) (length-record file n l)) ∙ eqb-true (faultOf w h file n) 0 t)
-      (λ m. same-fault w h (a ++ b) a i i (omega arith) (omega arith) (record-before a b i (omega arith)) ∙ good i m)
-      (eq-or-lt-of-le (let q : i ≤ k = omega arith in q))
+  module _ (file : List ℕ) (n : ℕ) (l : 12 * n + 12 ≤ length file) (good : Good (keptOf w h file n)) where
+    good-more : eqb (faultOf w h file n) 0 ≡ true → Good (keptOf w h file n ++ recordOf file n)
+    good-more t i less =
+        let a = keptOf w h file n in
+        let b = recordOf file n in
+        let r = some-kept w h file n (omega arith) in
+        let both : length (a ++ b) ≡ length a + 12 = length-append a b ∙ ap (λ (m : ℕ). length a + m) (length-record file n l) in
+        let k : length a ≡ 12 * r .0 = r .1 .bytes in
+        ⊎-elim
+        (λ q. same-fault w h (a ++ b) file i n less l (record-behind a b i (omega arith) (length-record file n l)) ∙ eqb-true (faultOf w h file n) 0 t)
+        (λ m. same-fault w h (a ++ b) a i i less (omega arith) (record-before a b i (omega arith)) ∙ good i (omega arith))
+        (eq-or-lt-of-le (let q : i ≤ r .0 = omega arith in q))
 
-  good-by : (n k : ℕ) → 12 * n + 12 ≤ length file → length (keptOf w h file n) ≡ 12 * k → Good (keptOf w h file n) k → (b : Bool) → eqb (faultOf w h file n) 0 ≡ b → Good (keptOf w h file n ++ cond b (recordOf file n) []) (cond b (k + 1) k)
-  good-by n k l e good true t = good-more n k l e good t
-  good-by n k l e good false t = subst (λ (s : List ℕ). Good s k) (sym (append-nil (keptOf w h file n))) good
+    good-by : (b : Bool) → eqb (faultOf w h file n) 0 ≡ b → Good (keptOf w h file n ++ cond b (recordOf file n) [])
+    good-by true t = good-more t
+    good-by false t = subst Good (sym (append-nil (keptOf w h file n))) good
 
-  kept-good : (n : ℕ) → 12 * n ≤ length file → (k : ℕ) × Counted w h file n k × Good (keptOf w h file n) k
-  kept-good zero l = (0, counted-none w h file, λ i less. absurd (not-suc-le-zero less))
-  kept-good (suc n) l =
-      let r = kept-good n (omega arith) in
+  kept-good : (file : List ℕ) (n : ℕ) → 12 * n ≤ length file → Good (keptOf w h file n)
+  kept-good file zero l = subst Good (sym (kept-none w h file)) (λ i less. absurd (let z : ⊥ = omega arith in z))
+  kept-good file (suc n) l =
       let b = eqb (faultOf w h file n) 0 in
-      let k = cond b (r .0 + 1) (r .0) in (
-        k,
-        subst (λ (m : ℕ). Counted w h file m k) (add-one n) (counted-more w h file n (r .0) (omega arith) (r .1)),
-        subst (λ (s : List ℕ). Good s k) (sym (kept-more w h file n b refl) ∙ ap (keptOf w h file) (add-one n)) (good-by n (r .0) (omega arith) (r .1 .bytes) (r .2) b refl),
-      )
+      subst Good (sym (kept-more w h file n b refl) ∙ ap (keptOf w h file) (add-one n)) (good-by file n (omega arith) (kept-good file n (omega arith)) b refl)
 
 -- ---- the claims
 whole-fits : (file : List ℕ) → 12 * wholeOf file ≤ length file
@@ -96,7 +94,7 @@ whole-fits file = omega arith
 
 pub all-told : AllTold
 all-told w h file =
-    let r = kept-good w h file (wholeOf file) (whole-fits file) in
+    let r = some-kept w h file (wholeOf file) (whole-fits file) in
     told (isCut file) refl (r .0) (r .1)
   where
     told : (b : Bool) → isCut file ≡ b → (k : ℕ) → Counted w h file (wholeOf file) k → length (keptOf w h file (wholeOf file)) / 12 + length (droppedOf w h file) / 2 ≡ wholeOf file + cond b 1 0
@@ -107,9 +105,8 @@ whole-stays w h file whole good = stays w h file good whole
 
 pub saved-twice : SavedTwice
 saved-twice w h file =
-    let r = kept-good w h file (wholeOf file) (whole-fits file) in
     let saved = keptOf w h file (wholeOf file) in
-    let count : wholeOf saved ≡ r .0 = omega (arith, r .1 .bytes) in
-    let good : (i : ℕ) → i < wholeOf saved → faultOf w h saved i ≡ 0 = λ i less. r .2 i (subst (λ (n : ℕ). i < n) count less) in
+    let r = some-kept w h file (wholeOf file) (whole-fits file) in
+    let good : (i : ℕ) → i < wholeOf saved → faultOf w h saved i ≡ 0 = λ i less. kept-good w h file (wholeOf file) (whole-fits file) i (omega arith) in
     let whole : isCut saved ≡ false = le-ltb 0 (length saved % 12) (omega (arith, r .1 .bytes)) in
     (drops-nothing w h saved good whole, stays w h saved good whole)

@@ -2,11 +2,11 @@
 use mathlib.Core.Path.{_≡_, refl, sym, ap, _∙_, subst}
 use mathlib.Core.Bool.{Bool, true, false, cond}
 use mathlib.Core.List.{List, [], _∷_, _++_, append-nil}
-use Prim.Native.Nat.{ℕ, _+_, _-_, _*_, _≤_, _<_}
+use Prim.Native.Nat.{ℕ, suc, _+_, _-_, _*_, _≤_, _<_}
 use native.Mathlib.Omega.{arith}
 use lib.Dec.{eqb}
-use lib.ListN.{length, take, drop, length-append, length-drop}
-use lib.Seq.{take-append-seam, drop-append-add, drop-drop, take-all, paste, sets, sets-eq}
+use lib.ListN.{length, getD, set, take, drop, length-append, length-drop}
+use lib.Seq.{drop-cons, take-append-seam, drop-append-add, drop-drop, take-add, take-all, length-take-le, sets, sets-eq}
 use borrow.Author.Tests.{eq-eqb, ne-eqb}
 use Rattle.salvage.specs.Records.{wholeOf, faultOf, keptOf, faultsOf}
 use Rattle.salvage.specs.Steps.{recordOf, fronted, Counted, WholeRoom, Writing, Before, Next}
@@ -21,27 +21,59 @@ put-next a c old =
     ap (λ (l : List ℕ). l ++ c ++ drop (length a + length c) (fronted a old)) (take-append-seam a (drop (length a) old))
     ∙ ap (λ (l : List ℕ). a ++ c ++ l) (drop-append-add a (drop (length a) old) (length c) ∙ drop-drop (length c) (length a) old ∙ ap (λ (n : ℕ). drop n old) (sym (length-append a c)))
 
-pub pasted : (a s old : List ℕ) (at : ℕ) → length a ≡ at → length s ≡ 12 → paste (fronted a old) at s 12 ≡ fronted (a ++ s) old
-pasted a s old at e h =
-    ap (λ (n : ℕ). paste (fronted a old) n s 12) (sym e)
-    ∙ ap (λ (l : List ℕ). take (length a) (fronted a old) ++ l ++ drop (length a + 12) (fronted a old)) (take-all 12 s (omega arith))
-    ∙ ap (λ (n : ℕ). take (length a) (fronted a old) ++ s ++ drop (length a + n) (fronted a old)) (sym h)
-    ∙ put-next a s old
+-- entries stored behind a front make it longer
+pub stored : (a c old : List ℕ) (at : ℕ) → length a ≡ at → at + length c ≤ length old → sets (fronted a old) at c ≡ fronted (a ++ c) old
+stored a c old at e h =
+    ap (λ (n : ℕ). sets (fronted a old) n c) (sym e)
+    ∙ sets-eq c (fronted a old) (length a) (subst (λ (n : ℕ). length a + length c ≤ n) (sym (length-fronted a old (omega arith))) (omega arith))
+    ∙ put-next a c old
 
-pub noted : (a old : List ℕ) (at x y : ℕ) → length a ≡ at → at + 2 ≤ length old → sets (fronted a old) at (x ∷ y ∷ []) ≡ fronted (a ++ (x ∷ y ∷ [])) old
-noted a old at x y e h =
-    ap (λ (n : ℕ). sets (fronted a old) n (x ∷ y ∷ [])) (sym e)
-    ∙ sets-eq (x ∷ y ∷ []) (fronted a old) (length a) (subst (λ (n : ℕ). length a + 2 ≤ n) (sym (length-fronted a old (omega arith))) (omega arith))
-    ∙ put-next a (x ∷ y ∷ []) old
+-- ---- a record word by word
+four : (l : List ℕ) (from : ℕ) → from + 4 ≤ length l → getD l from 0 ∷ getD l (from + 1) 0 ∷ getD l (from + 2) 0 ∷ getD l (from + 3) 0 ∷ [] ≡ take 4 (drop from l)
+four l from h =
+    sym (ap (take 4)
+    (drop-cons l from 0 (omega arith)
+    ∙ ap (λ (t : List ℕ). getD l from 0 ∷ t) (next from (from + 1) (omega arith) (omega arith))
+    ∙ ap (λ (t : List ℕ). getD l from 0 ∷ getD l (from + 1) 0 ∷ t) (next (from + 1) (from + 2) (omega arith) (omega arith))
+    ∙ ap (λ (t : List ℕ). getD l from 0 ∷ getD l (from + 1) 0 ∷ getD l (from + 2) 0 ∷ t) (next (from + 2) (from + 3) (omega arith) (omega arith))))
+  where
+    next : (m n : ℕ) → suc m ≡ n → n < length l → drop (suc m) l ≡ getD l n 0 ∷ drop (suc n) l
+    next m n e g = ap (λ (k : ℕ). drop k l) e ∙ drop-cons l n 0 g
+
+pub word-stored : (l bytes : List ℕ) (at from : ℕ) → from + 4 ≤ length bytes
+    → set (set (set (set l at (getD bytes from 0)) (at + 1) (getD bytes (from + 1) 0)) (at + 2) (getD bytes (from + 2) 0)) (at + 3) (getD bytes (from + 3) 0) ≡ sets l at (take 4 (drop from bytes))
+word-stored l bytes at from h = stores (getD bytes from 0) (getD bytes (from + 1) 0) (getD bytes (from + 2) 0) (getD bytes (from + 3) 0) (omega arith) (omega arith) (omega arith) ∙ ap (sets l at) (four bytes from h)
+  where
+    stores : (a b c d : ℕ) {m n p : ℕ} → m ≡ suc at → n ≡ suc (suc at) → p ≡ suc (suc (suc at)) → set (set (set (set l at a) m b) n c) p d ≡ sets l at (a ∷ b ∷ c ∷ d ∷ [])
+    stores a b c d e f g = λ i. set (set (set (set l at a) (e i) b) (f i) c) (g i) d
+
+sets-append : (l u v : List ℕ) (i : ℕ) → sets l i (u ++ v) ≡ sets (sets l i u) (i + length u) v
+sets-append l [] v i = ap (λ (k : ℕ). sets l k v) (let e : i ≡ i + 0 = omega arith in e)
+sets-append l (a ∷ u) v i = sets-append (set l i a) u v (suc i) ∙ ap (λ (k : ℕ). sets (sets (set l i a) (suc i) u) k v) (let e : suc i + length u ≡ i + suc (length u) = omega arith in e)
+
+-- three words are a record
+pub three-words : (l bytes : List ℕ) (at : ℕ) → length bytes ≡ 12
+    → sets (sets (sets l at (take 4 (drop 0 bytes))) (at + 4) (take 4 (drop 4 bytes))) (at + 8) (take 4 (drop 8 bytes)) ≡ sets l at bytes
+three-words l bytes at h =
+    let u = take 4 bytes in
+    let v = take 4 (drop 4 bytes) in
+    let t = take 4 (drop 8 bytes) in
+    let words : bytes ≡ u ++ v ++ t = sym (take-all 12 bytes (omega arith)) ∙ take-add 8 4 bytes ∙ ap (λ (s : List ℕ). s ++ t) (take-add 4 4 bytes) in
+    let one : length u ≡ 4 = length-take-le 4 bytes (omega arith) in
+    let two : length (u ++ v) ≡ 8 = ap length (sym (take-add 4 4 bytes)) ∙ length-take-le 8 bytes (omega arith) in
+    sym (ap (sets l at) words
+    ∙ sets-append l (u ++ v) t at
+    ∙ ap (λ (k : ℕ). sets (sets l at (u ++ v)) (at + k) t) two
+    ∙ ap (λ (s : List ℕ). sets s (at + 8) t) (sets-append l u v at ∙ ap (λ (k : ℕ). sets (sets l at u) (at + k) v) one))
 
 -- ---- one record
 module _ (file : List ℕ) (i fault kept : ℕ) (out faults : List ℕ) where
-  pub is-kept : (out' : List ℕ) → fault ≡ 0 → out' ≡ paste out (12 * kept) (recordOf file i) 12 → Next file i fault kept out faults (kept + 1) out' faults
+  pub is-kept : (out' : List ℕ) → fault ≡ 0 → out' ≡ sets out (12 * kept) (recordOf file i) → Next file i fault kept out faults (kept + 1) out' faults
   is-kept out' e q =
       let t : true ≡ eqb fault 0 = sym (eq-eqb fault 0 e) in
       record {
         counts = ap (λ (b : Bool). cond b (kept + 1) kept) t;
-        leaves-out = q ∙ ap (λ (b : Bool). cond b (paste out (12 * kept) (recordOf file i) 12) out) t;
+        leaves-out = q ∙ ap (λ (b : Bool). cond b (sets out (12 * kept) (recordOf file i)) out) t;
         leaves-faults = ap (λ (b : Bool). cond b faults (sets faults (2 * (i - kept)) (i ∷ fault ∷ []))) t;
       }
 
@@ -50,7 +82,7 @@ module _ (file : List ℕ) (i fault kept : ℕ) (out faults : List ℕ) where
       let t : false ≡ eqb fault 0 = sym (ne-eqb fault 0 e) in
       record {
         counts = ap (λ (b : Bool). cond b (kept + 1) kept) t;
-        leaves-out = ap (λ (b : Bool). cond b (paste out (12 * kept) (recordOf file i) 12) out) t;
+        leaves-out = ap (λ (b : Bool). cond b (sets out (12 * kept) (recordOf file i)) out) t;
         leaves-faults = q ∙ ap (λ (b : Bool). cond b faults (sets faults (2 * (i - kept)) (i ∷ fault ∷ []))) t;
       }
 
@@ -89,11 +121,11 @@ module _ (w h : ℕ) (file out faults : List ℕ) (room : WholeRoom w h file (le
       fault-fits = λ e. omega (arith, fits false (ne-eqb (faultOf w h file i) 0 e) .1, so-far .counts .numbers);
     }
 
-    kept-after : (b : Bool) → eqb (faultOf w h file i) 0 ≡ b → (out₂ : List ℕ) → out₂ ≡ cond b (paste out₁ (12 * kept) (recordOf file i) 12) out₁ → out₂ ≡ fronted (keptOf w h file (i + 1)) out
+    kept-after : (b : Bool) → eqb (faultOf w h file i) 0 ≡ b → (out₂ : List ℕ) → out₂ ≡ cond b (sets out₁ (12 * kept) (recordOf file i)) out₁ → out₂ ≡ fronted (keptOf w h file (i + 1)) out
     kept-after true e out₂ q =
         q
-        ∙ ap (λ (o : List ℕ). paste o (12 * kept) (recordOf file i) 12) (so-far .leaves-out)
-        ∙ pasted (keptOf w h file i) (recordOf file i) out (12 * kept) (so-far .counts .bytes) (length-record file i stands)
+        ∙ ap (λ (o : List ℕ). sets o (12 * kept) (recordOf file i)) (so-far .leaves-out)
+        ∙ stored (keptOf w h file i) (recordOf file i) out (12 * kept) (so-far .counts .bytes) (omega (arith, fits true e .0, length-record file i stands))
         ∙ ap (λ (k : List ℕ). fronted k out) (sym (kept-more w h file i true e))
     kept-after false e out₂ q = q ∙ so-far .leaves-out ∙ ap (λ (k : List ℕ). fronted k out) (sym (kept-more w h file i false e ∙ append-nil (keptOf w h file i)))
 
@@ -103,7 +135,7 @@ module _ (w h : ℕ) (file out faults : List ℕ) (room : WholeRoom w h file (le
     faults-after false e faults₂ q =
         q
         ∙ ap (λ (d : List ℕ). sets d (2 * (i - kept)) (i ∷ faultOf w h file i ∷ [])) (so-far .leaves-faults)
-        ∙ noted (faultsOf w h file i) faults (2 * (i - kept)) i (faultOf w h file i) (omega (arith, so-far .counts .numbers)) (omega (arith, fits false e .1, so-far .counts .numbers))
+        ∙ stored (faultsOf w h file i) (i ∷ faultOf w h file i ∷ []) faults (2 * (i - kept)) (omega (arith, so-far .counts .numbers)) (omega (arith, fits false e .1, so-far .counts .numbers))
         ∙ ap (λ (d : List ℕ). fronted d faults) (sym (faults-more w h file i false e))
 
     pub record-written : {kept₂ : ℕ} {out₂ faults₂ : List ℕ} → Next file i (faultOf w h file i) kept out₁ faults₁ kept₂ out₂ faults₂ → Writing w h file (i + 1) out faults kept₂ out₂ faults₂

@@ -5,7 +5,7 @@ use mathlib.Core.List.{List, [], _∷_, _++_}
 use Prim.Native.Nat.{ℕ, _+_, _-_, _*_, _/_, _≤_, _<_}
 use lib.Dec.{eqb}
 use lib.ListN.{length, take, drop}
-use lib.Seq.{paste, sets}
+use lib.Seq.{sets}
 use Rattle.salvage.specs.declared.Salvage.{Salvage}
 use Rattle.salvage.specs.declared.Salvage.the-variants.{Saved}
 use Rattle.salvage.specs.Records.{wholeOf, keptOf, faultsOf, droppedOf}
@@ -55,5 +55,5 @@ pub record Before (file : List ℕ) (i fault kept out faults : ℕ) : Type 0 whe
 
 pub record Next (file : List ℕ) (i fault kept : ℕ) (out faults : List ℕ) (kept' : ℕ) (out' faults' : List ℕ) : Type 0 where
   pub counts : kept' ≡ cond (eqb fault 0) (kept + 1) kept
-  pub leaves-out : out' ≡ cond (eqb fault 0) (paste out (12 * kept) (recordOf file i) 12) out
+  pub leaves-out : out' ≡ cond (eqb fault 0) (sets out (12 * kept) (recordOf file i)) out
   pub leaves-faults : faults' ≡ cond (eqb fault 0) faults (sets faults (2 * (i - kept)) (i ∷ fault ∷ []))

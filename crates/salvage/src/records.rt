@@ -16,6 +16,10 @@ pub fn is_short(file: &[u8], width: usize, height: usize, out: usize, faults: us
     ensures { λ r. ⌜ r ≡ (ltb out (length (keptOf width height (now (file .entry)) (wholeOf (now (file .entry))))) || ltb faults (length (droppedOf width height (now (file .entry))))) ⌝ }
 {
     let whole = file.len() / 12;
+    // Where any counts fit nothing is counted.
+    if (12 * whole <= out) & (2 * whole + 2 <= faults) {
+        return false;
+    }
     let kept = count_kept(file, width, height);
     (out < 12 * kept) | (faults < 2 * (whole - kept + cut_of(file.len())))
 }

@@ -4,8 +4,8 @@ use crate::records;
 ghost use mathlib.Core.Path.{_≡_};
 ghost use mathlib.Core.List.{[], _∷_};
 ghost use Prim.Native.Nat.{_+_, _*_, _≤_};
-ghost use lib.ListN.{length};
-ghost use lib.Seq.{paste, sets};
+ghost use lib.ListN.{length, take, drop};
+ghost use lib.Seq.{sets};
 ghost use Rattle.imageview.specs.Steps.{Sized};
 ghost use Rattle.salvage.specs.Records.{wholeOf};
 ghost use Rattle.salvage.specs.Steps.{Room, WholeRoom, Saving, Writing, Before, Next};
@@ -79,13 +79,26 @@ fn write_record(
 // The twelve bytes of a record, to the output from `at` on.
 fn copy_record(bytes: &[u8], out: &mut [u8], at: usize)
     requires { ⌜ (length (now bytes) ≡ 12) × (at + 12 ≤ length (now out)) ⌝ }
-    ensures { λ _. ⌜ now (out .exit) ≡ paste (now (out .entry)) at (now (bytes .entry)) 12 ⌝ }
+    ensures { λ _. ⌜ now (out .exit) ≡ sets (now (out .entry)) at (now (bytes .entry)) ⌝ }
 {
-    let mut j = 0;
-    while j < 12 {
-        out[at + j] = bytes[j];
-        j += 1;
-    }
+    copy_word(bytes, 0, out, at);
+    copy_word(bytes, 4, out, at + 4);
+    copy_word(bytes, 8, out, at + 8);
+}
+
+// Four bytes. All are read before one is written: so the compiler moves them as one word.
+fn copy_word(bytes: &[u8], from: usize, out: &mut [u8], at: usize)
+    requires { ⌜ (from + 4 ≤ length (now bytes)) × (at + 4 ≤ length (now out)) ⌝ }
+    ensures { λ _. ⌜ now (out .exit) ≡ sets (now (out .entry)) at (take 4 (drop from (now (bytes .entry)))) ⌝ }
+{
+    let a = bytes[from];
+    let b = bytes[from + 1];
+    let c = bytes[from + 2];
+    let d = bytes[from + 3];
+    out[at] = a;
+    out[at + 1] = b;
+    out[at + 2] = c;
+    out[at + 3] = d;
 }
 
 fn write_fault(faults: &mut [u16], at: usize, number: u16, fault: u16)

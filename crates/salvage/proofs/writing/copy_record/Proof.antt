@@ -1,60 +1,50 @@
--- `salvage::writing::copy_record` meets its contract: the first j bytes stand in the output.
-use mathlib.Core.Path.{_≡_, refl, sym, ap, _∙_}
+-- `salvage::writing::copy_record` meets its contract: three words, one after the other.
+use mathlib.Core.Path.{ap, _∙_}
 use mathlib.Core.List.{List}
-use Prim.Native.Nat.{ℕ, _+_, _-_, _≤_}
-use native.Mathlib.Numerals.{add-one}
-use native.Mathlib.Omega.{arith}
-use lib.ListN.{length, getD, set, length-set}
-use lib.Seq.{paste, paste-zero, paste-suc}
-use Rattle.shapes.proofs.TurnLaws.{ended}
+use Prim.Native.Nat.{ℕ, _+_}
+use lib.ListN.{take, drop}
+use lib.Seq.{sets}
+use Rattle.salvage.proofs.WritingLaws.{three-words}
+use borrow.Author.Needs.{needs}
 use Rattle.salvage.proofs.writing.copy_record.Statement.{statement}
 use Rattle.salvage.proofs.writing.copy_record.Tie as tie
 
-abbrev Inv-loop : tie.InvT-loop
-Inv-loop bytes out₀ at j₀ out j = (j ≤ 12) × (length out ≡ length out₀) × (out ≡ paste out₀ at bytes j)
+copy-word-requires : tie.Need-copy-word-requires
+copy-word-requires c κs = search needs
 
-abbrev μ-loop : tie.MeasureT-loop
-μ-loop bytes out₀ at j₀ out j = 12 - j
+add-copy-word : tie.Need-add-copy-word
+add-copy-word c = search needs
 
-loop-holds : tie.Need-loop-holds Inv-loop μ-loop
-loop-holds c = let a = c .args in (omega arith, refl, paste-zero (a .out .now) (a .at) (a .bytes .now))
+copy-word-requires-2 : tie.Need-copy-word-requires-2
+copy-word-requires-2 c κs = search needs
 
-shared-slice-read-out : tie.Need-shared-slice-read-out Inv-loop μ-loop
-shared-slice-read-out c = omega arith
+add-copy-word-2 : tie.Need-add-copy-word-2
+add-copy-word-2 c = search needs
 
-add-out : tie.Need-add-out Inv-loop μ-loop
-add-out c = omega arith
+copy-word-requires-3 : tie.Need-copy-word-requires-3
+copy-word-requires-3 c κs = search needs
 
-slice-write-out : tie.Need-slice-write-out Inv-loop μ-loop
-slice-write-out c = omega arith
+same-length : tie.Need-same-length
+same-length c = search needs
 
-add-j : tie.Need-add-j Inv-loop μ-loop
-add-j c = omega arith
-
-loop-less : tie.Need-loop-less Inv-loop μ-loop
-loop-less c = omega arith
-
-loop-again : tie.Need-loop-again Inv-loop μ-loop
-loop-again c =
-    let l = c .before .before .loop in
-    let a = c .before .before .before .args in
-    let v = getD (a .bytes .now) (l .j) 0 in (
-      omega arith,
-      length-set (l .out) (a .at + l .j) v ∙ l .inv .1,
-      ap (λ (x : List ℕ). set x (a .at + l .j) v) (l .inv .2)
-          ∙ paste-suc (a .out .now) (a .at) (a .bytes .now) (l .j) 0 (omega arith) (omega arith)
-          ∙ ap (paste (a .out .now) (a .at) (a .bytes .now)) (sym (add-one (l .j))),
-    )
-
-same-length : tie.Need-same-length Inv-loop μ-loop
-same-length c = c .before .loop .inv .1
-
-returns : tie.Need-returns Inv-loop μ-loop
+returns : tie.Need-returns
 returns c =
-    let l = c .before .loop in
-    let a = c .before .before .args in
-    l .inv .2 ∙ ap (paste (a .out .now) (a .at) (a .bytes .now)) (ended (l .inv .0) (c .loop-test .left))
+    let s = c .before .before .before .before .before .before .before .before .before .before .before .before .before .before in
+    let a = s .args in
+    c .before .before .copy-word3 .ensures
+    ∙ ap (λ (l : List ℕ). sets l (a .at + 8) (take 4 (drop 8 (a .bytes .now))))
+    (c .before .before .before .before .before .before .copy-word2 .ensures
+    ∙ ap (λ (l : List ℕ). sets l (a .at + 4) (take 4 (drop 4 (a .bytes .now)))) (c .before .before .before .before .before .before .before .before .before .before .copy-word .ensures))
+    ∙ three-words (a .out .now) (a .bytes .now) (a .at) (s .pre .0)
 
 pub copy-record-spec : {M : Type 1} → statement M
 copy-record-spec =
-    tie.close (tie.spec Inv-loop μ-loop loop-holds shared-slice-read-out add-out slice-write-out add-j loop-less loop-again same-length returns)
+    tie.close
+    (tie.spec
+    copy-word-requires
+    add-copy-word
+    copy-word-requires-2
+    add-copy-word-2
+    copy-word-requires-3
+    same-length
+    returns)

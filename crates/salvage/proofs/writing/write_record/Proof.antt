@@ -4,7 +4,7 @@ use mathlib.Core.List.{List}
 use Prim.Native.Nat.{ℕ, _*_}
 use native.Mathlib.Omega.{arith}
 use lib.ListN.{length}
-use lib.Seq.{paste}
+use lib.Seq.{sets}
 use Rattle.salvage.proofs.RecordLaws.{length-record}
 use Rattle.salvage.proofs.WritingLaws.{is-kept, is-dropped}
 use borrow.Author.Needs.{needs}
@@ -32,7 +32,7 @@ returns : tie.Need-returns
 returns c =
     let a = c .before .before .before .before .before .before .before .before .before .args in
     is-kept (a .file .now) (a .i) (a .fault) (a .kept) (a .out .now) (a .faults .now) _ (c .before .before .before .before .before .if1 .taken)
-    (c .before .before .copy-record .ensures ∙ ap (λ (l : List ℕ). paste (a .out .now) (12 * a .kept) l 12) (c .before .before .before .before .record-of .ensures))
+    (c .before .before .copy-record .ensures ∙ ap (sets (a .out .now) (12 * a .kept)) (c .before .before .before .before .record-of .ensures))
 
 sub-write-fault : tie.Need-sub-write-fault
 sub-write-fault c = search needs
