@@ -2,12 +2,13 @@
 use mathlib.Core.Path.{_≡_, refl, sym, ap, ap₂, _∙_}
 use mathlib.Core.Bool.{Bool, true, false, not, _||_, cond}
 use mathlib.Core.List.{List, [], _∷_, _++_, append-nil}
-use Prim.Native.Nat.{ℕ, _+_, _-_, _*_, _/_, _≤_}
+use Prim.Native.Nat.{ℕ, _+_, _-_, _*_, _/_, _%_, _≤_}
+use native.Mathlib.Nat.{pos-of-ne-zero}
 use native.Mathlib.Omega.{arith}
 use lib.Dec.{ltb}
 use lib.ListN.{length, length-append}
 use lib.Seq.{sets}
-use borrow.Author.Tests.{ltb-false, le-ltb}
+use borrow.Author.Tests.{ltb-false, lt-ltb, le-ltb}
 use Rattle.shapes.proofs.TestLaws.{first-not, second-not}
 use Rattle.imageview.specs.Image.{isSize}
 use Rattle.imageview.specs.Steps.{Sized}
@@ -21,6 +22,13 @@ use Rattle.salvage.specs.Call.{Way, refused, saved, wayOf, answerOf, out
 use Rattle.salvage.specs.Steps.{fronted, Counted, Room, WholeRoom, Saving, Writing}
 use Rattle.salvage.proofs.RecordLaws.{some-kept}
 use Rattle.salvage.proofs.WritingLaws.{stored}
+
+-- ---- whether a record is cut
+pub no-rest : (file : List ℕ) → length file % 12 ≡ 0 → isCut file ≡ false
+no-rest file e = le-ltb 0 (length file % 12) (omega arith)
+
+pub some-rest : (file : List ℕ) → (length file % 12 ≡ 0 → ⊥) → isCut file ≡ true
+some-rest file e = lt-ltb 0 (length file % 12) (pos-of-ne-zero e)
 
 -- ---- with the cut record
 module _ (w h : ℕ) (file : List ℕ) where

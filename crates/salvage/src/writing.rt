@@ -18,14 +18,14 @@ pub fn save(file: &[u8], width: usize, height: usize, out: &mut [u8], faults: &m
     let whole = file.len() / 12;
     let kept = write_whole(file, width, height, out, faults);
     let dropped = whole - kept;
-    if 0 < file.len() % 12 {
-        write_fault(faults, 2 * dropped, whole as u16, 1);
-        return Salvage::Saved {
-            kept,
-            dropped: dropped + 1,
-        };
+    if file.len() % 12 == 0 {
+        return Salvage::Saved { kept, dropped };
     }
-    Salvage::Saved { kept, dropped }
+    write_fault(faults, 2 * dropped, whole as u16, 1);
+    Salvage::Saved {
+        kept,
+        dropped: dropped + 1,
+    }
 }
 
 // The whole records; how many of them were kept.

@@ -5,7 +5,7 @@ use native.Mathlib.Nat.{le-refl}
 use lib.ListN.{length}
 use borrow.Author.Tests.{lt-ltb, le-ltb}
 use Rattle.salvage.proofs.WritingLaws.{same-faults}
-use Rattle.salvage.proofs.CallLaws.{whole-room, ending-fits, saved-cut, saved-whole}
+use Rattle.salvage.proofs.CallLaws.{no-rest, some-rest, whole-room, ending-fits, saved-cut, saved-whole}
 use borrow.Author.Needs.{needs}
 use Rattle.salvage.proofs.writing.save.Statement.{statement}
 use Rattle.salvage.proofs.writing.save.Tie as tie
@@ -15,6 +15,18 @@ write-whole-requires c κs = let s = c .before .before .before .before .before i
 
 sub-dropped : tie.Need-sub-dropped
 sub-dropped c = search needs
+
+same-length : tie.Need-same-length
+same-length c = search needs
+
+same-length-2 : tie.Need-same-length-2
+same-length-2 c = search needs
+
+returns : tie.Need-returns
+returns c =
+    let s = c .before .before .before .before .before .before .before .before .before .before .before in
+    let a = s .args in
+    saved-whole (a .width) (a .height) (a .file .now) (s .pre .1) (c .before .before .before .before .before .write-whole .ensures) (no-rest (a .file .now) (c .if1 .taken))
 
 mul-write-fault : tie.Need-mul-write-fault
 mul-write-fault c = search needs
@@ -28,22 +40,10 @@ write-fault-requires c κs =
     let a = s .args in
     let t = c .before .before .before .before .before .before .write-whole in
     subst (λ (n : ℕ). 2 * (length (a .file .now) / 12 - t .result) + 2 ≤ n) (sym (same-faults (a .width) (a .height) (a .file .now) (a .out .now) (a .faults .now) (whole-room (a .width) (a .height) (a .file .now) (s .pre .1)) (le-refl (length (a .file .now) / 12)) (t .ensures)))
-    (ending-fits (a .width) (a .height) (a .file .now) (s .pre .1) (t .ensures) (lt-ltb 0 (length (a .file .now) % 12) (c .before .if1 .taken)))
+    (ending-fits (a .width) (a .height) (a .file .now) (s .pre .1) (t .ensures) (some-rest (a .file .now) (c .before .if1 .left)))
 
-add-t19 : tie.Need-add-t19
-add-t19 c = search needs
-
-same-length : tie.Need-same-length
-same-length c = search needs
-
-same-length-2 : tie.Need-same-length-2
-same-length-2 c = search needs
-
-returns : tie.Need-returns
-returns c =
-    let s = c .before .before .before .before .before .before .before .before .before .before .before .before .before .before .before in
-    let a = s .args in
-    saved-cut (a .width) (a .height) (a .file .now) (s .pre .1) (c .before .before .before .before .before .before .before .before .before .write-whole .ensures) (lt-ltb 0 (length (a .file .now) % 12) (c .before .before .before .before .if1 .taken)) (c .before .before .write-fault .ensures)
+add-t14 : tie.Need-add-t14
+add-t14 c = search needs
 
 same-length-3 : tie.Need-same-length-3
 same-length-3 c = search needs
@@ -53,9 +53,9 @@ same-length-4 c = search needs
 
 returns-2 : tie.Need-returns-2
 returns-2 c =
-    let s = c .before .before .before .before .before .before .before .before .before .before .before in
+    let s = c .before .before .before .before .before .before .before .before .before .before .before .before .before .before .before in
     let a = s .args in
-    saved-whole (a .width) (a .height) (a .file .now) (s .pre .1) (c .before .before .before .before .before .write-whole .ensures) (le-ltb 0 (length (a .file .now) % 12) (c .if1 .left))
+    saved-cut (a .width) (a .height) (a .file .now) (s .pre .1) (c .before .before .before .before .before .before .before .before .before .write-whole .ensures) (some-rest (a .file .now) (c .before .before .before .before .if1 .left)) (c .before .before .write-fault .ensures)
 
 pub save-spec : {M : Type 1} → statement M
 save-spec =
@@ -63,13 +63,13 @@ save-spec =
     (tie.spec
     write-whole-requires
     sub-dropped
-    mul-write-fault
-    cast-write-fault
-    write-fault-requires
-    add-t19
     same-length
     same-length-2
     returns
+    mul-write-fault
+    cast-write-fault
+    write-fault-requires
+    add-t14
     same-length-3
     same-length-4
     returns-2)
