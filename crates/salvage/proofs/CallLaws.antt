@@ -6,7 +6,7 @@ use Prim.Native.Nat.{ℕ, _+_, _-_, _*_, _/_, _%_, _≤_}
 use native.Mathlib.Nat.{pos-of-ne-zero}
 use native.Mathlib.Omega.{arith}
 use lib.Dec.{ltb}
-use lib.ListN.{length, length-append}
+use lib.ListN.{length, drop, length-append}
 use lib.Seq.{sets}
 use borrow.Author.Tests.{ltb-false, lt-ltb, le-ltb}
 use Rattle.shapes.proofs.TestLaws.{first-not, second-not}
@@ -165,3 +165,18 @@ module _ (w h : ℕ) (file out faults : List ℕ) where
           leaves-out = s .leaves-out ∙ ap (outAfter out) (sym last);
           leaves-faults = s .leaves-faults ∙ ap (faultsAfter faults) (sym last);
         }
+
+-- ---- for who calls: what was saved lies within the outputs
+within-by : (way : Way) (out faults : List ℕ) {kept dropped : ℕ} {out' faults' : List ℕ} → Saved kept dropped ≡ answerOf way → out' ≡ outAfter out way → faults' ≡ faultsAfter faults way
+    → (12 * kept ≤ length out') × (2 * dropped ≤ length faults')
+within-by (refused r) out faults e p q = let z : _≡_ {A = ℕ} 0 1 = cc in absurd (let y : ⊥ = omega arith in y)
+within-by (saved k d) out faults {kept} {dropped} e p q =
+    let m : kept ≡ length k / 12 = cc in
+    let n : dropped ≡ length d / 2 = cc in (
+      omega (arith, ap length p ∙ length-append k (drop (length k) out)),
+      omega (arith, ap length q ∙ length-append d (drop (length d) faults)),
+    )
+
+pub saved-within : {w h : ℕ} {file out faults : List ℕ} {answer : Salvage} {out' faults' : List ℕ} {kept dropped : ℕ} → Done w h file out faults answer out' faults' → answer ≡ Saved kept dropped
+    → (12 * kept ≤ length out') × (2 * dropped ≤ length faults')
+saved-within {w} {h} {file} {out} {faults} t e = within-by (wayOf w h file (length out) (length faults)) out faults (sym e ∙ t .answers) (t .leaves-out) (t .leaves-faults)
