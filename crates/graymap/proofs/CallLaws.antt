@@ -1,5 +1,5 @@
 -- What is behind the magic: numbers that were cut are judged as the exact ones; each test of the call once those before it have passed.
-use mathlib.Core.Path.{_≡_, refl, sym, ap, _∙_}
+use mathlib.Core.Path.{_≡_, sym, ap, _∙_}
 use mathlib.Core.Logic.{⊎-elim}
 use mathlib.Core.Bool.{Bool, true, false, not, _&&_, cond, and-false}
 use mathlib.Core.List.{List}
@@ -15,7 +15,7 @@ use Rattle.imageview.specs.Image.{most, isSize}
 use Rattle.refusals.specs.declared.Refusal.the-variants.{NoMagic, BadHeader, BadGraymapSize, TooShort, LeftOver}
 use Rattle.graymap.specs.declared.Graymap.{Graymap}
 use Rattle.graymap.specs.declared.Graymap.the-variants.{Read, Above, Refused}
-use Rattle.graymap.specs.Grammar.{Magic, noMagic, magic, magicIn, Header, noHeader, header, headerIn}
+use Rattle.graymap.specs.Grammar.{magicIn, noHeader, header, headerIn}
 use Rattle.graymap.specs.Call.{firstAbove, pixelsOf, sizedOf, magicOf, readOf}
 use Rattle.graymap.specs.Steps.{hasMagic, cut, cutAt}
 use Rattle.graymap.proofs.CutLaws.{cut-below, cut-above, sides}
@@ -60,19 +60,19 @@ module _ (count : ℕ) (l : List ℕ) where
   maximum-free w h m =
       ⊎-elim (λ g. ap (λ (k : ℕ). sizedOf count (header w h k l)) (cut-below m g))
       (λ g. ap (λ (k : ℕ). sizedOf count (header w h k l)) (cut-above m g) ∙ bad-maximum count w h cutAt l (much cutAt (omega arith)) ∙ sym (bad-maximum count w h m l (much m g)))
-      (sides m)
+      (sides m cutAt)
 
   width-free : (w h m : ℕ) → sizedOf count (header (cut w) h m l) ≡ sizedOf count (header w h m l)
   width-free w h m =
       ⊎-elim (λ g. ap (λ (k : ℕ). sizedOf count (header k h m l)) (cut-below w g))
       (λ g. ap (λ (k : ℕ). sizedOf count (header k h m l)) (cut-above w g) ∙ bad-sizes count cutAt h m l (wide cutAt h (omega arith)) ∙ sym (bad-sizes count w h m l (wide w h g)))
-      (sides w)
+      (sides w cutAt)
 
   height-free : (w h m : ℕ) → sizedOf count (header w (cut h) m l) ≡ sizedOf count (header w h m l)
   height-free w h m =
       ⊎-elim (λ g. ap (λ (k : ℕ). sizedOf count (header w k m l)) (cut-below h g))
       (λ g. ap (λ (k : ℕ). sizedOf count (header w k m l)) (cut-above h g) ∙ bad-sizes count w cutAt m l (high w cutAt (omega arith)) ∙ sym (bad-sizes count w h m l (high w h g)))
-      (sides h)
+      (sides h cutAt)
 
   cut-free : (w h m : ℕ) → sizedOf count (header (cut w) (cut h) (cut m) l) ≡ sizedOf count (header w h m l)
   cut-free w h m = width-free w (cut h) (cut m) ∙ height-free w h (cut m) ∙ maximum-free w h m

@@ -1,20 +1,20 @@
 -- A gap byte by byte, at a place of a file.
-use mathlib.Core.Path.{_≡_, refl, sym, ap, _∙_, subst}
+use mathlib.Core.Path.{_≡_, refl, sym, ap, _∙_}
 use mathlib.Core.Bool.{Bool, true, false, not, _||_, cond, false≢true}
-use mathlib.Core.List.{List, [], _∷_}
-use Prim.Native.Nat.{ℕ, suc, _+_, _≤_, _<_}
+use mathlib.Core.List.{List, _∷_}
+use Prim.Native.Nat.{ℕ, _+_, _≤_, _<_}
 use native.Mathlib.Numerals.{add-one}
 use lib.Dec.{eqb}
 use lib.ListN.{length, getD, drop, drop-of-length-le}
 use lib.Seq.{drop-cons}
 use Rattle.graymap.specs.Grammar.{isSpace, endsLine, gap}
-use Rattle.graymap.specs.Steps.{endsGap, hides, PastGap}
+use Rattle.graymap.specs.Steps.{endsGap, hides}
 
 -- what is left of a file at a place within it
 pub at-place : (file : List ℕ) (i : ℕ) → i < length file → drop i file ≡ getD file i 0 ∷ drop (i + 1) file
 at-place file i h = drop-cons file i 0 h ∙ ap (λ (k : ℕ). getD file i 0 ∷ drop k file) (sym (add-one i))
 
-ended : (hidden : Bool) (b : ℕ) (l : List ℕ) → endsGap hidden b ≡ true → gap hidden (b ∷ l) ≡ b ∷ l
+pub ended : (hidden : Bool) (b : ℕ) (l : List ℕ) → endsGap hidden b ≡ true → gap hidden (b ∷ l) ≡ b ∷ l
 unfolding gap
 ended true b l e = absurd (false≢true e)
 ended false b l e = by (isSpace b) (eqb b 35) e

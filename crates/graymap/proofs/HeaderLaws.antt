@@ -1,8 +1,8 @@
 -- The magic; a number and where the next begins; the header number by number.
-use mathlib.Core.Path.{_≡_, refl, sym, ap, _∙_, subst}
+use mathlib.Core.Path.{_≡_, refl, sym, ap, _∙_}
 use mathlib.Core.Bool.{Bool, true, false, _&&_, cond, false≢true}
 use mathlib.Core.List.{List, [], _∷_}
-use Prim.Native.Nat.{ℕ, _+_, _-_, _≤_, _<_}
+use Prim.Native.Nat.{ℕ, _-_, _≤_, _<_}
 use native.Mathlib.Omega.{arith}
 use lib.Dec.{eqb}
 use lib.ListN.{length, getD, take, drop, length-drop, take-append-drop}
@@ -10,9 +10,8 @@ use Rattle.graymap.specs.declared.header.Found.{Found}
 use Rattle.graymap.specs.declared.header.Found.the-variants as Found
 use Rattle.graymap.specs.declared.header.Heading.{Heading}
 use Rattle.graymap.specs.declared.header.Heading.the-variants as Heading
-use Rattle.graymap.specs.Grammar.{isSpace, Number, missing, number, numberIn, Magic, noMagic, magic, magicIn, Header, noHeader, header, headerIn}
-use Rattle.graymap.specs.Grammar as Grammar
-use Rattle.graymap.specs.Steps.{isMagic, hasMagic, cut, foundOf, headingOf, withMaximum, withHeight}
+use Rattle.graymap.specs.Grammar.{isSpace, Number, missing, number, numberIn, Magic, noMagic, magic, magicIn, Header, noHeader, header, withMaximum, withHeight, withWidth, headerIn}
+use Rattle.graymap.specs.Steps.{isMagic, hasMagic, cut, foundOf, headingOf, thenMaximum, thenHeight}
 use Rattle.graymap.proofs.TailLaws.{EndsIn, ends-on, ends-at, NumberEnds, number-ends, HeaderEnds, header-ends}
 
 -- ---- the magic
@@ -76,42 +75,42 @@ found file from value next e = by (numberIn (drop from file)) (number-ends (drop
         record { exact = v; is = ap (number v) (sym (at .1) ∙ ap (λ (k : ℕ). drop k file) (sym p)); cuts = cc; within = omega (arith, at .0) }
 
 -- ---- the header, number by number
-maximum-cut : (count w h : ℕ) (n : Number) → withMaximum count (cut w) (cut h) n ≡ headingOf count (Grammar.withMaximum w h n)
+maximum-cut : (count w h : ℕ) (n : Number) → thenMaximum count (cut w) (cut h) n ≡ headingOf count (withMaximum w h n)
 maximum-cut count w h missing = refl
 maximum-cut count w h (number m l) = refl
 
-height-cut : (count w : ℕ) (n : Number) → withHeight count (cut w) n ≡ headingOf count (Grammar.withHeight w n)
+height-cut : (count w : ℕ) (n : Number) → thenHeight count (cut w) n ≡ headingOf count (withHeight w n)
 height-cut count w missing = refl
 height-cut count w (number h l) = maximum-cut count w h (numberIn l)
 
 pub no-width : (count : ℕ) (l : List ℕ) → numberIn l ≡ missing → Heading.Missing ≡ headingOf count (headerIn l)
 unfolding headerIn
-no-width count l e = ap (λ (n : Number). headingOf count (Grammar.withWidth n)) (sym e)
+no-width count l e = ap (λ (n : Number). headingOf count (withWidth n)) (sym e)
 
-pub no-height : (count w : ℕ) (n : Number) → n ≡ missing → Heading.Missing ≡ withHeight count w n
-no-height count w n e = ap (withHeight count w) (sym e)
+pub no-height : (count w : ℕ) (n : Number) → n ≡ missing → Heading.Missing ≡ thenHeight count w n
+no-height count w n e = ap (thenHeight count w) (sym e)
 
-pub no-maximum : (count w h : ℕ) (n : Number) → n ≡ missing → Heading.Missing ≡ withMaximum count w h n
-no-maximum count w h n e = ap (withMaximum count w h) (sym e)
+pub no-maximum : (count w h : ℕ) (n : Number) → n ≡ missing → Heading.Missing ≡ thenMaximum count w h n
+no-maximum count w h n e = ap (thenMaximum count w h) (sym e)
 
 module _ (file : List ℕ) (from value next : ℕ) (t : Next file (numberIn (drop from file)) value next) where
-  pub width-found : withHeight (length file) value (numberIn (drop next file)) ≡ headingOf (length file) (headerIn (drop from file))
+  pub width-found : thenHeight (length file) value (numberIn (drop next file)) ≡ headingOf (length file) (headerIn (drop from file))
   unfolding headerIn
   width-found =
-      ap (λ (w : ℕ). withHeight (length file) w (numberIn (drop next file))) (t .cuts)
+      ap (λ (w : ℕ). thenHeight (length file) w (numberIn (drop next file))) (t .cuts)
       ∙ height-cut (length file) (t .exact) (numberIn (drop next file))
-      ∙ ap (λ (n : Number). headingOf (length file) (Grammar.withWidth n)) (sym (t .is))
+      ∙ ap (λ (n : Number). headingOf (length file) (withWidth n)) (sym (t .is))
 
-  pub height-found : (w : ℕ) → withMaximum (length file) w value (numberIn (drop next file)) ≡ withHeight (length file) w (numberIn (drop from file))
+  pub height-found : (w : ℕ) → thenMaximum (length file) w value (numberIn (drop next file)) ≡ thenHeight (length file) w (numberIn (drop from file))
   height-found w =
-      ap (λ (h : ℕ). withMaximum (length file) w h (numberIn (drop next file))) (t .cuts)
-      ∙ ap (withHeight (length file) w) (sym (t .is))
+      ap (λ (h : ℕ). thenMaximum (length file) w h (numberIn (drop next file))) (t .cuts)
+      ∙ ap (thenHeight (length file) w) (sym (t .is))
 
-  pub maximum-found : (w h : ℕ) → Heading.Given w h value next ≡ withMaximum (length file) w h (numberIn (drop from file))
+  pub maximum-found : (w h : ℕ) → Heading.Given w h value next ≡ thenMaximum (length file) w h (numberIn (drop from file))
   maximum-found w h =
       ap (λ (m : ℕ). Heading.Given w h m next) (t .cuts)
       ∙ ap (Heading.Given w h (cut (t .exact))) (place-of file next (t .within))
-      ∙ ap (withMaximum (length file) w h) (sym (t .is))
+      ∙ ap (thenMaximum (length file) w h) (sym (t .is))
 
 -- ---- the header that was found: its numbers before the cut, and what is left behind it
 pub record Whole (file : List ℕ) (x : Header) (w h m start : ℕ) : Type 0 where

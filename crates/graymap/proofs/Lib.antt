@@ -6,3 +6,6 @@ pub mod DigitLaws
 pub mod HeaderLaws
 pub mod SampleLaws
 pub mod CallLaws
+pub mod PlainLaws
+pub mod Theorems
+pub mod Cases

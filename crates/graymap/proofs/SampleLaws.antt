@@ -55,10 +55,10 @@ module _ (f : ℕ → ℕ) (m : ℕ) where
       (eq-or-lt-of-le (le-of-suc-le-suc l))
 
   -- ---- what it says of each sample
-  most : (n : ℕ) → firstAbove f m n ≤ n
+  pub above-most : (n : ℕ) → firstAbove f m n ≤ n
   unfolding firstAbove
-  most zero = omega arith
-  most (suc n) = by (ltb (firstAbove f m n) n) (ltb m (f n)) (firstAbove f m n) (most n)
+  above-most zero = omega arith
+  above-most (suc n) = by (ltb (firstAbove f m n) n) (ltb m (f n)) (firstAbove f m n) (above-most n)
     where
       by : (a b : Bool) (k : ℕ) → k ≤ n → cond a k (cond b n (suc n)) ≤ suc n
       by true b k h = omega arith
@@ -68,7 +68,7 @@ module _ (f : ℕ → ℕ) (m : ℕ) where
   -- where none of one sample more is above, none was before it
   before : (n : ℕ) → firstAbove f m (suc n) ≡ suc n → firstAbove f m n ≡ n
   before n e =
-      ⊎-elim (λ q. q) (λ l. absurd (let s = stays n l in let z : ⊥ = omega arith in z)) (eq-or-lt-of-le (most n))
+      ⊎-elim (λ q. q) (λ l. absurd (let s = stays n l in let z : ⊥ = omega arith in z)) (eq-or-lt-of-le (above-most n))
 
   last : (n : ℕ) → firstAbove f m (suc n) ≡ suc n → f n ≤ m
   last n e = by (ltb m (f n)) refl

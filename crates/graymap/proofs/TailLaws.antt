@@ -12,7 +12,7 @@ use Rattle.graymap.specs.Grammar.{isSpace, endsLine, isDigit, gap, digit
 abbrev pub EndsIn : List ℕ → List ℕ → Type 0
 EndsIn end l = (front : List ℕ) × (l ≡ front ++ end)
 
-ends-self : (l : List ℕ) → EndsIn l l
+pub ends-self : (l : List ℕ) → EndsIn l l
 ends-self l = ([], refl)
 
 pub ends-more : (b : ℕ) {end l : List ℕ} → EndsIn end l → EndsIn end (b ∷ l)

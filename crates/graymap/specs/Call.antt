@@ -5,7 +5,6 @@ use Prim.Native.Nat.{ℕ, zero, suc, _-_, _*_}
 use lib.Dec.{leb, ltb}
 use lib.ListN.{length, getD, drop}
 use Rattle.imageview.specs.Image.{isSize}
-use Rattle.refusals.specs.declared.Refusal.{Refusal}
 use Rattle.refusals.specs.declared.Refusal.the-variants.{NoMagic, BadHeader, BadGraymapSize, TooShort, LeftOver}
 use Rattle.refusals.specs.Numbers as Refusals
 use Rattle.graymap.specs.declared.Graymap.{Graymap}

@@ -1,8 +1,8 @@
 -- What the steps of the call promise each other. Numbers are cut where the code reads them, at a limit that no test asks about.
 use mathlib.Core.Path.{_≡_}
 use mathlib.Core.Bool.{Bool, true, false, not, _&&_, _||_, cond}
-use mathlib.Core.List.{List, _++_}
-use Prim.Native.Nat.{ℕ, zero, suc, _-_, _≤_}
+use mathlib.Core.List.{List}
+use Prim.Native.Nat.{ℕ, _-_, _≤_}
 use lib.Dec.{ltb, eqb}
 use lib.ListN.{length, drop}
 use Rattle.shapes.specs.Turns.{turns}
@@ -53,13 +53,13 @@ headingOf count noHeader = Heading.Missing
 headingOf count (header w h m l) = Heading.Given (cut w) (cut h) (cut m) (count - length l)
 
 -- the rest of a heading, where its first numbers are known already
-abbrev pub withMaximum : ℕ → ℕ → ℕ → Number → Heading
-withMaximum count w h missing = Heading.Missing
-withMaximum count w h (number m l) = Heading.Given w h (cut m) (count - length l)
+abbrev pub thenMaximum : ℕ → ℕ → ℕ → Number → Heading
+thenMaximum count w h missing = Heading.Missing
+thenMaximum count w h (number m l) = Heading.Given w h (cut m) (count - length l)
 
-abbrev pub withHeight : ℕ → ℕ → Number → Heading
-withHeight count w missing = Heading.Missing
-withHeight count w (number h l) = withMaximum count w (cut h) (numberIn l)
+abbrev pub thenHeight : ℕ → ℕ → Number → Heading
+thenHeight count w missing = Heading.Missing
+thenHeight count w (number h l) = thenMaximum count w (cut h) (numberIn l)
 
 -- ---- the highest of n samples
 abbrev pub higherOf : ℕ → ℕ → ℕ

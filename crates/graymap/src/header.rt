@@ -4,8 +4,8 @@ ghost use mathlib.Core.Path.{_≡_};
 ghost use mathlib.Core.Bool.{true, false};
 ghost use Prim.Native.Nat.{_+_, _-_, _*_, _≤_};
 ghost use lib.ListN.{length, drop};
-ghost use Rattle.graymap.specs.Grammar.{isDigit, gap, digits, numberIn, headerIn};
-ghost use Rattle.graymap.specs.Steps.{hasMagic, endsGap, hides, cutAt, cut, endedOf, foundOf, headingOf, withHeight, withMaximum, PastGap};
+ghost use Rattle.graymap.specs.Grammar.{isDigit, digits, numberIn, headerIn};
+ghost use Rattle.graymap.specs.Steps.{hasMagic, endsGap, hides, cutAt, cut, endedOf, foundOf, headingOf, thenHeight, thenMaximum, PastGap};
 
 // A number, cut, and where the byte behind its whitespace stands.
 enum Found {
@@ -47,7 +47,7 @@ pub fn read_header(file: &[u8], from: usize) -> Heading
 
 fn with_height(file: &[u8], width: usize, from: usize) -> Heading
     requires { ⌜ from ≤ length (now file) ⌝ }
-    ensures { λ r. ⌜ r ≡ withHeight (length (now (file .entry))) width (numberIn (drop from (now (file .entry)))) ⌝ }
+    ensures { λ r. ⌜ r ≡ thenHeight (length (now (file .entry))) width (numberIn (drop from (now (file .entry)))) ⌝ }
 {
     let found = number(file, from);
     match found {
@@ -58,7 +58,7 @@ fn with_height(file: &[u8], width: usize, from: usize) -> Heading
 
 fn with_maximum(file: &[u8], width: usize, height: usize, from: usize) -> Heading
     requires { ⌜ from ≤ length (now file) ⌝ }
-    ensures { λ r. ⌜ r ≡ withMaximum (length (now (file .entry))) width height (numberIn (drop from (now (file .entry)))) ⌝ }
+    ensures { λ r. ⌜ r ≡ thenMaximum (length (now (file .entry))) width height (numberIn (drop from (now (file .entry)))) ⌝ }
 {
     let found = number(file, from);
     match found {

@@ -1,5 +1,4 @@
 -- `graymap::header::digit` meets its contract: a digit is at least `0`.
-use native.Mathlib.Omega.{arith}
 use lib.Dec.{leb}
 use borrow.Author.Needs.{needs}
 use borrow.Author.Tests.{leb-true}

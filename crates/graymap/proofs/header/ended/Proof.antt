@@ -1,5 +1,5 @@
 -- `graymap::header::ended` meets its contract: each return is one arm of the definition.
-use mathlib.Core.Path.{_≡_, sym, ap, _∙_}
+use mathlib.Core.Path.{sym, ap, _∙_}
 use mathlib.Core.Bool.{Bool, _&&_, cond}
 use borrow.Author.Needs.{needs}
 use Rattle.graymap.specs.declared.header.Found.the-variants.{Missing, Number}

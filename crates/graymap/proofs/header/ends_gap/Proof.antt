@@ -1,5 +1,5 @@
 -- `graymap::header::ends_gap` meets its contract, by whether a comment hides the byte.
-use mathlib.Core.Path.{_≡_, sym, ap, _∙_}
+use mathlib.Core.Path.{sym, ap, _∙_}
 use mathlib.Core.Bool.{Bool, not, _||_}
 use lib.Dec.{eqb}
 use borrow.Author.Needs.{needs}

@@ -1,5 +1,5 @@
 -- `graymap::header::has_magic` meets its contract: a file of three bytes or more is asked for them.
-use mathlib.Core.Path.{_≡_, ap, _∙_}
+use mathlib.Core.Path.{ap, _∙_}
 use mathlib.Core.Bool.{Bool, _&&_}
 use lib.Dec.{eqb}
 use lib.ListN.{getD}

@@ -1,5 +1,5 @@
 -- `graymap::header::hides` meets its contract, by whether a comment hides the byte.
-use mathlib.Core.Path.{_≡_, sym, ap, _∙_}
+use mathlib.Core.Path.{sym, ap, _∙_}
 use mathlib.Core.Bool.{Bool, not}
 use borrow.Author.Needs.{needs}
 use Rattle.graymap.specs.Steps as Steps

@@ -1,8 +1,8 @@
 -- `graymap::header::with_digit` meets its contract: one digit more, cut.
-use mathlib.Core.Path.{_≡_, sym, ap, _∙_, subst}
-use Prim.Native.Nat.{ℕ, _+_, _-_, _*_, _≤_, _<_}
+use mathlib.Core.Path.{sym, ap, _∙_}
+use Prim.Native.Nat.{ℕ, _+_, _*_}
 use borrow.Author.Needs.{needs}
-use Rattle.graymap.specs.Steps.{cutAt, cut}
+use Rattle.graymap.specs.Steps.{cut}
 use Rattle.graymap.proofs.CutLaws.{cut-below, cut-above}
 use Rattle.graymap.proofs.header.with_digit.Statement.{statement}
 use Rattle.graymap.proofs.header.with_digit.Tie as tie

@@ -1,7 +1,6 @@
 -- `graymap::samples::first_above` meets its contract: no sample of the blocks passed is above the maximum.
 use mathlib.Core.Path.{_≡_, sym}
-use Prim.Native.Nat.{_+_, _-_, _≤_}
-use native.Mathlib.Nat.{le-trans}
+use Prim.Native.Nat.{_-_, _≤_}
 use native.Mathlib.Omega.{arith}
 use lib.ListN.{getD}
 use Rattle.graymap.specs.Call.{firstAbove}

@@ -1,6 +1,6 @@
 -- `graymap::samples::first_from` meets its contract: none of the samples passed is above the maximum.
 use mathlib.Core.Path.{_≡_, sym, ap, _∙_}
-use Prim.Native.Nat.{ℕ, _-_, _≤_}
+use Prim.Native.Nat.{_-_, _≤_}
 use native.Mathlib.Omega.{arith}
 use lib.ListN.{getD}
 use Rattle.shapes.proofs.TurnLaws.{ended}

@@ -1,5 +1,5 @@
 -- `graymap::samples::higher` meets its contract: each return is one arm of the definition.
-use mathlib.Core.Path.{_≡_, sym, ap}
+use mathlib.Core.Path.{sym, ap}
 use mathlib.Core.Bool.{Bool, cond}
 use borrow.Author.Tests.{lt-ltb, le-ltb}
 use Rattle.graymap.proofs.samples.higher.Statement.{statement}
