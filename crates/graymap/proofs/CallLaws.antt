@@ -131,18 +131,19 @@ module _ (count w h m : ℕ) (left : List ℕ) where
     past-short : cond (ltb first (w * h)) (Above first) (cond (ltb (w * h) (length left)) (Refused LeftOver) (Read w h m (count - length left))) ≡ pixelsOf count w h m left
     past-short = ap (λ (b : Bool). judge b (ltb first (w * h)) (ltb (w * h) (length left))) (sym (le-ltb _ _ long))
 
-    pub one-above : (k : ℕ) → k ≡ first → k < w * h → Above k ≡ pixelsOf count w h m left
-    one-above k e g =
-        ap Above e
-        ∙ ap (λ (b : Bool). judge false b (ltb (w * h) (length left))) (sym (ap (λ (j : ℕ). ltb j (w * h)) (sym e) ∙ lt-ltb k (w * h) g))
-        ∙ past-short
+    module _ (k : ℕ) (e : k ≡ first) where
+      pub one-above : ltb k (w * h) ≡ true → Above k ≡ pixelsOf count w h m left
+      one-above g =
+          ap Above e
+          ∙ ap (λ (b : Bool). judge false b (ltb (w * h) (length left))) (sym (ap (λ (j : ℕ). ltb j (w * h)) (sym e) ∙ g))
+          ∙ past-short
 
-    module _ (k : ℕ) (e : k ≡ first) (g : w * h ≤ k) where
-      past-above : cond (ltb (w * h) (length left)) (Refused LeftOver) (Read w h m (count - length left)) ≡ pixelsOf count w h m left
-      past-above = ap (λ (b : Bool). judge false b (ltb (w * h) (length left))) (sym (ap (λ (j : ℕ). ltb j (w * h)) (sym e) ∙ le-ltb k (w * h) g)) ∙ past-short
+      module _ (g : ltb k (w * h) ≡ false) where
+        past-above : cond (ltb (w * h) (length left)) (Refused LeftOver) (Read w h m (count - length left)) ≡ pixelsOf count w h m left
+        past-above = ap (λ (b : Bool). judge false b (ltb (w * h) (length left))) (sym (ap (λ (j : ℕ). ltb j (w * h)) (sym e) ∙ g)) ∙ past-short
 
-      pub left-over : w * h < length left → Refused LeftOver ≡ pixelsOf count w h m left
-      left-over o = ap (λ (b : Bool). judge false false b) (sym (lt-ltb _ _ o)) ∙ past-above
+        pub left-over : ltb (w * h) (length left) ≡ true → Refused LeftOver ≡ pixelsOf count w h m left
+        left-over o = ap (λ (b : Bool). judge false false b) (sym o) ∙ past-above
 
-      pub all-read : (start : ℕ) → start ≡ count - length left → length left ≤ w * h → Read w h m start ≡ pixelsOf count w h m left
-      all-read start p o = ap (Read w h m) p ∙ ap (λ (b : Bool). judge false false b) (sym (le-ltb _ _ o)) ∙ past-above
+        pub all-read : (start : ℕ) → start ≡ count - length left → ltb (w * h) (length left) ≡ false → Read w h m start ≡ pixelsOf count w h m left
+        all-read start p o = ap (Read w h m) p ∙ ap (λ (b : Bool). judge false false b) (sym o) ∙ past-above

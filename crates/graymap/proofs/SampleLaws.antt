@@ -18,16 +18,16 @@ module _ (f : ℕ → ℕ) (m : ℕ) where
   unfolding firstAbove
   above-none = refl
 
-  -- one more sample, where none was above, and where one was
+  -- one more sample, where one was above, and where none was
+  stays : (n : ℕ) → firstAbove f m n < n → firstAbove f m (suc n) ≡ firstAbove f m n
+  unfolding firstAbove
+  stays n h = ap (λ (b : Bool). cond b (firstAbove f m n) (cond (ltb m (f n)) n (suc n))) (lt-ltb (firstAbove f m n) n h)
+
   clear : (n : ℕ) → firstAbove f m n ≡ n → firstAbove f m (suc n) ≡ cond (ltb m (f n)) n (suc n)
   unfolding firstAbove
   clear n e =
       ap (λ (k : ℕ). cond (ltb k n) k (cond (ltb m (f n)) n (suc n))) e
       ∙ ap (λ (b : Bool). cond b n (cond (ltb m (f n)) n (suc n))) (le-ltb n n (le-refl n))
-
-  stays : (n : ℕ) → firstAbove f m n < n → firstAbove f m (suc n) ≡ firstAbove f m n
-  unfolding firstAbove
-  stays n h = ap (λ (b : Bool). cond b (firstAbove f m n) (cond (ltb m (f n)) n (suc n))) (lt-ltb (firstAbove f m n) n h)
 
   passed : (n : ℕ) → firstAbove f m n ≡ n → f n ≤ m → firstAbove f m (suc n) ≡ suc n
   passed n e h = clear n e ∙ ap (λ (b : Bool). cond b n (suc n)) (le-ltb m (f n) h)

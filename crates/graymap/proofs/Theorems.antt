@@ -6,7 +6,7 @@ use Prim.Native.Nat.{ℕ, _+_, _-_, _*_, _≤_, _<_}
 use native.Mathlib.Omega.{arith}
 use lib.Dec.{leb, ltb, eqb}
 use lib.ListN.{length, getD, drop}
-use borrow.Author.Tests.{leb-true, ltb-false}
+use borrow.Author.Tests.{leb-true, ltb-false, le-ltb}
 use Rattle.shapes.proofs.TestLaws.{second-of}
 use Rattle.imageview.specs.Image.{isSize}
 use Rattle.imageview.proofs.ImageLaws.{sized, passed}
@@ -96,6 +96,6 @@ round-trip w h m samples sizes maximum count below =
       n - length samples,
       ap (sizedOf n) e
           ∙ good-size n w h m samples maximum sizes
-          ∙ sym (all-read n w h m samples (omega arith) (w * h) clear (omega arith) (n - length samples) refl (omega arith)),
+          ∙ sym (all-read n w h m samples (omega arith) (w * h) clear (le-ltb (w * h) (w * h) (omega arith)) (n - length samples) refl (le-ltb (w * h) (length samples) (omega arith))),
       ends-at (ends-more 80 (ends-more 53 (ends-more 32 ends))) .1,
     )

@@ -76,10 +76,12 @@ fn sized(file: &[u8], width: usize, height: usize, maximum: usize, start: usize)
     requires { ⌜ start ≤ length (now file) ⌝ }
     ensures { λ r. ⌜ r ≡ sizedOf (length (now (file .entry))) (header width height maximum (drop start (now (file .entry)))) ⌝ }
 {
-    if !is_maximum(maximum) {
+    let ranged = is_maximum(maximum);
+    let fits = imageview::is_size(width, height);
+    if !ranged {
         return Graymap::Refused(Refusal::BadHeader);
     }
-    if !imageview::is_size(width, height) {
+    if !fits {
         return Graymap::Refused(Refusal::BadGraymapSize);
     }
     judged(file, width, height, maximum, start)
@@ -102,10 +104,12 @@ fn judged(file: &[u8], width: usize, height: usize, maximum: usize, start: usize
         return Graymap::Refused(Refusal::TooShort);
     }
     let k = samples::first_above(left, maximum as u8, n);
-    if k < n {
+    let above = k < n;
+    let over = n < left.len();
+    if above {
         return Graymap::Above(k);
     }
-    if n < left.len() {
+    if over {
         return Graymap::Refused(Refusal::LeftOver);
     }
     Graymap::Read {

@@ -13,41 +13,41 @@ use Rattle.graymap.proofs.sized.Tie as tie
 is-maximum-requires : tie.Need-is-maximum-requires
 is-maximum-requires c κs = search needs
 
+is-size-requires : tie.Need-is-size-requires
+is-size-requires c κs = search needs
+
 returns : tie.Need-returns
 returns c =
-    let a = c .before .before .before .args in
-    let t = c .before .is-maximum in
+    let a = c .before .before .before .before .args in
+    let t = c .before .before .is-maximum in
     sym (bad-maximum (length (a .file .now)) (a .width) (a .height) (a .maximum) (drop (a .start) (a .file .now)) (sym (t .ensures) ∙ not-true (t .result) (c .if1 .taken)))
 
 -- the maximum passed
-passes : (c : tie.Else1) → isMaximum (c .before .before .before .args .maximum) ≡ true
-passes c = let t = c .before .is-maximum in sym (t .ensures) ∙ not-false (t .result) (c .if1 .left)
-
-is-size-requires : tie.Need-is-size-requires
-is-size-requires c κs = search needs
+passes : (c : tie.Else1) → isMaximum (c .before .before .before .before .args .maximum) ≡ true
+passes c = let t = c .before .before .is-maximum in sym (t .ensures) ∙ not-false (t .result) (c .if1 .left)
 
 returns-2 : tie.Need-returns-2
 returns-2 c =
     let a = c .before .before .before .before .before .args in
-    let t = c .before .is-size in
-    sym (bad-size (length (a .file .now)) (a .width) (a .height) (a .maximum) (drop (a .start) (a .file .now)) (passes (c .before .before)) (sym (t .ensures) ∙ not-true (t .result) (c .if2 .taken)))
+    let t = c .before .before .is-size in
+    sym (bad-size (length (a .file .now)) (a .width) (a .height) (a .maximum) (drop (a .start) (a .file .now)) (passes (c .before)) (sym (t .ensures) ∙ not-true (t .result) (c .if2 .taken)))
 
 judged-requires : tie.Need-judged-requires
 judged-requires c κs =
     let s = c .before .before .before .before .before in
-    let t = c .before .is-size in
+    let t = c .before .before .is-size in
     let m = s .args .maximum in (
       s .pre,
       sym (t .ensures) ∙ not-false (t .result) (c .if2 .left),
-      leb-true m 255 (second-of (leb 1 m) (leb m 255) (passes (c .before .before))),
+      leb-true m 255 (second-of (leb 1 m) (leb m 255) (passes (c .before))),
     )
 
 returns-3 : tie.Need-returns-3
 returns-3 c =
     let a = c .before .before .before .before .before .before .args in
-    let t = c .before .before .is-size in
+    let t = c .before .before .before .is-size in
     c .judged .ensures
-    ∙ sym (good-size (length (a .file .now)) (a .width) (a .height) (a .maximum) (drop (a .start) (a .file .now)) (passes (c .before .before .before)) (sym (t .ensures) ∙ not-false (t .result) (c .before .if2 .left)))
+    ∙ sym (good-size (length (a .file .now)) (a .width) (a .height) (a .maximum) (drop (a .start) (a .file .now)) (passes (c .before .before)) (sym (t .ensures) ∙ not-false (t .result) (c .before .if2 .left)))
 
 pub sized-spec : {M : Type 1} → statement M
-sized-spec = tie.close (tie.spec is-maximum-requires returns is-size-requires returns-2 judged-requires returns-3)
+sized-spec = tie.close (tie.spec is-maximum-requires is-size-requires returns returns-2 judged-requires returns-3)
