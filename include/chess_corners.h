@@ -1,11 +1,11 @@
-/* Proved chessboard corners: the ChESS response, its peaks, the saddle-point refiner, the merge, and the tie of corners
- * to the squares of a board.
+/* Proved chessboard corners: the ChESS response, its peaks, the saddle-point refiner, the merge, the tie of corners to
+ * the squares of a board, and the reader of graymaps.
  *
  * Link with libchess_corners.a. Every call takes any numbers and any contents of its buffers, ends, and returns
  * a number: 0 done, 1 to 7 a seed's status, from 10 up a refusal. A refusal writes nothing, neither to a buffer
- * nor to a further answer, with one exception: 33 and 34 write the place at fault. A call that is done decides every
- * element of what it may write; which elements stay as they were is said with each call. Nothing is kept after a
- * call, nothing is allocated, nothing is called back; calls on separate buffers may run at the same time.
+ * nor to a further answer, with two exceptions: 33 and 34 write the place at fault, 24 the pixel. A call that is done
+ * decides every element of what it may write; which elements stay as they were is said with each call. Nothing is kept
+ * after a call, nothing is allocated, nothing is called back; calls on separate buffers may run at the same time.
  * docs/RULES.md has the rules by which each answer is decided; docs/USING.md units, settings with their defaults,
  * three rings, and what the archive needs.
  *
@@ -18,7 +18,7 @@
  * 8192. img_len: pitch times height, so that the last row has its padding too. A response has no pitch.
  *
  * Stack, on x86-64, as compiled for release (docs/SPEED.md): response 1.4 KiB, peaks 17 KiB, fit_operator 11 KiB, refine 16.5 KiB,
- * refine_with 3 KiB, refine_list 17 KiB, merge 0.3 KiB, tie 2 KiB. No call recurses. Scratch: only the merge asks for any, heads and links.
+ * refine_with 3 KiB, refine_list 17 KiB, merge 0.3 KiB, tie 2 KiB, graymap 0.1 KiB. No call recurses. Scratch: only the merge asks for any, heads and links.
  *
  * Numbers:
  *    0 Accepted        1 Rejected: the first fit lies outside the box about the seed
@@ -39,11 +39,18 @@
  *   17 GridTooBig: more cells of the merge than heads
  *   18 BadScratch: fewer links than corners
  *   19 BadLength: a list of corners that is not made of whole triples
+ *   20 NoMagic: a file that does not begin with P5 and a whitespace byte
+ *   21 BadHeader: a header number missing, not decimal digits or not followed by whitespace, or a maximum outside 1..255
+ *   22 BadGraymapSize: width or height of a graymap outside 1..4096, however many digits it has
+ *   23 TooShort: fewer bytes behind the header than pixels
+ *   24 AboveMaximum: a sample above the maximum
+ *   25 LeftOver: bytes after the last pixel
  *   30 BadBoard: rows or columns outside 2..32, or places or answers that are not one an inner corner
  *   31 BadPlaces: a limit or a place that is not finite, or a limit below zero
  *   32 BadList: corners to be tied that are not whole triples, or over 4,096 of them
  *   33 NoCorner: no corner within the limit of a place
  *   34 UsedTwice: the nearest corner of a place serves an earlier one
+ *   35 NoSuchCorner: a number that is not in the list; no call gives it yet
  */
 #ifndef CHESS_CORNERS_H
 #define CHESS_CORNERS_H
@@ -74,11 +81,18 @@ enum chess_corners_number {
     CHESS_CORNERS_GRID_TOO_BIG = 17,
     CHESS_CORNERS_BAD_SCRATCH = 18,
     CHESS_CORNERS_BAD_LENGTH = 19,
+    CHESS_CORNERS_NO_MAGIC = 20,
+    CHESS_CORNERS_BAD_HEADER = 21,
+    CHESS_CORNERS_BAD_GRAYMAP_SIZE = 22,
+    CHESS_CORNERS_TOO_SHORT = 23,
+    CHESS_CORNERS_ABOVE_MAXIMUM = 24,
+    CHESS_CORNERS_LEFT_OVER = 25,
     CHESS_CORNERS_BAD_BOARD = 30,
     CHESS_CORNERS_BAD_PLACES = 31,
     CHESS_CORNERS_BAD_LIST = 32,
     CHESS_CORNERS_NO_CORNER = 33,
-    CHESS_CORNERS_USED_TWICE = 34
+    CHESS_CORNERS_USED_TWICE = 34,
+    CHESS_CORNERS_NO_SUCH_CORNER = 35
 };
 
 /* The number for a reader that knows 3 alone for every refused fit: 3 for 5, 6 and 7, every other number itself. */
@@ -155,6 +169,15 @@ uint32_t chess_corners_merge(float *corners, size_t corners_len, float radius,
 uint32_t chess_corners_tie(size_t rows, size_t columns, const float *places, size_t places_len, float limit,
                            const float *corners, size_t corners_len,
                            uint16_t *answers, size_t answers_len, size_t *place);
+
+/* Reads a binary graymap (Netpbm P5): P5 and a whitespace byte (space, TAB, LF, CR), then width, height and maximum in
+ * decimal digits, each with whitespace and comments before it (# hides all up to the next LF or CR) and one whitespace
+ * byte straight after it, then one byte a pixel, each at most the maximum, and no more. 0 writes width, height,
+ * maximum, and start, how far into the file the pixels begin: file + start is an image of width times height bytes with
+ * pitch width. 24 writes pixel alone, the number of the first pixel above the maximum, by row from 0.
+ * Returns 0, 20, 21, 22, 23, 24, 25. */
+uint32_t chess_corners_graymap(const uint8_t *file, size_t file_len, size_t *width, size_t *height, size_t *maximum,
+                               size_t *start, size_t *pixel);
 
 #ifdef __cplusplus
 }

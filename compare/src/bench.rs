@@ -3,6 +3,7 @@
 //! wall would count the work of others, the more the longer a call takes.
 
 mod board;
+mod graymap;
 mod peaks;
 mod pitch;
 mod refine;
@@ -261,12 +262,13 @@ fn merges() -> bool {
 /// A table by its name.
 type Table = (&'static str, fn() -> bool);
 
-const TABLES: [Table; 5] = [
+const TABLES: [Table; 6] = [
     ("response", responses),
     ("peaks", peaks::table),
     ("merge", merges),
     ("refine", refine::tables),
     ("board", board::table),
+    ("graymap", graymap::table),
 ];
 
 /// Prints the tables, or one of them by its name. `false` where the two sides

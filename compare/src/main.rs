@@ -4,6 +4,7 @@
 
 mod bench;
 mod board;
+mod graymap;
 mod list;
 mod merge;
 mod number;
@@ -45,7 +46,8 @@ fn faults_noticed() -> Result<(), String> {
     refine::faults_noticed()?;
     list::faults_noticed()?;
     number::faults_noticed()?;
-    board::faults_noticed()
+    board::faults_noticed()?;
+    graymap::faults_noticed()
 }
 
 /// What was seen of each call.
@@ -59,6 +61,7 @@ struct Tallies {
     lists: Tally,
     numbers: Tally,
     boards: Tally,
+    graymaps: Tally,
 }
 
 impl Tallies {
@@ -74,6 +77,8 @@ impl Tallies {
             && list::pitches(&mut self.lists, random)
             && board::longest(&mut self.boards, random)
             && board::short(&mut self.boards)
+            && graymap::longest(&mut self.graymaps)
+            && graymap::short(&mut self.graymaps)
             && merge::short(&mut self.merges)
             && peaks::longest(&mut self.peaks, random)
             && peaks::short(&mut self.peaks)
@@ -87,6 +92,7 @@ impl Tallies {
         self.merges.tried(&merge::any(random))
             && self.boards.tried(&board::any(random))
             && self.numbers.tried(&number::any(random))
+            && self.graymaps.tried(&graymap::any(random))
             && self
                 .responses
                 .tried(&response::any(random, &mut kept.rings))
@@ -104,7 +110,9 @@ impl Tallies {
         let lists = self.lists.told::<list::List>(to_the_end);
         let numbers = self.numbers.told::<number::Number>(to_the_end);
         let boards = self.boards.told::<board::Board>(to_the_end);
-        merges && responses && peaks && operators && seeds && lists && numbers && boards
+        let graymaps = self.graymaps.told::<graymap::Graymap>(to_the_end);
+        let images = responses && operators && seeds && lists;
+        images && merges && peaks && numbers && boards && graymaps
     }
 }
 

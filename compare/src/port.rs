@@ -240,3 +240,41 @@ pub fn tie(board: Board<'_>, corners: &[f32], answers: &mut [u16], place: &mut u
         )
     }
 }
+
+/// What the reader of graymaps writes to.
+#[derive(Clone, Copy, Debug, PartialEq, Eq)]
+pub struct Given {
+    pub width: usize,
+    pub height: usize,
+    pub maximum: usize,
+    pub start: usize,
+    pub pixel: usize,
+}
+
+impl Given {
+    pub fn painted(paint: usize) -> Self {
+        Given {
+            width: paint,
+            height: paint,
+            maximum: paint,
+            start: paint,
+            pixel: paint,
+        }
+    }
+}
+
+/// The rules' number; 24 writes the pixel alone, 0 all else.
+pub fn graymap(file: &[u8], given: &mut Given) -> u32 {
+    // SAFETY: as above.
+    unsafe {
+        raw::chess_corners_graymap(
+            file.as_ptr(),
+            file.len(),
+            &mut given.width,
+            &mut given.height,
+            &mut given.maximum,
+            &mut given.start,
+            &mut given.pixel,
+        )
+    }
+}

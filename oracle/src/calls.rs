@@ -487,3 +487,13 @@ pub fn tie(
     };
     (decision(refused, Decided::NotRun), place, tied)
 }
+
+/// W-202: the graymap, none if refused, and the pixel of 24. The Rust has no
+/// such call.
+pub fn graymap(file: &[u8]) -> (Decision, Option<Graymap>, Option<usize>) {
+    let (refused, read, pixel) = match rules::graymap(file) {
+        Ok(read) => (None, Some(read), None),
+        Err((number, pixel)) => (Some(number), None, pixel),
+    };
+    (decision(refused, Decided::NotRun), read, pixel)
+}

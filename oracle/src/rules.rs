@@ -1,5 +1,6 @@
 //! Document 01 in plain Rust: the refusals in their order, and the rules of
-//! response, peaks, merge and board where the Rust has another rule or none.
+//! response, peaks, merge, board and graymap where the Rust has another rule or
+//! none.
 //! Written from the document, slow and readable, and used by no code of the port.
 
 use crate::types::*;
@@ -19,6 +20,12 @@ pub const TOO_MANY: u32 = 16;
 pub const GRID_TOO_BIG: u32 = 17;
 pub const BAD_SCRATCH: u32 = 18;
 pub const BAD_LENGTH: u32 = 19;
+pub const NO_MAGIC: u32 = 20;
+pub const BAD_HEADER: u32 = 21;
+pub const BAD_GRAYMAP_SIZE: u32 = 22;
+pub const TOO_SHORT: u32 = 23;
+pub const ABOVE_MAXIMUM: u32 = 24;
+pub const LEFT_OVER: u32 = 25;
 pub const BAD_BOARD: u32 = 30;
 pub const BAD_PLACE: u32 = 31;
 pub const BAD_LIST: u32 = 32;
@@ -598,4 +605,86 @@ pub fn tied(b: &Board<'_>, list: &[Triple]) -> Result<Vec<u16>, (u32, usize)> {
         }
     }
     Ok(answers)
+}
+
+// --- graymap (W-202) --------------------------------------------------------
+
+fn is_white(byte: u8) -> bool {
+    matches!(byte, b' ' | b'\t' | b'\n' | b'\r')
+}
+
+/// What is left behind whitespace and comments.
+fn behind_gap(mut left: &[u8]) -> &[u8] {
+    loop {
+        left = match left {
+            [b'#', ..] => {
+                let ends = left.iter().position(|b| matches!(b, b'\n' | b'\r'));
+                &left[ends.unwrap_or(left.len())..]
+            }
+            [byte, behind @ ..] if is_white(*byte) => behind,
+            _ => return left,
+        }
+    }
+}
+
+/// A number of the header, and what is left behind the one whitespace byte
+/// after it. A number that leaves 64 bits is the greatest of them.
+fn header_number(left: &[u8]) -> Option<(u64, &[u8])> {
+    let left = behind_gap(left);
+    let count = left.iter().take_while(|b| b.is_ascii_digit()).count();
+    let (digits, behind) = left.split_at(count);
+    let with = |v: u64, digit: &u8| v.saturating_mul(10).saturating_add(u64::from(digit - b'0'));
+    match behind {
+        [byte, behind @ ..] if count > 0 && is_white(*byte) => {
+            Some((digits.iter().fold(0, with), behind))
+        }
+        _ => None,
+    }
+}
+
+/// What is left behind the magic and the whitespace byte after it.
+pub fn behind_magic(file: &[u8]) -> Option<&[u8]> {
+    match file {
+        [b'P', b'5', byte, left @ ..] if is_white(*byte) => Some(left),
+        _ => None,
+    }
+}
+
+/// Width, height and maximum as they stand, and what is left.
+pub fn header(left: &[u8]) -> Option<([u64; 3], &[u8])> {
+    let (width, left) = header_number(left)?;
+    let (height, left) = header_number(left)?;
+    let (maximum, left) = header_number(left)?;
+    Some(([width, height, maximum], left))
+}
+
+/// 20 to 25 in this order; 24 with the number of the first pixel above the
+/// maximum.
+pub fn graymap(file: &[u8]) -> Result<Graymap, (u32, Option<usize>)> {
+    let Some(left) = behind_magic(file) else {
+        return Err((NO_MAGIC, None));
+    };
+    let (width, height, maximum, left) = match header(left) {
+        Some(([w, h, m], left)) if (1..=255).contains(&m) => (w, h, m as u8, left),
+        _ => return Err((BAD_HEADER, None)),
+    };
+    if bad_sides(width, height) {
+        return Err((BAD_GRAYMAP_SIZE, None));
+    }
+    let count = (width * height) as usize;
+    if left.len() < count {
+        return Err((TOO_SHORT, None));
+    }
+    if let Some(pixel) = left[..count].iter().position(|s| *s > maximum) {
+        return Err((ABOVE_MAXIMUM, Some(pixel)));
+    }
+    if left.len() > count {
+        return Err((LEFT_OVER, None));
+    }
+    Ok(Graymap {
+        width: width as usize,
+        height: height as usize,
+        maximum,
+        start: file.len() - count,
+    })
 }

@@ -166,3 +166,12 @@ pub struct Board<'a> {
     pub places: &'a [f32],
     pub limit: f32,
 }
+
+/// W-202: a graymap that was read. Its pixels are the file from `start` on.
+#[derive(Clone, Copy, Debug, PartialEq, Eq)]
+pub struct Graymap {
+    pub width: usize,
+    pub height: usize,
+    pub maximum: u8,
+    pub start: usize,
+}

@@ -1,6 +1,6 @@
 //! Proved chessboard corners: the ChESS response, its peaks, the saddle-point
-//! refiner, the merge, and the tie of corners to the squares of a board, behind
-//! slices and `Result`.
+//! refiner, the merge, the tie of corners to the squares of a board, and the
+//! reader of graymaps, behind slices and `Result`.
 //!
 //! Every call takes any numbers and any contents of its slices, and ends. A
 //! refusal has its name and number from docs/RULES.md and writes nothing. Which
@@ -124,6 +124,15 @@ pub mod raw {
             answers_len: usize,
             place: *mut usize,
         ) -> u32;
+        pub fn chess_corners_graymap(
+            file: *const u8,
+            file_len: usize,
+            width: *mut usize,
+            height: *mut usize,
+            maximum: *mut usize,
+            start: *mut usize,
+            pixel: *mut usize,
+        ) -> u32;
     }
 }
 
@@ -142,18 +151,25 @@ pub enum Refusal {
     GridTooBig,
     BadScratch,
     BadLength,
+    NoMagic,
+    BadHeader,
+    BadGraymapSize,
+    TooShort,
+    AboveMaximum,
+    LeftOver,
     BadBoard,
     BadPlaces,
     BadList,
     NoCorner,
     UsedTwice,
+    NoSuchCorner,
     /// A number that this crate has no name for, as an archive that is newer
     /// than it may give. Nothing was written.
     Other(u32),
 }
 
 /// Every case that has a name.
-const NAMED: [Refusal; 16] = [
+const NAMED: [Refusal; 23] = [
     Refusal::IllConditioned,
     Refusal::BadImage,
     Refusal::BadRadius,
@@ -165,11 +181,18 @@ const NAMED: [Refusal; 16] = [
     Refusal::GridTooBig,
     Refusal::BadScratch,
     Refusal::BadLength,
+    Refusal::NoMagic,
+    Refusal::BadHeader,
+    Refusal::BadGraymapSize,
+    Refusal::TooShort,
+    Refusal::AboveMaximum,
+    Refusal::LeftOver,
     Refusal::BadBoard,
     Refusal::BadPlaces,
     Refusal::BadList,
     Refusal::NoCorner,
     Refusal::UsedTwice,
+    Refusal::NoSuchCorner,
 ];
 
 impl Refusal {
@@ -187,11 +210,18 @@ impl Refusal {
             Refusal::GridTooBig => 17,
             Refusal::BadScratch => 18,
             Refusal::BadLength => 19,
+            Refusal::NoMagic => 20,
+            Refusal::BadHeader => 21,
+            Refusal::BadGraymapSize => 22,
+            Refusal::TooShort => 23,
+            Refusal::AboveMaximum => 24,
+            Refusal::LeftOver => 25,
             Refusal::BadBoard => 30,
             Refusal::BadPlaces => 31,
             Refusal::BadList => 32,
             Refusal::NoCorner => 33,
             Refusal::UsedTwice => 34,
+            Refusal::NoSuchCorner => 35,
             Refusal::Other(number) => number,
         }
     }
@@ -366,6 +396,43 @@ impl fmt::Display for Untied {
 }
 
 impl std::error::Error for Untied {}
+
+/// A graymap that was read.
+#[derive(Clone, Copy, Debug, PartialEq, Eq)]
+pub struct Graymap<'a> {
+    pub width: usize,
+    pub height: usize,
+    /// 1 to 255; no sample is above it.
+    pub maximum: u8,
+    /// width times height bytes, row after row: the end of the file itself.
+    pub pixels: &'a [u8],
+}
+
+impl<'a> Graymap<'a> {
+    pub fn image(&self) -> Image<'a> {
+        Image::new(self.pixels, self.width, self.height)
+    }
+}
+
+/// Why a graymap was not read.
+#[derive(Clone, Copy, Debug, PartialEq, Eq)]
+pub struct Unread {
+    pub refusal: Refusal,
+    /// The number of the first pixel above the maximum, by row from 0: there
+    /// with `AboveMaximum` alone.
+    pub pixel: Option<usize>,
+}
+
+impl fmt::Display for Unread {
+    fn fmt(&self, f: &mut fmt::Formatter<'_>) -> fmt::Result {
+        match self.pixel {
+            Some(pixel) => write!(f, "{} at pixel {pixel}", self.refusal),
+            None => self.refusal.fmt(f),
+        }
+    }
+}
+
+impl std::error::Error for Unread {}
 
 /// The operator of a radius, for many seeds.
 #[derive(Clone, Debug)]
@@ -649,6 +716,41 @@ pub fn tie_corners(
     tied(number, place)
 }
 
+/// Why a number that is not 0 refused a graymap; only 24 has written the pixel.
+fn unread(number: u32, pixel: usize) -> Unread {
+    let refusal = Refusal::of(number);
+    Unread {
+        refusal,
+        pixel: (refusal == Refusal::AboveMaximum).then_some(pixel),
+    }
+}
+
+/// Reads a binary graymap (Netpbm P5). The pixels are the file's own.
+pub fn graymap(file: &[u8]) -> Result<Graymap<'_>, Unread> {
+    let (mut width, mut height, mut maximum, mut start, mut pixel) = (0, 0, 0, 0, 0);
+    // SAFETY: as above.
+    let number = unsafe {
+        raw::chess_corners_graymap(
+            file.as_ptr(),
+            file.len(),
+            &mut width,
+            &mut height,
+            &mut maximum,
+            &mut start,
+            &mut pixel,
+        )
+    };
+    if number != 0 {
+        return Err(unread(number, pixel));
+    }
+    Ok(Graymap {
+        width,
+        height,
+        maximum: maximum as u8,
+        pixels: &file[start..],
+    })
+}
+
 #[cfg(test)]
 mod tests {
     use super::*;
@@ -663,13 +765,16 @@ mod tests {
             .collect();
         assert_eq!(
             numbers,
-            [3, 10, 11, 12, 13, 14, 15, 16, 17, 18, 19, 30, 31, 32, 33, 34]
+            [
+                3, 10, 11, 12, 13, 14, 15, 16, 17, 18, 19, 20, 21, 22, 23, 24, 25, 30, 31, 32, 33,
+                34, 35
+            ]
         );
     }
 
     #[test]
     fn a_number_without_a_name_is_told() {
-        for number in [1, 2, 4, 9, 20, 35, u32::MAX] {
+        for number in [1, 2, 4, 9, 26, 36, u32::MAX] {
             assert_eq!(Refusal::of(number), Refusal::Other(number));
             assert_eq!(Refusal::of(number).number(), number);
             assert_eq!(done(number, ()), Err(Refusal::Other(number)));
@@ -901,5 +1006,42 @@ mod tests {
         assert_eq!(tie(1, -1.0, &left[1..]), untied(Refusal::BadBoard, None));
         assert_eq!(tie(2, -1.0, &left[1..]), untied(Refusal::BadPlaces, None));
         assert_eq!(tie(2, 4.0, &left[1..]), untied(Refusal::BadList, None));
+    }
+
+    #[test]
+    fn a_pixel_comes_with_24_alone() {
+        for refusal in NAMED {
+            let pixel = (refusal.number() == 24).then_some(5);
+            assert_eq!(unread(refusal.number(), 5), Unread { refusal, pixel });
+        }
+        assert_eq!(unread(24, 5).to_string(), "AboveMaximum (24) at pixel 5");
+        assert_eq!(unread(77, 5).to_string(), "Other (77)");
+    }
+
+    /// Through the library: the pixels are the file's own bytes, and each number.
+    #[test]
+    fn the_library_reads_a_graymap_or_says_why_not() {
+        let file = b"P5 # of a bench camera\r\n2 3\n#\n200\n#\n\x00\xc8\x01\x02";
+        let read = graymap(file).unwrap();
+        assert_eq!((read.width, read.height, read.maximum), (2, 3, 200));
+        assert_eq!(read.pixels.as_ptr_range().end, file.as_ptr_range().end);
+        assert_eq!(read.pixels, b"#\n\x00\xc8\x01\x02");
+        assert_eq!(read.image().pitch, 2);
+        for (number, file) in [
+            (20, &b"P5#\n1 1 9\n\0"[..]),
+            (20, b"P5"),
+            (21, b"P5 1 1 9#\n\0"),
+            (21, b"P5 0 1 256\n\0"),
+            (22, b"P5 1 18446744073709551617 9\n\0"),
+            (23, b"P5 1 2 9\n\xff"),
+            (25, b"P5 1 1 9\n\x09\n"),
+        ] {
+            let refusal = Refusal::of(number);
+            let pixel = None;
+            assert_eq!(graymap(file), Err(Unread { refusal, pixel }));
+        }
+        let above = graymap(b"P5 2 2 9\n\x09\x00\x0a\xff\n").unwrap_err();
+        assert_eq!(above, unread(24, 2));
+        assert!(graymap(b"").is_err());
     }
 }

@@ -18,7 +18,9 @@ use Rattle.peaks.specs.Peak.{Scan}
 use Rattle.peaks.specs.Call as P
 use Rattle.board.specs.declared.Tie.{Tie}
 use Rattle.board.specs.Call as B
-use Rattle.chess_corners.specs.Face.{Responded, Merging, Refining, Scanning, Tying, widthAfter, heightAfter, countAfter, recordsAfter, peaksAfter, placeAfter}
+use Rattle.graymap.specs.declared.Graymap.{Graymap}
+use Rattle.graymap.specs.Call as G
+use Rattle.chess_corners.specs.Face.{Responded, Merging, Refining, Scanning, Tying, Reading, Facts, widthAfter, heightAfter, countAfter, recordsAfter, peaksAfter, placeAfter, factsAfter}
 
 pub responded : {img : Image} {ring : List ℤ} {radius : ℕ} {r : Region} {out : List Float} {answer : Response} {out' : List Float} (w h : ℕ) (known : Response) (n : ℕ)
     → n ≡ R.numberOf known → answer ≡ known → R.Done img ring radius r out answer out' → Responded img ring radius r out w h n out' (widthAfter w known) (heightAfter h known)
@@ -60,4 +62,10 @@ tying place known n q e d = record {
   says = q ∙ ap B.numberOf (sym e ∙ d .says);
   leaves = d .leaves;
   names = ap (placeAfter place) (sym e ∙ d .says);
+}
+
+pub reading : {file : List ℕ} {answer : Graymap} (old : Facts) (known : Graymap) (n : ℕ) → n ≡ G.numberOf known → answer ≡ known → answer ≡ G.readOf file → Reading file old n (factsAfter old known)
+reading old known n q e d = record {
+  says = q ∙ ap G.numberOf (sym e ∙ d);
+  facts = ap (factsAfter old) (sym e ∙ d);
 }

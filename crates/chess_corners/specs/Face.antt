@@ -1,5 +1,5 @@
 -- The exported face: each function returns the number of the wrapped call's answer, 0 where it is done, and writes its further answers
--- through references only then; tying writes the place at fault with 33 and 34. The lent buffers are as the wrapped call leaves them.
+-- through references only then; tying writes the place at fault with 33 and 34, reading a graymap the pixel with 24. The lent buffers are as the wrapped call leaves them.
 use mathlib.Core.Path.{_≡_}
 use mathlib.Core.List.{List}
 use Prim.Native.Nat.{ℕ}
@@ -30,6 +30,10 @@ use Rattle.board.specs.declared.Tie.{Tie}
 use Rattle.board.specs.declared.Tie.the-variants as Tie
 use Rattle.board.specs.declared.Tie.the-variants.{Tied, NoCorner, UsedTwice}
 use Rattle.board.specs.Call as B
+use Rattle.graymap.specs.declared.Graymap.{Graymap}
+use Rattle.graymap.specs.declared.Graymap.the-variants as Graymap
+use Rattle.graymap.specs.declared.Graymap.the-variants.{Read, Above}
+use Rattle.graymap.specs.Call as G
 
 -- ---- the response: the clamped width and height
 abbrev pub widthAfter : ℕ → Response → ℕ
@@ -89,3 +93,20 @@ pub record Tying (rows columns : ℕ) (places : List Float) (limit : Float) (lis
   pub says : number ≡ B.numberOf (B.answerOf (B.wayOf rows columns places limit list (length answers)))
   pub leaves : answers' ≡ B.answersAfter answers (B.wayOf rows columns places limit list (length answers))
   pub names : place' ≡ placeAfter place (B.answerOf (B.wayOf rows columns places limit list (length answers)))
+
+-- ---- reading a graymap: its sizes, its maximum and where its pixels begin; the pixel above the maximum
+pub record Facts : Type 0 where
+  pub width : ℕ
+  pub height : ℕ
+  pub maximum : ℕ
+  pub start : ℕ
+  pub pixel : ℕ
+
+abbrev pub factsAfter : Facts → Graymap → Facts
+factsAfter old (Read w h m start) = record { width = w; height = h; maximum = m; start = start; pixel = old .pixel }
+factsAfter old (Above k) = record { width = old .width; height = old .height; maximum = old .maximum; start = old .start; pixel = k }
+factsAfter old (Graymap.Refused r) = old
+
+pub record Reading (file : List ℕ) (old : Facts) (number : ℕ) (new : Facts) : Type 0 where
+  pub says : number ≡ G.numberOf (G.readOf file)
+  pub facts : new ≡ factsAfter old (G.readOf file)

@@ -1,8 +1,10 @@
 // The public face for C and Rust: one exported function a call, over numbers, references and slices. Each returns the number of docs/RULES.md, 0 where it is
-// done. Further answers are written where the number is 0; one seed's place and score with 1 to 7 too, and the place at fault with 33 and 34.
+// done. Further answers are written where the number is 0; one seed's place and score with 1 to 7 too, the place at fault with 33 and 34, and the pixel above
+// its maximum with 24.
 mod seed;
 
 use board::Tie;
+use graymap::Graymap;
 use imageview::Sizes;
 use merge::Merge;
 use peaks::Peaks;
@@ -16,7 +18,7 @@ pub use seed::chess_corners_refine;
 pub use seed::chess_corners_refine_with;
 ghost use Rattle.imageview.specs.Image.{imageOf, sizesOf};
 ghost use Rattle.response.specs.Call.{regionOf};
-ghost use Rattle.chess_corners.specs.Face.{Responded, Merging, Refining, Scanning, Tying};
+ghost use Rattle.chess_corners.specs.Face.{Responded, Merging, Refining, Scanning, Tying, Reading};
 ghost use Rattle.chess_corners.specs.Seed.{settings};
 
 // The ChESS response of the region (x0, y0) to (x1, y1), clamped to the image; 0, 10, 11, 13, 14 or 15.
@@ -185,5 +187,39 @@ pub extern "C" fn chess_corners_tie(
             34
         }
         Tie::Refused(refusal) => refusals::number(refusal),
+    }
+}
+
+// The sizes of a graymap, its maximum and where its pixels begin in the file; 0, 20, 21, 22, 23, 24 or 25.
+#[no_mangle]
+pub extern "C" fn chess_corners_graymap(
+    file: &[u8],
+    width: &mut usize,
+    height: &mut usize,
+    maximum: &mut usize,
+    start: &mut usize,
+    pixel: &mut usize,
+) -> u32
+    ensures { λ r. ⌜ Reading (now (file .entry)) (record { width = now (width .entry); height = now (height .entry); maximum = now (maximum .entry); start = now (start .entry); pixel = now (pixel .entry) }) r (record { width = now (width .exit); height = now (height .exit); maximum = now (maximum .exit); start = now (start .exit); pixel = now (pixel .exit) }) ⌝ }
+{
+    let answer = graymap::read_graymap(file);
+    match answer {
+        Graymap::Read {
+            width: w,
+            height: h,
+            maximum: m,
+            start: at,
+        } => {
+            *width = w;
+            *height = h;
+            *maximum = m;
+            *start = at;
+            0
+        }
+        Graymap::Above(at) => {
+            *pixel = at;
+            24
+        }
+        Graymap::Refused(refusal) => refusals::number(refusal),
     }
 }

@@ -10,6 +10,7 @@ pub mod board;
 pub mod fallback;
 pub mod floats;
 pub mod gradient;
+pub mod graymap;
 pub mod merge;
 pub mod merge_print;
 pub mod operator;
@@ -40,6 +41,7 @@ pub const ALL: &[Writer] = &[
     ("operator", operator::list),
     ("gradient", gradient::list),
     ("board", board::list),
+    ("graymap", graymap::list),
     ("fit", pieces::fit),
     ("window", pieces::window),
     ("blend", pieces::blend),
@@ -62,6 +64,7 @@ const REACHED: &[(&str, &[u32])] = &[
     ("peaks", &[0, 10, 11, 12, 16, 19]),
     ("gradient", &[0, 10, 13, 15]),
     ("board", &[0, 30, 31, 32, 33, 34]),
+    ("graymap", &[0, 20, 21, 22, 23, 24, 25]),
 ];
 
 /// The lists that have an image in each case.
@@ -106,6 +109,7 @@ pub fn missing(list: &List) -> Vec<String> {
         "solve" => wanted
             .extend(["fitted", "5 AboveMargin", "6 TooSmall", "7 NotFinite"].map(String::from)),
         "board" => wanted.extend(board::MET.map(String::from)),
+        "graymap" => wanted.extend(graymap::MET.map(String::from)),
         _ => {}
     }
     wanted.retain(|what| list.counted(what) == 0);
@@ -196,6 +200,12 @@ fn number_name(number: u32) -> &'static str {
         17 => "17 GridTooBig",
         18 => "18 BadScratch",
         19 => "19 BadLength",
+        20 => "20 NoMagic",
+        21 => "21 BadHeader",
+        22 => "22 BadGraymapSize",
+        23 => "23 TooShort",
+        24 => "24 AboveMaximum",
+        25 => "25 LeftOver",
         30 => "30 BadBoard",
         31 => "31 BadPlaces",
         32 => "32 BadList",
