@@ -20,7 +20,8 @@ use Rattle.merge.specs.declared.Cells.{Cells}
 use Rattle.merge.specs.declared.Disc.{Disc}
 use Rattle.merge.specs.Meets.{near, touch}
 use Rattle.merge.specs.Steps.{within, lowestBelow, top, Chains, Falling, inCell, Walked, Member, Unlinked, Joinable, Linked, columnIn, rowIn, cellIn, total, cellsOf, meetsIn, Roomy, Chained, columnAt, rowAt, inOneCell, inThreeCells, inNineCells}
-use Rattle.merge.proofs.LowestLaws.{either-true, or-left, or-right, same-bool, lowest-three, lowest-same, lowest-none}
+use Rattle.shapes.proofs.TestLaws.{either}
+use Rattle.merge.proofs.LowestLaws.{or-left, or-right, same-bool, lowest-three, lowest-same, lowest-none}
 use Rattle.merge.proofs.ChainLaws.{top-le, top-none, top-hit, top-above, chain-falling, chains-more}
 
 -- ---- tests
@@ -61,10 +62,10 @@ touch-three a b = same-bool (oneOfThree a b) (touch a b) there back
         ⊎-elim
         (λ u. let e = eqb-true (b + 1) a u in near-by (omega arith) (omega arith))
         (λ u. let e = eqb-true (b + 1) (a + 1) u in near-by (omega arith) (omega arith))
-        (either-true (eqb (b + 1) a) (eqb (b + 1) (a + 1)) t)
+        (either (eqb (b + 1) a) (eqb (b + 1) (a + 1)) t)
 
     there : oneOfThree a b ≡ true → touch a b ≡ true
-    there t = ⊎-elim low (λ u. let e = eqb-true (b + 1) (a + 2) u in near-by (omega arith) (omega arith)) (either-true (eqb (b + 1) a || eqb (b + 1) (a + 1)) (eqb (b + 1) (a + 2)) t)
+    there t = ⊎-elim low (λ u. let e = eqb-true (b + 1) (a + 2) u in near-by (omega arith) (omega arith)) (either (eqb (b + 1) a || eqb (b + 1) (a + 1)) (eqb (b + 1) (a + 2)) t)
 
     first : (eqb (b + 1) a || eqb (b + 1) (a + 1)) ≡ true → oneOfThree a b ≡ true
     first = or-left (eqb (b + 1) a || eqb (b + 1) (a + 1)) (eqb (b + 1) (a + 2))

@@ -8,11 +8,8 @@ use native.Mathlib.Decide.{decLe}
 use native.Mathlib.Omega.{arith}
 use lib.Dec.{ltb}
 use borrow.Author.Tests.{ltb-true, ltb-false}
+use Rattle.shapes.proofs.TestLaws.{either}
 use Rattle.merge.specs.Steps.{lowestBelow}
-
-pub either-true : (a b : Bool) → (a || b) ≡ true → (a ≡ true) ⊎ (b ≡ true)
-either-true true b h = inl refl
-either-true false b h = inr h
 
 pub or-left : (a b : Bool) → a ≡ true → (a || b) ≡ true
 or-left a b h = ap (λ (t : Bool). t || b) h
@@ -80,7 +77,7 @@ lowest-two one two test n best same =
     is-lowest test n best (lowestBelow two n (lowestBelow one n best))
     (record {
       lower = omega arith;
-      below = λ j h t. ⊎-elim (λ u. let z = a .below j h u in omega arith) (λ u. b .below j h u) (either-true (one j) (two j) (same j h ∙ t));
+      below = λ j h t. ⊎-elim (λ u. let z = a .below j h u in omega arith) (λ u. b .below j h u) (either (one j) (two j) (same j h ∙ t));
       found = ⊎-elim (λ q. ⊎-elim (λ p. inl (q ∙ p)) (λ w. hit (lowestBelow one n best) q (w .0) (or-left (one (lowestBelow one n best)) (two (lowestBelow one n best)) (w .1))) (a .found)) (λ w. hit (lowestBelow two n (lowestBelow one n best)) refl (w .0) (or-right (one (lowestBelow two n (lowestBelow one n best))) (two (lowestBelow two n (lowestBelow one n best))) (w .1))) (b .found);
     })
   where

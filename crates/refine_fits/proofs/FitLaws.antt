@@ -121,10 +121,6 @@ row-within img radius x y row w h =
 pub centre-within : (img : Image) (radius x y : ℕ) → PatchWithin img radius x y → y * img .pitch + x < length (img .samples)
 centre-within img radius x y w = omega (arith, index img (w .sound .image) x y 1 (omega (arith, w .right)) (omega (arith, w .below)))
 
--- a row of the patch is whole, and its samples are numbered below 225
+-- a row of the patch is whole
 pub part-length : (img : Image) (from count : ℕ) (part : List ℕ) → from + count ≤ length (img .samples) → part ≡ take count (drop from (img .samples)) → length part ≡ count
 part-length img from count part h e = ap length e ∙ length-take-le count (drop from (img .samples)) (subst (λ (n : ℕ). count ≤ n) (sym (length-drop from (img .samples))) (omega arith))
-
-pub numbered : (radius row : ℕ) → radius ≤ 7 → row < side radius → row * side radius + side radius ≤ 225
-numbered radius row h g =
-    subst (λ (n : ℕ). n ≤ 225) (suc-mul row (side radius)) (le-trans (mul-le-mul-right (side radius) g) (mul-le-mul {n₁ = side radius} {m₁ = side radius} {n₂ = 15} {m₂ = 15} (omega arith) (omega arith)))

@@ -3,6 +3,7 @@
 use super::Bases;
 use super::IntegerFits;
 use super::Ready;
+use super::Window;
 use crate::fits;
 use imageview::Sizes;
 use refine_formulas::Corners;
@@ -30,30 +31,29 @@ pub fn no_bases() -> Bases
 }
 
 impl Bases {
-    // Sees to it that the four fits about the base (x, y) stand in `flat`, where all four patches lie in the image.
+    // Sees to it that the four fits about a window's base stand in `flat`, where all four patches lie in the image.
     pub fn ready(
         self,
         img: &[u8],
         sizes: Sizes,
-        x: usize,
-        y: usize,
+        w: Window,
         radius: usize,
         columns: &[f32; 1125],
         flat: &mut [f32; 40],
     ) -> Ready
-        requires { ⌜ Sound (imageOf (now img) sizes) radius ⌝ ∗ ⌜ Held (imageOf (now img) sizes) (now columns) radius self (now flat) ⌝ ∗ ⌜ (x ≤ 8192) × (y ≤ 8192) ⌝ }
-        ensures { λ r. ⌜ Prepares (imageOf (now (img .entry)) sizes) (now (columns .entry)) radius x y r (now (flat .exit)) ⌝ }
+        requires { ⌜ Sound (imageOf (now img) sizes) radius ⌝ ∗ ⌜ Held (imageOf (now img) sizes) (now columns) radius self (now flat) ⌝ ∗ ⌜ (w .«base_x» ≤ 8192) × (w .«base_y» ≤ 8192) ⌝ }
+        ensures { λ r. ⌜ Prepares (imageOf (now (img .entry)) sizes) (now (columns .entry)) radius (w .«base_x») (w .«base_y») r (now (flat .exit)) ⌝ }
     {
-        if !has_room(sizes, x, y, radius) {
+        if !has_room(sizes, w.base_x, w.base_y, radius) {
             return self.at(false, 0);
         }
-        if (self.x0 == x) & (self.y0 == y) {
+        if (self.x0 == w.base_x) & (self.y0 == w.base_y) {
             return self.at(true, 0);
         }
-        if (self.x1 == x) & (self.y1 == y) {
+        if (self.x1 == w.base_x) & (self.y1 == w.base_y) {
             return self.at(true, 20);
         }
-        self.add(img, sizes, x, y, radius, columns, flat)
+        self.add(img, sizes, w.base_x, w.base_y, radius, columns, flat)
     }
 
     // A base that is neither: the fits of the first two are worked out at once.
@@ -124,21 +124,20 @@ impl Bases {
 }
 
 impl IntegerFits {
-    // Lays the four fits about a further base (x, y) last, each kept or worked out.
+    // Lays the four fits about the base of a window, a further one, last, each kept or worked out.
     pub fn lay(
         self,
         img: &[u8],
         sizes: Sizes,
-        x: usize,
-        y: usize,
+        w: Window,
         radius: usize,
         columns: &[f32; 1125],
         flat: &mut [f32; 40],
     ) -> IntegerFits
-        requires { ⌜ FourWithin (imageOf (now img) sizes) radius x y ⌝ ∗ ⌜ Kept (imageOf (now img) sizes) (now columns) radius self ⌝ ∗ ⌜ length (now flat) ≡ 40 ⌝ }
-        ensures { λ r. ⌜ Relays (imageOf (now (img .entry)) sizes) (now (columns .entry)) radius x y (now (flat .entry)) (now (flat .exit)) r ⌝ }
+        requires { ⌜ FourWithin (imageOf (now img) sizes) radius (w .«base_x») (w .«base_y») ⌝ ∗ ⌜ Kept (imageOf (now img) sizes) (now columns) radius self ⌝ ∗ ⌜ length (now flat) ≡ 40 ⌝ }
+        ensures { λ r. ⌜ Relays (imageOf (now (img .entry)) sizes) (now (columns .entry)) radius (w .«base_x») (w .«base_y») (now (flat .entry)) (now (flat .exit)) r ⌝ }
     {
-        let next = self.look(img, sizes, x, y, radius, columns);
+        let next = self.look(img, sizes, w.base_x, w.base_y, radius, columns);
         let corners = next.corners;
         refine_patch::lay_four(flat, 20, side_by_side(corners));
         next

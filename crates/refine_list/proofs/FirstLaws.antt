@@ -1,6 +1,6 @@
 -- Laws of the first fits of four seeds at once: each patch lies in the image, whether its seed is refined or not, and the fit of a seed that is stands in its place.
 use mathlib.Core.Path.{_≡_, refl, sym, ap, _∙_, subst}
-use mathlib.Core.Logic.{_⊎_, inl, inr, ⊎-elim}
+use mathlib.Core.Logic.{_⊎_, inl, inr}
 use mathlib.Core.Bool.{Bool, true, false, _||_}
 use mathlib.Core.List.{List}
 use Prim.Native.Nat.{ℕ, zero, suc, _+_, _-_, _*_, _/_, _%_, _≤_, _<_}
@@ -12,6 +12,7 @@ use lib.Ieee.{Float}
 use borrow.Author.Tests.{ltb-true, ltb-false, leb-true}
 use lib.Dec.{leb}
 use Rattle.shapes.specs.Numbers.{entry}
+use Rattle.shapes.proofs.TestLaws.{either}
 use Rattle.imageview.specs.Image.{Image}
 use Rattle.refine_formulas.specs.declared.SaddlePointConfig.{SaddlePointConfig}
 use Rattle.refine_patch.specs.declared.Firsts.{Firsts}
@@ -28,18 +29,6 @@ use Rattle.refine_seed.specs.Refine.{admitOf}
 use Rattle.refine_seed.specs.StepsSpot.{firstFor, Fitted}
 use Rattle.refine_seed.proofs.EntryLaws.{good-within}
 use Rattle.refine_list.specs.Steps.{FirstFits, Begins}
-
-either : (a b : Bool) → (a || b) ≡ true → (a ≡ true) ⊎ (b ≡ true)
-either true b h = inl refl
-either false b h = inr h
-
-pub neither : (a b : Bool) → (a || b) ≡ false → (a ≡ false) × (b ≡ false)
-neither true b h = (h, absurd (subst never (sym h) tt))
-  where
-    never : Bool → Type 0
-    never true = ⊥
-    never false = Unit
-neither false b h = (refl, h)
 
 module _ (img : Image) (cfg : SaddlePointConfig) where
   -- ---- an image that no patch fits into

@@ -154,26 +154,10 @@ pub fn run(
         let nx = step.ox + step.scale * step.x;
         let ny = step.oy + step.scale * step.y;
         let w = place::window_at(seed.centre_x, seed.centre_y, nx, ny);
-        let r = bases.ready(
-            img,
-            sizes,
-            w.base_x,
-            w.base_y,
-            cfg.radius,
-            columns,
-            &mut flat,
-        );
+        let r = bases.ready(img, sizes, w, cfg.radius, columns, &mut flat);
         bases = r.bases;
         if r.further {
-            fits = fits.lay(
-                img,
-                sizes,
-                w.base_x,
-                w.base_y,
-                cfg.radius,
-                columns,
-                &mut flat,
-            );
+            fits = fits.lay(img, sizes, w, cfg.radius, columns, &mut flat);
         }
         let corners = laid::corners_at(&flat, r.to);
         let c = tries::candidate(cfg, seed, fit, nx, ny, r.room, corners, w.tx, w.ty);

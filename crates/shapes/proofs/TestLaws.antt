@@ -1,6 +1,6 @@
 -- `every` and `some`: one number more, cut in two, by equal tests, and where a test fails.
 use mathlib.Core.Path.{_≡_, refl, sym, ap, _∙_}
-use mathlib.Core.Logic.{⊎-elim}
+use mathlib.Core.Logic.{_⊎_, inl, inr, ⊎-elim}
 use mathlib.Core.Bool.{Bool, true, false, _&&_, _||_, false≢true, and-assoc, and-true, and-false, or-false}
 use Prim.Native.Nat.{ℕ, zero, suc, _+_, _≤_, _<_}
 use native.Mathlib.Nat.{add-zero, add-suc, le-refl, not-suc-le-zero, eq-or-lt-of-le}
@@ -19,6 +19,10 @@ first-of false b e = e
 pub second-of : (a b : Bool) → (a && b) ≡ true → b ≡ true
 second-of true b e = e
 second-of false b e = absurd (false≢true e)
+
+pub either : (a b : Bool) → (a || b) ≡ true → (a ≡ true) ⊎ (b ≡ true)
+either true b e = inl refl
+either false b e = inr e
 
 pub first-not : (a b : Bool) → (a || b) ≡ false → a ≡ false
 first-not true b e = e

@@ -24,7 +24,7 @@ returns c =
     let a = s .args in
     record {
       kept = c .before .before .before .before .look .ensures .kept;
-      laid = laid-kept (imageOf (a .img .now) (a .sizes)) (a .columns .now) (a .radius) (a .x) (a .y) (a .flat .now) _ (c .before .before .before .before .look .result) (s .pre .0) (c .before .before .before .before .look .ensures) (c .lay-four .ensures ∙ ap (λ (v : Sums). fourWritten (sumIn v) 20 (a .flat .now)) (c .before .side-by-side .ensures));
+      laid = laid-kept (imageOf (a .img .now) (a .sizes)) (a .columns .now) (a .radius) (a .w .«base_x») (a .w .«base_y») (a .flat .now) _ (c .before .before .before .before .look .result) (s .pre .0) (c .before .before .before .before .look .ensures) (c .lay-four .ensures ∙ ap (λ (v : Sums). fourWritten (sumIn v) 20 (a .flat .now)) (c .before .side-by-side .ensures));
     }
 
 pub lay-spec : {M : Type 1} → statement M

@@ -10,7 +10,8 @@ use mir.Facts.{fits-le, fits-lit}
 use Rattle.imageview.specs.Image.{imageOf}
 use Rattle.refine_operator.specs.Basis as Basis
 use Rattle.refine_fits.specs.StepsAdding.{sumsOf, PatchWithin}
-use Rattle.refine_fits.proofs.FitLaws.{sums-none, row-done, all-rows, centre-sample, row-within, centre-within, part-length, numbered}
+use Rattle.refine_patch.proofs.RowLaws.{numbered}
+use Rattle.refine_fits.proofs.FitLaws.{sums-none, row-done, all-rows, centre-sample, row-within, centre-within, part-length}
 use Rattle.refine_fits.proofs.fits.fit_patch.Statement.{statement}
 use Rattle.refine_fits.proofs.fits.fit_patch.Tie as tie
 

@@ -4,8 +4,9 @@ use Prim.Native.Nat.{_*_}
 use native.Mathlib.Omega.{arith}
 use lib.Dec.{leb}
 use borrow.Author.Tests.{leb-false}
+use Rattle.shapes.proofs.TestLaws.{first-not, second-not}
 use Rattle.imageview.specs.Image.{imageOf}
-use Rattle.refine_list.proofs.FirstLaws.{neither, too-small, all-reach, first-fits}
+use Rattle.refine_list.proofs.FirstLaws.{too-small, all-reach, first-fits}
 use borrow.Author.Needs.{needs}
 use Rattle.refine_list.proofs.list.first_fits.Statement.{statement}
 use Rattle.refine_list.proofs.list.first_fits.Tie as tie
@@ -47,8 +48,10 @@ fit-four-requires : tie.Need-fit-four-requires
 fit-four-requires c κs =
     let s = c .before .before .before .before .before .before .before .before .before .before .before in
     let a = s .args in
-    let n = neither (leb (a .sizes .width) (2 * a .cfg .radius)) (leb (a .sizes .height) (2 * a .cfg .radius)) (c .before .before .before .before .before .if1 .left) in
-    ((s .pre .1 .0, omega arith), all-reach (imageOf (a .img .now) (a .sizes)) (a .cfg) (s .pre .0) (leb-false (a .sizes .width) (2 * a .cfg .radius) (n .0)) (leb-false (a .sizes .height) (2 * a .cfg .radius) (n .1)) (a .corners .now) _ (4 * a .group) (c .before .before .before .before .first-of .ensures) (c .before .before .before .first-of2 .ensures) (c .before .before .first-of3 .ensures) (c .before .first-of4 .ensures))
+    let w = leb (a .sizes .width) (2 * a .cfg .radius) in
+    let h = leb (a .sizes .height) (2 * a .cfg .radius) in
+    let no = c .before .before .before .before .before .if1 .left in
+    ((s .pre .1 .0, omega arith), all-reach (imageOf (a .img .now) (a .sizes)) (a .cfg) (s .pre .0) (leb-false (a .sizes .width) (2 * a .cfg .radius) (first-not w h no)) (leb-false (a .sizes .height) (2 * a .cfg .radius) (second-not w h no)) (a .corners .now) _ (4 * a .group) (c .before .before .before .before .first-of .ensures) (c .before .before .before .first-of2 .ensures) (c .before .before .first-of3 .ensures) (c .before .first-of4 .ensures))
 
 returns-2 : tie.Need-returns-2
 returns-2 c =
