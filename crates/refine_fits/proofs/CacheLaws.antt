@@ -2,14 +2,14 @@
 use mathlib.Core.Path.{_≡_, refl, sym, ap, _∙_, subst}
 use mathlib.Core.Logic.{_⊎_, ⊎-elim, inl, inr}
 use mathlib.Core.List.{List, [], _∷_}
-use Prim.Native.Nat.{ℕ, zero, suc, _+_, _-_, _*_, _/_, _%_, _≤_, _<_}
+use Prim.Native.Nat.{ℕ, zero, suc, _+_, _*_, _/_, _%_, _≤_, _<_}
 use native.Mathlib.Nat.{eq-or-lt-of-le, le-of-suc-le-suc, add-zero}
 use native.Mathlib.Omega.{arith}
 use mathlib.Core.Bool.{Bool, true, false, _&&_, cond}
 use lib.Dec.{T, leb, ltb, eqb, leb→le}
 use lib.Ieee.Fits.{and-l, and-r}
 use lib.IntN.{pos}
-use borrow.Author.Tests.{eqb-true, eqb-false, leb-false, ltb-true, ltb-false, le-leb, lt-leb, lt-ltb, le-ltb}
+use borrow.Author.Tests.{eqb-true, eqb-false, leb-false, ltb-true, ltb-false, le-leb, lt-ltb, le-ltb}
 use Rattle.shapes.specs.Numbers.{entry}
 use Rattle.shapes.specs.Lists.{tabulated}
 use Rattle.refine_formulas.specs.declared.Corners.{Corners}
@@ -20,12 +20,11 @@ use lib.Seq.{getD-set-same, getD-set-other}
 use lib.Ieee.{Float, nan}
 use Rattle.imageview.specs.Image.{Image}
 use Rattle.refine_fits.specs.declared.IntegerFits.{IntegerFits}
-use Rattle.refine_fits.specs.declared.Looked.{Looked}
 use Rattle.imageview.specs.Patch.{inside, supportsPatch}
 use Rattle.imageview.proofs.PatchLaws.{before}
 use Rattle.refine_fits.specs.StepsAdding.{Sound, PatchWithin, FourWithin, hasRoom}
-use Rattle.refine_formulas.proofs.Choice.{and-both, and-first, and-second}
-use Rattle.refine_fits.specs.StepsCache.{fitIn, centreX, centreY, named, slotted, Shaped, Kept, Slot, Counted, Found, Surrounds}
+use Rattle.refine_formulas.proofs.Choice.{and-both}
+use Rattle.refine_fits.specs.StepsCache.{fitIn, centreX, centreY, named, slotted, Shaped, Kept, Slot, Counted, Surrounds}
 
 -- ---- the count
 pub count-again : (len : ℕ) → len ≡ 17 → Counted len 9

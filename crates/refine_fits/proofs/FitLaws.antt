@@ -2,10 +2,10 @@
 use mathlib.Core.Path.{_≡_, refl, sym, ap, _∙_, subst}
 use mathlib.Core.List.{List, [], _∷_}
 use Prim.Native.Nat.{ℕ, zero, suc, _+_, _-_, _*_, _/_, _%_, _≤_, _<_}
-use native.Mathlib.Nat.{add-assoc, add-zero, add-suc, sub-add-cancel, mul-comm, mul-add, add-mul, mul-assoc, one-mul, mul-one, le-trans, mul-le-mul-right, lt-of-lt-of-le, lt-of-le-of-lt, suc-mul, mul-suc, zero-mul, le-refl, mul-le-mul}
+use native.Mathlib.Nat.{add-assoc, add-zero, add-suc, sub-add-cancel, add-mul, mul-assoc, one-mul, zero-mul, le-refl}
 use native.Mathlib.Numerals.{add-one}
 use native.Mathlib.Omega.{arith}
-use lib.Arith.{digits-div, digits-mod, digits-lt}
+use lib.Arith.{digits-div, digits-mod}
 use lib.IntN.{pos}
 use lib.ListN.{length, getD, take, drop, length-drop}
 use lib.Seq.{getD-take, getD-drop, length-take-le}
@@ -19,7 +19,7 @@ use Rattle.refine_operator.specs.Basis.{side, samples}
 use Rattle.refine_fits.specs.declared.Sums.{Sums}
 use Rattle.refine_formulas.specs.Numbers.{_⊕_, _⊖_, _⊗_}
 use Rattle.refine_fits.specs.Fit.{sampleOf, coefficient, coefficients}
-use Rattle.refine_fits.specs.StepsAdding.{added, rowAdded, term, sumsOf, PatchWithin}
+use Rattle.refine_fits.specs.StepsAdding.{added, rowAdded, sumsOf, PatchWithin}
 
 -- ---- a row
 pub row-none : (columns : List Float) (row : List ℕ) (centre : Float) (from : ℕ) (s : Sums) → s ≡ rowAdded columns row centre from 0 s

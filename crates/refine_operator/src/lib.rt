@@ -1,5 +1,4 @@
 // The fit operator of the saddle-point refiner, after `saddle_point.rs`: built once for a radius and lent to every fit.
-ghost use mathlib.Core.Path.{_≡_};
 ghost use Rattle.refine_operator.specs.Call.{Done, ColumnsDone, OverlapDone};
 
 mod basis;

@@ -1,6 +1,6 @@
 -- The fit on a patch that is given by the place of its first sample in the image's list: what `coefficient` (refine_fits) is of the patch about a pixel. Four of them stand
 -- in a flat list of two blocks, coefficient by coefficient, the four patches side by side.
-use mathlib.Core.Bool.{Bool, _&&_, cond}
+use mathlib.Core.Bool.{_&&_, cond}
 use mathlib.Core.List.{List}
 use Prim.Native.Nat.{ℕ, _+_, _-_, _*_, _/_, _%_}
 use lib.Dec.{leb, ltb}

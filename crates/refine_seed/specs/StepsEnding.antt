@@ -1,6 +1,6 @@
 -- Where the steps end, as the code has it: settled at a window, or not, which is all that the estimate asks then.
 use mathlib.Core.Path.{_≡_}
-use mathlib.Core.Bool.{Bool, true, false, cond}
+use mathlib.Core.Bool.{Bool, true, cond}
 use mathlib.Core.List.{List, []}
 use Prim.Native.Nat.{ℕ, _+_, _*_, _≤_}
 use lib.IntN.{pos, negsuc, _+ℤ_}

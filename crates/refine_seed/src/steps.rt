@@ -17,7 +17,7 @@ use refine_formulas::sensitivity;
 use refine_formulas::solve;
 ghost use mathlib.Core.Path.{_≡_};
 ghost use mathlib.Core.Bool.{true, false};
-ghost use Prim.Native.Nat.{_-_, _<_, _≤_};
+ghost use Prim.Native.Nat.{_-_, _<_};
 ghost use Rattle.shapes.specs.Numbers.{plusZero, one};
 ghost use Rattle.imageview.specs.Image.{imageOf};
 ghost use Rattle.refine_formulas.specs.Numbers.{_⊗_, half};

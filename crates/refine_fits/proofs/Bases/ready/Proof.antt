@@ -1,5 +1,5 @@
 -- `refine_fits::Bases::ready` meets its contract: without room there are no four fits, and a base that is there has its own.
-use mathlib.Core.Path.{_≡_, sym, _∙_}
+use mathlib.Core.Path.{sym, _∙_}
 use mathlib.Core.Bool.{true, false, and-eq-true-iff}
 use native.Mathlib.Omega.{arith}
 use lib.Dec.{eqb}

@@ -1,9 +1,7 @@
 -- `refine_fits::fits::fit_about` meets its contract: the four patches lie in the image, and what is written of them are the fits about the base.
-use mathlib.Core.Path.{_≡_, sym, ap, _∙_, subst}
-use Prim.Native.Nat.{ℕ, _<_}
+use mathlib.Core.Path.{_∙_}
 use native.Mathlib.Omega.{arith}
 use Rattle.imageview.specs.Image.{imageOf}
-use Rattle.refine_fits.proofs.CacheLaws.{room00, room10, room01, room11}
 use Rattle.refine_fits.proofs.BaseLaws.{place-most, inside-four, laid-about, firsts-are}
 use borrow.Author.Needs.{needs}
 use Rattle.refine_fits.proofs.fits.fit_about.Statement.{statement}

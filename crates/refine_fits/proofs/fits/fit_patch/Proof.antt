@@ -1,15 +1,13 @@
 -- `refine_fits::fits::fit_patch` meets its contract. After some rows the sums have these rows' samples.
-use mathlib.Core.Path.{_≡_, refl, sym, ap, _∙_, subst}
-use Prim.Native.Nat.{ℕ, _+_, _-_, _*_, _≤_, _<_}
-use native.Mathlib.Nat.{le-trans}
+use mathlib.Core.Path.{_≡_, sym, ap, _∙_, subst}
+use Prim.Native.Nat.{ℕ, _+_, _-_, _*_, _≤_}
 use native.Mathlib.Omega.{arith}
 use lib.ListN.{length}
 use lib.IntN.{pos}
 use lib.Ieee.{ofBits, ofInt, binary32}
-use mir.Facts.{fits-le, fits-lit}
 use Rattle.imageview.specs.Image.{imageOf}
 use Rattle.refine_operator.specs.Basis as Basis
-use Rattle.refine_fits.specs.StepsAdding.{sumsOf, PatchWithin}
+use Rattle.refine_fits.specs.StepsAdding.{sumsOf}
 use Rattle.refine_patch.proofs.RowLaws.{numbered}
 use Rattle.refine_fits.proofs.FitLaws.{sums-none, row-done, all-rows, centre-sample, row-within, centre-within, part-length}
 use Rattle.refine_fits.proofs.fits.fit_patch.Statement.{statement}

@@ -1,8 +1,7 @@
 -- `refine_seed::spots::first_place` meets its contract: each case of the tests has its place.
-use mathlib.Core.Path.{_≡_, sym, ap, _∙_}
+use mathlib.Core.Path.{sym, ap, _∙_}
 use native.Mathlib.Omega.{arith}
 use Rattle.imageview.specs.Image.{imageOf}
-use Rattle.refine_fits.specs.StepsAdding.{PatchWithin}
 use Rattle.refine_seed.specs.StepsSpot.{firstFor}
 use Rattle.refine_seed.proofs.EntryLaws.{good-within}
 use borrow.Author.Needs.{needs}
