@@ -52,7 +52,7 @@ struct Upper {
 }
 
 // Builds the operator for a radius: five coefficients a sample, and the nine overlaps. Each part works out the inverse for itself: so neither's matrices stand in a
-// caller's stack, and less is kept in registers.
+// caller's stack.
 pub fn fit_operator(radius: usize, columns: &mut [f32; 1125], overlap: &mut [f32; 225]) -> Operator
     ensures { λ r. ⌜ Done radius (now (columns .entry)) (now (overlap .entry)) r (now (columns .exit)) (now (overlap .exit)) ⌝ }
 {
