@@ -17,8 +17,9 @@
  * stands behind its width pixels is padding, on which no answer depends. pitch: width where the rows have none, at most
  * 8192. img_len: pitch times height, so that the last row has its padding too. A response has no pitch.
  *
- * Stack, on x86-64, as compiled for release (docs/SPEED.md): response 1.3 KiB, peaks 5.7 KiB,
- * fit_operator 2.8 KiB, refine 8.4 KiB, refine_with 3.1 KiB, refine_list 7.5 KiB, merge 0.3 KiB, tie 2 KiB, graymap 0.1 KiB. No call recurses. Scratch: only the merge asks for any, heads and links.
+ * Stack in bytes, on x86-64, as compiled for release, all that a call calls included (docs/SPEED.md): response 1,328,
+ * peaks 5,808, fit_operator 2,336, refine 7,344, refine_with 2,816, refine_list 7,296, merge 240, tie 1,984, graymap 56.
+ * No call recurses. Scratch: only the merge asks for any, heads and links.
  *
  * Numbers:
  *    0 Accepted        1 Rejected: the first fit lies outside the box about the seed

@@ -20,7 +20,7 @@ use Rattle.refine_patch.proofs.FourLaws.{written-length, written-before, writte
 use Rattle.refine_patch.proofs.PatchLaws.{coefficient-about}
 use Rattle.refine_fits.specs.declared.Bases.{Bases}
 use Rattle.refine_fits.specs.declared.Ready.{Ready}
-use Rattle.refine_fits.specs.declared.IntegerFits.{IntegerFits}
+use Rattle.refine_fits.specs.declared.Around.{Around}
 use Rattle.refine_fits.specs.Fit.{sampleOf, coefficient, coefficients}
 use Rattle.refine_fits.specs.Windows.{Fits, lacking, four, cornersAt}
 use Rattle.refine_fits.specs.StepsAdding.{PatchWithin, FourWithin}
@@ -122,7 +122,7 @@ module _ (img : Image) (columns : List Float) (radius x y : ℕ) where
       (lane-from (x + 1) (y + 1) (at .d) (λ c. from c 3) (λ i. refl) (ap (λ (n : ℕ). n + 1) (below-place (w .above) x) ∙ right-place (w .left) (y + 1)))
 
   -- ---- by way of the kept fits
-  pub laid-kept : (old flat : List Float) (fits : IntegerFits) → FourWithin img radius x y → Surrounds img columns radius x y fits → flat ≡ fourWritten (sumIn (sideBySide (fits .corners))) 20 old → Laid img columns radius x y 20 old flat
+  pub laid-kept : (old flat : List Float) (fits : Around) → FourWithin img radius x y → Surrounds img columns radius x y fits → flat ≡ fourWritten (sumIn (sideBySide (fits .corners))) 20 old → Laid img columns radius x y 20 old flat
   laid-kept old flat fits w s e =
       laid 20 old flat (sumIn (sideBySide c)) w (omega arith) e
       (ap fiveOf (ap (λ (v : Corners). v .c00) same) ∙ all-five img columns radius x y)

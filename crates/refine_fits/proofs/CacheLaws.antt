@@ -2,7 +2,7 @@
 use mathlib.Core.Path.{_≡_, refl, sym, ap, _∙_, subst}
 use mathlib.Core.Logic.{_⊎_, ⊎-elim, inl, inr}
 use mathlib.Core.List.{List, [], _∷_}
-use Prim.Native.Nat.{ℕ, zero, suc, _+_, _*_, _/_, _%_, _≤_, _<_}
+use Prim.Native.Nat.{ℕ, _+_, _*_, _/_, _%_, _≤_, _<_}
 use native.Mathlib.Nat.{eq-or-lt-of-le, le-of-suc-le-suc, add-zero}
 use native.Mathlib.Omega.{arith}
 use mathlib.Core.Bool.{Bool, true, false, _&&_, cond}
@@ -12,7 +12,6 @@ use lib.IntN.{pos}
 use borrow.Author.Tests.{eqb-true, eqb-false, leb-false, ltb-true, ltb-false, le-leb, lt-ltb, le-ltb}
 use Rattle.shapes.specs.Numbers.{entry}
 use Rattle.shapes.specs.Lists.{tabulated}
-use Rattle.refine_formulas.specs.declared.Corners.{Corners}
 use Rattle.refine_fits.specs.Windows.{lacking, four, fits4, cornersAt}
 use Rattle.refine_fits.specs.Fit.{Fit, noFit, fitted, fitAt, coefficients}
 use lib.ListN.{length, getD, set, length-set}
@@ -124,15 +123,11 @@ pub record Stored (fits : IntegerFits) (x y : ℕ) (coefs : List Float) (r : Int
   pub fit-else : (slot : ℕ) → (slot ≡ fits .len % 9 → ⊥) → fitIn (r .coefs) slot ≡ fitIn (fits .coefs) slot
   pub x-else : (slot : ℕ) → (slot ≡ fits .len % 9 → ⊥) → centreX (r .centres) slot ≡ centreX (fits .centres) slot
   pub y-else : (slot : ℕ) → (slot ≡ fits .len % 9 → ⊥) → centreY (r .centres) slot ≡ centreY (fits .centres) slot
-  pub corners : r .corners ≡ fits .corners
-  pub base-x : r .«base_x» ≡ fits .«base_x»
-  pub base-y : r .«base_y» ≡ fits .«base_y»
 
--- the cache with other arrays and another count
-abbrev holding : IntegerFits → List ℕ → List Float → ℕ → IntegerFits
-holding fits centres coefs len = record { centres = centres; coefs = coefs; len = len; corners = fits .corners; «base_x» = fits .«base_x»; «base_y» = fits .«base_y» }
+abbrev holding : List ℕ → List Float → ℕ → IntegerFits
+holding centres coefs len = record { centres = centres; coefs = coefs; len = len }
 
-put-in : (fits : IntegerFits) (x y len : ℕ) (coefs : List Float) → Shaped fits → Counted (fits .len) len → Stored fits x y coefs (holding fits (named (fits .centres) (fits .len % 9) x y) (slotted (fits .coefs) (fits .len % 9) coefs) len)
+put-in : (fits : IntegerFits) (x y len : ℕ) (coefs : List Float) → Shaped fits → Counted (fits .len) len → Stored fits x y coefs (holding (named (fits .centres) (fits .len % 9) x y) (slotted (fits .coefs) (fits .len % 9) coefs) len)
 put-in fits x y len coefs z n =
     let s = fits .len % 9 in
     let l = fits .coefs in
@@ -150,9 +145,6 @@ put-in fits x y len coefs z n =
       fit-else = λ slot h. fit-else l s slot (entry coefs 0) (entry coefs 1) (entry coefs 2) (entry coefs 3) (entry coefs 4) h;
       x-else = λ slot h. pair-else c s (2 * slot) x y (λ (q : 2 * slot / 2 ≡ s). h (half slot s q));
       y-else = λ slot h. pair-else c s (2 * slot + 1) x y (λ (q : (2 * slot + 1) / 2 ≡ s). h (half-2 slot s q));
-      corners = refl;
-      base-x = refl;
-      base-y = refl;
     }
   where
     put-length : (l : List Float) (p : ℕ) (a b c d e : Float) → length (put l p a b c d e) ≡ length l
@@ -173,10 +165,10 @@ put-in fits x y len coefs z n =
     half-2 : (slot s : ℕ) → (2 * slot + 1) / 2 ≡ s → slot ≡ s
     half-2 slot s q = omega arith
 
-pub stored : (fits : IntegerFits) (x y len : ℕ) (coefs : List Float) (centres' : List ℕ) (coefs' : List Float) → Shaped fits → Counted (fits .len) len → centres' ≡ named (fits .centres) (fits .len % 9) x y → coefs' ≡ slotted (fits .coefs) (fits .len % 9) coefs → Stored fits x y coefs (holding fits centres' coefs' len)
+pub stored : (fits : IntegerFits) (x y len : ℕ) (coefs : List Float) (centres' : List ℕ) (coefs' : List Float) → Shaped fits → Counted (fits .len) len → centres' ≡ named (fits .centres) (fits .len % 9) x y → coefs' ≡ slotted (fits .coefs) (fits .len % 9) coefs → Stored fits x y coefs (holding centres' coefs' len)
 stored fits x y len coefs centres' coefs' z n p q =
-    subst (λ (v : List ℕ). Stored fits x y coefs (holding fits v coefs' len)) (sym p)
-    (subst (λ (w : List Float). Stored fits x y coefs (holding fits (named (fits .centres) (fits .len % 9) x y) w len)) (sym q) (put-in fits x y len coefs z n))
+    subst (λ (v : List ℕ). Stored fits x y coefs (holding v coefs' len)) (sym p)
+    (subst (λ (w : List Float). Stored fits x y coefs (holding (named (fits .centres) (fits .len % 9) x y) w len)) (sym q) (put-in fits x y len coefs z n))
 
 -- ---- a look-up
 pub no-slot : (centres : List ℕ) (len x y : ℕ) → Slot centres len x y 9
@@ -198,7 +190,7 @@ all-five img columns radius x y = refl
 
 pub kept-stored : (img : Image) (columns : List Float) (radius x y : ℕ) (coefs : List Float) (fits r : IntegerFits) → Kept img columns radius fits → coefs ≡ coefficients img columns radius x y → Stored fits x y coefs r → Kept img columns radius r
 kept-stored img columns radius x y coefs fits r k e s =
-    record { sized = s .sized; fresh = λ slot a b. by slot a b (eqb slot (fits .len % 9)) refl; about = kept-about (fits .corners) (r .corners) (fits .«base_x») (r .«base_x») (fits .«base_y») (r .«base_y») (s .corners) (s .base-x) (s .base-y) (k .about) }
+    record { sized = s .sized; fresh = λ slot a b. by slot a b (eqb slot (fits .len % 9)) refl }
   where
     fresh-at : (slot : ℕ) → Type 0
     fresh-at slot = fitIn (r .coefs) slot ≡ coefficients img columns radius (centreX (r .centres) slot) (centreY (r .centres) slot)
@@ -212,9 +204,6 @@ kept-stored img columns radius x y coefs fits r k e s =
     by : (slot : ℕ) → slot < 9 → slot < r .len → (b : Bool) → eqb slot (fits .len % 9) ≡ b → fresh-at slot
     by slot a b true q = subst fresh-at (sym (eqb-true slot (fits .len % 9) q)) new
     by slot a b false q = ⊎-elim (λ l. old slot a l (eqb-false slot (fits .len % 9) q)) (λ t. absurd (eqb-false slot (fits .len % 9) q t)) (s .used slot a b)
-
-    kept-about : (c c' : Corners) (u u' v v' : ℕ) → c' ≡ c → u' ≡ u → v' ≡ v → (u < 8192 → cornersAt img columns radius (pos u) (pos v) ≡ four c) → u' < 8192 → cornersAt img columns radius (pos u') (pos v') ≡ four c'
-    kept-about c c' u u' v v' p q w h l = ap (λ (n : ℕ). cornersAt img columns radius (pos n) (pos v')) q ∙ ap (λ (n : ℕ). cornersAt img columns radius (pos u) (pos n)) w ∙ h (subst (λ (n : ℕ). n < 8192) q l) ∙ ap four (sym p)
 
 -- ---- the four fits about a base
 pub there : (img : Image) (columns : List Float) (radius x y : ℕ) → PatchWithin img radius x y → fitAt img columns radius (pos x) (pos y) ≡ fitted (coefficients img columns radius x y)
@@ -339,7 +328,7 @@ module _ (img : Image) (columns : List Float) (radius x y : ℕ) where
       ∙ ap (λ (f : Fit). fits4 (fitted (coefficients img columns radius x y)) (fitted (coefficients img columns radius (x + 1) y)) (fitted (coefficients img columns radius x (y + 1))) f) (there img columns radius (x + 1) (y + 1) (room11 w))
 
   -- the fits that were looked up, as the new corners
-  pub looked : (c00 c10 c01 c11 : List Float) (fits : IntegerFits) → FourWithin img radius x y → c00 ≡ coefficients img columns radius x y → c10 ≡ coefficients img columns radius (x + 1) y → c01 ≡ coefficients img columns radius x (y + 1) → c11 ≡ coefficients img columns radius (x + 1) (y + 1) → Kept img columns radius fits → Surrounds img columns radius x y (record { centres = fits .centres; coefs = fits .coefs; len = fits .len; corners = record { c00 = c00; c10 = c10; c01 = c01; c11 = c11 }; «base_x» = x; «base_y» = y })
+  pub looked : (c00 c10 c01 c11 : List Float) (fits : IntegerFits) → FourWithin img radius x y → c00 ≡ coefficients img columns radius x y → c10 ≡ coefficients img columns radius (x + 1) y → c01 ≡ coefficients img columns radius x (y + 1) → c11 ≡ coefficients img columns radius (x + 1) (y + 1) → Kept img columns radius fits → Surrounds img columns radius x y (record { fits = fits; corners = record { c00 = c00; c10 = c10; c01 = c01; c11 = c11 } })
   looked c00 c10 c01 c11 fits w a b c d k =
       let e : cornersAt img columns radius (pos x) (pos y) ≡ four (record { c00 = c00; c10 = c10; c01 = c01; c11 = c11 }) =
       has-four w
@@ -347,7 +336,7 @@ module _ (img : Image) (columns : List Float) (radius x y : ℕ) where
       ∙ ap (λ (l : List Float). four (record { c00 = c00; c10 = l; c01 = coefficients img columns radius x (y + 1); c11 = coefficients img columns radius (x + 1) (y + 1) })) (sym b)
       ∙ ap (λ (l : List Float). four (record { c00 = c00; c10 = c10; c01 = l; c11 = coefficients img columns radius (x + 1) (y + 1) })) (sym c)
       ∙ ap (λ (l : List Float). four (record { c00 = c00; c10 = c10; c01 = c01; c11 = l })) (sym d) in
-      record { is = e; kept = record { sized = record { centres = k .sized .centres; coefs = k .sized .coefs; count = k .sized .count }; fresh = k .fresh; about = λ _. e } }
+      record { is = e; kept = k }
 
   -- where the four look-ups stand after k of them: the last is c11, the one before it c01, and so on
   abbrev about : ℕ → List Float
@@ -379,7 +368,7 @@ module _ (img : Image) (columns : List Float) (radius x y : ℕ) where
         fourth = λ j q. e ∙ ap about (let r : k ≡ j = omega arith in r);
       }
 
-  pub look-last : (fits : IntegerFits) (c00 c10 c01 c11 : List Float) (k : ℕ) → FourWithin img radius x y → Looking fits c00 c10 c01 c11 k → 4 ≤ k → Surrounds img columns radius x y (record { centres = fits .centres; coefs = fits .coefs; len = fits .len; corners = record { c00 = c00; c10 = c10; c01 = c01; c11 = c11 }; «base_x» = x; «base_y» = y })
+  pub look-last : (fits : IntegerFits) (c00 c10 c01 c11 : List Float) (k : ℕ) → FourWithin img radius x y → Looking fits c00 c10 c01 c11 k → 4 ≤ k → Surrounds img columns radius x y (record { fits = fits; corners = record { c00 = c00; c10 = c10; c01 = c01; c11 = c11 } })
   look-last fits c00 c10 c01 c11 k w l h =
       looked c00 c10 c01 c11 fits w
       (l .first 0 (let r : k ≡ 0 + 4 = omega (arith, l .most) in r) ∙ ap (λ (u : ℕ). coefficients img columns radius u (y + 0)) (add-zero x) ∙ ap (λ (v : ℕ). coefficients img columns radius x v) (add-zero y))

@@ -8,6 +8,7 @@ use lib.ListN.{length, getD, set}
 use lib.Ieee.{Float}
 use Rattle.shapes.specs.Numbers.{entry}
 use Rattle.imageview.specs.Image.{Image}
+use Rattle.refine_fits.specs.declared.Around.{Around}
 use Rattle.refine_fits.specs.declared.IntegerFits.{IntegerFits}
 use Rattle.refine_fits.specs.declared.Looked.{Looked}
 use Rattle.refine_fits.specs.Fit.{coefficients}
@@ -32,7 +33,6 @@ pub record Shaped (fits : IntegerFits) : Type 0 where
 pub record Kept (img : Image) (columns : List Float) (radius : ℕ) (fits : IntegerFits) : Type 0 where
   pub sized : Shaped fits
   pub fresh : (slot : ℕ) → slot < 9 → slot < fits .len → fitIn (fits .coefs) slot ≡ coefficients img columns radius (centreX (fits .centres) slot) (centreY (fits .centres) slot)
-  pub about : fits .«base_x» < 8192 → cornersAt img columns radius (pos (fits .«base_x»)) (pos (fits .«base_y»)) ≡ four (fits .corners)
 
 -- a cache that holds no fit is kept for every image and operator
 pub record Fresh (fits : IntegerFits) : Type 0 where
@@ -62,6 +62,6 @@ pub record Found (img : Image) (columns : List Float) (radius x y : ℕ) (r : Lo
   pub kept : Kept img columns radius (r .fits)
 
 -- ---- the four fits about a base
-pub record Surrounds (img : Image) (columns : List Float) (radius x y : ℕ) (r : IntegerFits) : Type 0 where
+pub record Surrounds (img : Image) (columns : List Float) (radius x y : ℕ) (r : Around) : Type 0 where
   pub is : cornersAt img columns radius (pos x) (pos y) ≡ four (r .corners)
-  pub kept : Kept img columns radius r
+  pub kept : Kept img columns radius (r .fits)

@@ -1,4 +1,5 @@
 // Nine fits kept by their centre pixel: each look-up gives what a fresh fit gives.
+use super::Around;
 use super::IntegerFits;
 use super::Looked;
 use crate::fits;
@@ -51,7 +52,7 @@ impl IntegerFits {
         y: usize,
         radius: usize,
         columns: &[f32; 1125],
-    ) -> IntegerFits
+    ) -> Around
         requires { ⌜ FourWithin (imageOf (now img) sizes) radius x y ⌝ ∗ ⌜ Kept (imageOf (now img) sizes) (now columns) radius self ⌝ }
         ensures { λ r. ⌜ Surrounds (imageOf (now (img .entry)) sizes) (now (columns .entry)) radius x y r ⌝ }
     {
@@ -72,10 +73,7 @@ impl IntegerFits {
             k += 1;
         }
         let corners = Corners { c00, c10, c01, c11 };
-        fits.corners = corners;
-        fits.base_x = x;
-        fits.base_y = y;
-        fits
+        Around { fits, corners }
     }
 }
 

@@ -137,8 +137,9 @@ impl IntegerFits {
         requires { ⌜ FourWithin (imageOf (now img) sizes) radius (w .«base_x») (w .«base_y») ⌝ ∗ ⌜ Kept (imageOf (now img) sizes) (now columns) radius self ⌝ ∗ ⌜ length (now flat) ≡ 40 ⌝ }
         ensures { λ r. ⌜ Relays (imageOf (now (img .entry)) sizes) (now (columns .entry)) radius (w .«base_x») (w .«base_y») (now (flat .entry)) (now (flat .exit)) r ⌝ }
     {
-        let next = self.look(img, sizes, w.base_x, w.base_y, radius, columns);
-        let corners = next.corners;
+        let around = self.look(img, sizes, w.base_x, w.base_y, radius, columns);
+        let corners = around.corners;
+        let next = around.fits;
         refine_patch::lay_four(flat, 20, side_by_side(corners));
         next
     }

@@ -8,15 +8,12 @@ pub mod laid;
 pub mod place;
 pub mod tries;
 
-// Fits that were worked out, by their centre pixel, the oldest overwritten first, and the four about the last base.
-// The slots in use are the first `len`, or all nine; the next to be written is `len % 9`. A base x of 8192 is none.
+// Fits that were worked out, by their centre pixel, the oldest overwritten first.
+// The slots in use are the first `len`, or all nine; the next to be written is `len % 9`.
 pub struct IntegerFits {
     pub centres: [u16; 18],
     pub coefs: [f32; 45],
     pub len: usize,
-    pub corners: Corners,
-    pub base_x: usize,
-    pub base_y: usize,
 }
 
 // What a look-up hands back: the coefficients, and the cache with them in it. The cache is the first field, here and below:
@@ -24,6 +21,12 @@ pub struct IntegerFits {
 pub struct Looked {
     pub fits: IntegerFits,
     pub coefs: [f32; 5],
+}
+
+// The four fits about a base, and the cache with them in it.
+pub struct Around {
+    pub fits: IntegerFits,
+    pub corners: Corners,
 }
 
 // The two bases whose four fits stand in a flat array, the first and the last one; an x of 8192 is none.

@@ -24,13 +24,15 @@ bad-way : (radius : ℕ) → 7 < radius → wayOf radius ≡ refused BadRadius
 unfolding wayOf
 bad-way radius h = second-of (leb radius 7) _ (refused BadRadius) (lt-leb radius 7 h)
 
-way-is : (radius : ℕ) (m m' : List Float) (regular t : Bool) → radius ≤ 7 → m ≡ normalMatrix radius → reduceFrom 6 0 m ≡ reducedBy regular m' → regular ≡ t
-    → wayOf radius ≡ wayFrom radius (reducedBy t m')
-unfolding wayOf inverseNormalMatrix
-way-is radius m m' regular t h e r d =
+way-is : (radius : ℕ) (m : List Float) (regular t : Bool) → radius ≤ 7 → inverseNormalMatrix radius ≡ reducedBy regular m → regular ≡ t → wayOf radius ≡ wayFrom radius (reducedBy t m)
+unfolding wayOf
+way-is radius m regular t h r d =
     first-of (leb radius 7) _ (refused BadRadius) (le-leb radius 7 h)
-    ∙ ap (λ (l : List Float). wayFrom radius (reduceFrom 6 0 l)) (sym e)
-    ∙ ap (λ (x : Reduced). wayFrom radius x) (r ∙ ap (λ (b : Bool). reducedBy b m') d)
+    ∙ ap (λ (x : Reduced). wayFrom radius x) (r ∙ ap (λ (b : Bool). reducedBy b m) d)
+
+pub inverse-is : (radius : ℕ) (m m' : List Float) (regular : Bool) → m ≡ normalMatrix radius → reduceFrom 6 0 m ≡ reducedBy regular m' → inverseNormalMatrix radius ≡ reducedBy regular m'
+unfolding inverseNormalMatrix
+inverse-is radius m m' regular e r = ap (λ (l : List Float). reduceFrom 6 0 l) (sym e) ∙ r
 
 -- ---- the end of each way
 columns-end : (radius : ℕ) (columns columns' : List Float) (w : Way) → wayOf radius ≡ w → columns' ≡ columnsAfter radius columns w → ColumnsDone radius columns (answerOf w) columns'
@@ -46,21 +48,21 @@ columns-bad radius columns h = columns-end radius columns columns (refused BadRa
 pub overlap-bad : (radius : ℕ) (overlap : List Float) → 7 < radius → OverlapDone radius overlap (Refused BadRadius) overlap
 overlap-bad radius overlap h = overlap-end radius overlap overlap (refused BadRadius) (bad-way radius h) refl
 
-module _ (radius : ℕ) (m m' : List Float) (regular : Bool) (h : radius ≤ 7) (e : m ≡ normalMatrix radius) (r : reduceFrom 6 0 m ≡ reducedBy regular m') where
+module _ (radius : ℕ) (m' : List Float) (regular : Bool) (h : radius ≤ 7) (r : inverseNormalMatrix radius ≡ reducedBy regular m') where
   pub columns-singular : (columns : List Float) → regular ≡ false → ColumnsDone radius columns Singular columns
-  columns-singular columns d = columns-end radius columns columns none (way-is radius m m' regular false h e r d) refl
+  columns-singular columns d = columns-end radius columns columns none (way-is radius m' regular false h r d) refl
 
   pub overlap-singular : (overlap : List Float) → regular ≡ false → OverlapDone radius overlap Singular overlap
-  overlap-singular overlap d = overlap-end radius overlap overlap none (way-is radius m m' regular false h e r d) refl
+  overlap-singular overlap d = overlap-end radius overlap overlap none (way-is radius m' regular false h r d) refl
 
   pub columns-built : (columns columns' : List Float) → regular ≡ true → columns' ≡ overwritten (5 * samples radius) (columnAt radius m') columns → ColumnsDone radius columns Built columns'
   unfolding overwritten columnsOf
   columns-built columns columns' d k =
-      columns-end radius columns columns' (built (columnsOf radius m') (overlapOf radius m')) (way-is radius m m' regular true h e r d) k
+      columns-end radius columns columns' (built (columnsOf radius m') (overlapOf radius m')) (way-is radius m' regular true h r d) k
 
   pub overlap-built : (overlap overlap' : List Float) → regular ≡ true → overlap' ≡ overlapOf radius m' → OverlapDone radius overlap Built overlap'
   overlap-built overlap overlap' d k =
-      overlap-end radius overlap overlap' (built (columnsOf radius m') (overlapOf radius m')) (way-is radius m m' regular true h e r d) k
+      overlap-end radius overlap overlap' (built (columnsOf radius m') (overlapOf radius m')) (way-is radius m' regular true h r d) k
 
 -- both, one after the other
 pub both : (radius : ℕ) (columns overlap columns' overlap' : List Float) (first second : Operator) → ColumnsDone radius columns first columns' → OverlapDone radius overlap second overlap'

@@ -1,17 +1,27 @@
 // The inverse of the normal matrix, by Gauss-Jordan with partial pivoting: six rows of twelve, flat, the identity beside the matrix.
 // A column makes the matrix anew, row by row: exchanged, scaled and cleared at once.
 ghost use mathlib.Core.Path.{_≡_};
-ghost use Prim.Native.Nat.{_+_, _*_, _<_};
+ghost use Prim.Native.Nat.{_+_, _*_, _≤_, _<_};
 ghost use lib.ListN.{length};
 ghost use lib.Ieee.{lt};
 ghost use Rattle.floats.specs.Magnitude.{magnitude};
 ghost use Rattle.shapes.specs.Numbers.{entry};
-ghost use Rattle.refine_operator.specs.Inverse.{exchanged, swapped, scaled, cleared, leastPivot, reduceFrom};
+ghost use Rattle.refine_operator.specs.Inverse.{exchanged, swapped, scaled, cleared, leastPivot, reduceFrom, inverseNormalMatrix};
 ghost use Rattle.refine_operator.specs.Steps.{Better, Pivot, reducedBy, reducedAt, Continued};
 use crate::basis;
+use crate::normal;
 use floats::Order;
 
-pub fn entry(m: &[f64; 72], i: usize) -> f64
+// The inverse of a radius' normal matrix, right of what is then the identity; false where there is none.
+pub fn inverse_of(radius: usize, m: &mut [f64; 72]) -> bool
+    requires { ⌜ radius ≤ 7 ⌝ }
+    ensures { λ r. ⌜ inverseNormalMatrix radius ≡ reducedBy r (now (m .exit)) ⌝ }
+{
+    *m = normal::normal_matrix(radius);
+    reduce(m)
+}
+
+fn entry(m: &[f64; 72], i: usize) -> f64
     requires { ⌜ i < 72 ⌝ }
     ensures { λ r. ⌜ r ≡ entry (now (m .entry)) i ⌝ }
 {
@@ -116,7 +126,7 @@ fn reduced_column(m: &[f64; 72], col: usize, pivot: usize, out: &mut [f64])
 }
 
 // Reduces the matrix, column after column; false where a pivot is too small.
-pub fn reduce(m: &mut [f64; 72]) -> bool
+fn reduce(m: &mut [f64; 72]) -> bool
     ensures { λ r. ⌜ reduceFrom 6 0 (now (m .entry)) ≡ reducedBy r (now (m .exit)) ⌝ }
 {
     let mut next = [0.0f64; 72];

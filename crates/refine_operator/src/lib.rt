@@ -71,8 +71,8 @@ pub fn fit_columns(radius: usize, columns: &mut [f32; 1125]) -> Operator
     if 7 < radius {
         return Operator::Refused(Refusal::BadRadius);
     }
-    let mut m = normal::normal_matrix(radius);
-    if !inverse::reduce(&mut m) {
+    let mut m = [0.0f64; 72];
+    if !inverse::inverse_of(radius, &mut m) {
         return Operator::Singular;
     }
     rows::fill_columns(radius, &m, columns);
@@ -86,8 +86,8 @@ pub fn fit_overlap(radius: usize, overlap: &mut [f32; 225]) -> Operator
     if 7 < radius {
         return Operator::Refused(Refusal::BadRadius);
     }
-    let mut m = normal::normal_matrix(radius);
-    if !inverse::reduce(&mut m) {
+    let mut m = [0.0f64; 72];
+    if !inverse::inverse_of(radius, &mut m) {
         return Operator::Singular;
     }
     overlap::fill_overlap(radius, &m, overlap);

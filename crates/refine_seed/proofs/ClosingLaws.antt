@@ -1,17 +1,16 @@
--- Laws of a run's end: the estimate by its fields, the three ways of closing, the slope at a pixel along either axis, and what the whole run gives.
-use mathlib.Core.Path.{_≡_, refl, sym, ap, _∙_, subst}
+-- Laws of a run's end: the estimate by its fields, the three ways of closing, the slope at a pixel along either axis, and how far the whole run comes without overlaps.
+use mathlib.Core.Path.{_≡_, refl, sym, ap, _∙_}
 use mathlib.Core.Bool.{Bool, true, false, _&&_, cond}
-use mathlib.Core.List.{List, []}
+use mathlib.Core.List.{List}
 use Prim.Native.Nat.{ℕ, zero, suc, _+_, _-_, _≤_, _<_}
 use native.Mathlib.Omega.{arith}
-use lib.Dec.{ltb}
 use lib.IntN.{ℤ, pos, negsuc, subℕ, _+ℤ_}
 use lib.Ieee.{Float, binary32, ofInt, neg, sub}
 use borrow.Author.Tests.{le-ltb}
 use Rattle.floats.specs.Root.{sqrt}
 use Rattle.floats.specs.Whole.{floor}
 use Rattle.shapes.specs.Numbers.{plusZero, one}
-use Rattle.imageview.specs.Image.{Image, imageOf}
+use Rattle.imageview.specs.Image.{Image}
 use Rattle.imageview.specs.Patch.{inside, supportsPatch}
 use Rattle.imageview.proofs.PatchLaws.{before}
 use Rattle.refine_formulas.specs.declared.PatchSaddle.{PatchSaddle}
@@ -21,7 +20,11 @@ use Rattle.refine_formulas.specs.declared.Jacobian.{Jacobian}
 use Rattle.refine_formulas.specs.declared.Matrix.{Matrix}
 use Rattle.refine_fits.specs.declared.Seed.{Seed}
 use Rattle.refine_seed.specs.declared.Ended.{Ended}
+use Rattle.refine_seed.specs.declared.Ending.{Ending}
 use Rattle.refine_seed.specs.declared.Estimate.{Estimate}
+use Rattle.refine_seed.specs.declared.Opened.{Opened}
+use Rattle.refine_seed.specs.declared.Opened.the-variants.{Open, Done}
+use Rattle.refine_seed.specs.declared.Refined.the-variants.{Accepted}
 use Rattle.refine_formulas.specs.declared.Covariance.{Covariance}
 use Rattle.refine_formulas.specs.declared.Covariance.the-variants.{Unknown}
 use Rattle.refine_formulas.specs.declared.SaddlePointConfig.{SaddlePointConfig}
@@ -35,8 +38,8 @@ use Rattle.refine_seed.specs.Run.{Finish, atStart, runOf, picked, stepsF
 use Rattle.refine_formulas.specs.Solve.{settled}
 use Rattle.refine_formulas.specs.Covariance.{covarianceOf}
 use Rattle.refine_seed.specs.Refine.{single, estimate, closed, closedAt, finished}
-use Rattle.refine_fits.specs.StepsAdding.{Sound, PatchWithin}
-use Rattle.refine_seed.specs.StepsEnding.{Ends, centred, Closes, wayOf, GoesX, GoesY}
+use Rattle.refine_fits.specs.StepsAdding.{PatchWithin}
+use Rattle.refine_seed.specs.StepsEnding.{Ends, centred, closedAs, answerWith, endingOf, ranOut, Opens, wayOf, GoesX, GoesY}
 use Rattle.refine_fits.proofs.CacheLaws.{there, behind}
 use Rattle.refine_fits.proofs.PlaceLaws.{never}
 use Rattle.refine_seed.proofs.StepLaws.{no, yes}
@@ -54,45 +57,33 @@ single-is seed f n score e = ap made e
     made : Float → Estimate
     made z = record { x = ofInt binary32 (pos (seed .«centre_x»)) ⊕ f .ux; y = ofInt binary32 (pos (seed .«centre_y»)) ⊕ f .uy; score = z; converged = false; tries = n; covariance = Unknown }
 
--- ---- closing
-module _ (t : Task) (overlap : List Float) (wanted : Bool) (ox oy tx ty : Float) (f : PatchSaddle) (n : ℕ) (s : Slope) (j : Jacobian) (m : Matrix) (b : Bool) (ej : j ≡ saddleJacobian f) (em : m ≡ sensitivity j s) (eb : b ≡ regular m) (r : Estimate) where
-  matrix : m ≡ sensitivity (saddleJacobian f) s
-  matrix = em ∙ ap (λ (v : Jacobian). sensitivity v s) ej
+-- ---- closing: of the window's place only the fractions are asked
+as-ending : (img : Image) (columns overlap : List Float) (cfg : SaddlePointConfig) (seed : Seed) (wanted : Bool) (ox oy tx ty : Float) (w : WindowPlace) (f : PatchSaddle) (n : ℕ) (s : Slope) → w .tx ≡ tx → w .ty ≡ ty
+    → closed (taskAt img columns cfg seed) overlap wanted ox oy w f n s ≡ closedAs seed overlap wanted (record { ox = ox; oy = oy; tx = tx; ty = ty; fit = f; tries = n; moves = sensitivity (saddleJacobian f) s })
+as-ending img columns overlap cfg seed wanted ox oy tx ty w f n s p q = ap (λ (z : Float). by z (w .ty)) p ∙ ap (λ (z : Float). by tx z) q
+  where
+    by : Float → Float → Estimate
+    by u v = closedAs seed overlap wanted (record { ox = ox; oy = oy; tx = u; ty = v; fit = f; tries = n; moves = sensitivity (saddleJacobian f) s })
 
-  is-regular : (c : Bool) → b ≡ c → regular (sensitivity (saddleJacobian f) s) ≡ c
-  is-regular c h = ap regular (sym matrix) ∙ sym eb ∙ h
+module _ (seed : Seed) (overlap : List Float) (wanted : Bool) (g : Ending) (b : Bool) (eb : b ≡ regular (g .moves)) (r : Estimate) where
+  abbrev ended : Bool → Covariance → Estimate
+  ended c v = estimate (centred seed) (g .ox) (g .oy) (g .fit) c (g .tries) v
+
+  abbrev noise : Covariance
+  noise = covarianceOf overlap (g .tx) (g .ty) (saddleJacobian (g .fit)) (g .moves)
 
   -- the regular way, with whatever stands for the covariance
-  regularly : (v : Covariance) → b ≡ true → r ≡ estimate t ox oy f true n v → ((w : WindowPlace) → tx ≡ w .tx → ty ≡ w .ty → v ≡ cond wanted (covarianceOf overlap (w .tx) (w .ty) (saddleJacobian f) (sensitivity (saddleJacobian f) s)) Unknown) → Closes t overlap wanted ox oy tx ty f n s r
-  regularly v h e k =
-      record {
-        is = λ w p q.
-            e
-            ∙ ap (λ (u : Covariance). estimate t ox oy f true n u) (k w p q)
-            ∙ sym (yes (regular (sensitivity (saddleJacobian f) s)) (estimate t ox oy f true n (cond wanted (covarianceOf overlap (w .tx) (w .ty) (saddleJacobian f) (sensitivity (saddleJacobian f) s)) Unknown)) (estimate t ox oy f false n Unknown) (is-regular true h));
-      }
+  regularly : (v : Covariance) → b ≡ true → r ≡ ended true v → v ≡ cond wanted noise Unknown → r ≡ closedAs seed overlap wanted g
+  regularly v h e k = e ∙ ap (ended true) k ∙ sym (yes (regular (g .moves)) (ended true (cond wanted noise Unknown)) (ended false Unknown) (sym eb ∙ h))
 
-  pub with-noise : (v : Covariance) → b ≡ true → wanted ≡ true → v ≡ covarianceOf overlap tx ty j m → r ≡ estimate t ox oy f true n v → Closes t overlap wanted ox oy tx ty f n s r
-  with-noise v h g e k =
-      regularly v h k
-      (λ w p q.
-      e
-      ∙ ap (λ (u : Float). covarianceOf overlap u ty j m) p
-      ∙ ap (λ (u : Float). covarianceOf overlap (w .tx) u j m) q
-      ∙ ap (λ (u : Jacobian). covarianceOf overlap (w .tx) (w .ty) u m) ej
-      ∙ ap (λ (u : Matrix). covarianceOf overlap (w .tx) (w .ty) (saddleJacobian f) u) matrix
-      ∙ sym (yes wanted (covarianceOf overlap (w .tx) (w .ty) (saddleJacobian f) (sensitivity (saddleJacobian f) s)) Unknown g))
+  pub with-noise : (j : Jacobian) (v : Covariance) → j ≡ saddleJacobian (g .fit) → b ≡ true → wanted ≡ true → v ≡ covarianceOf overlap (g .tx) (g .ty) j (g .moves) → r ≡ ended true v → r ≡ closedAs seed overlap wanted g
+  with-noise j v ej h w e k = regularly v h k (e ∙ ap (λ (u : Jacobian). covarianceOf overlap (g .tx) (g .ty) u (g .moves)) ej ∙ sym (yes wanted noise Unknown w))
 
-  pub without-noise : b ≡ true → wanted ≡ false → r ≡ estimate t ox oy f true n Unknown → Closes t overlap wanted ox oy tx ty f n s r
-  without-noise h g k = regularly Unknown h k (λ w p q. sym (no wanted (covarianceOf overlap (w .tx) (w .ty) (saddleJacobian f) (sensitivity (saddleJacobian f) s)) Unknown g))
+  pub without-noise : b ≡ true → wanted ≡ false → r ≡ ended true Unknown → r ≡ closedAs seed overlap wanted g
+  without-noise h w k = regularly Unknown h k (sym (no wanted noise Unknown w))
 
-  pub irregular : b ≡ false → r ≡ estimate t ox oy f false n Unknown → Closes t overlap wanted ox oy tx ty f n s r
-  irregular h k =
-      record {
-        is = λ w p q.
-            k
-            ∙ sym (no (regular (sensitivity (saddleJacobian f) s)) (estimate t ox oy f true n (cond wanted (covarianceOf overlap (w .tx) (w .ty) (saddleJacobian f) (sensitivity (saddleJacobian f) s)) Unknown)) (estimate t ox oy f false n Unknown) (is-regular false h));
-      }
+  pub irregular : b ≡ false → r ≡ ended false Unknown → r ≡ closedAs seed overlap wanted g
+  irregular h k = k ∙ sym (no (regular (g .moves)) (ended true (cond wanted noise Unknown)) (ended false Unknown) (sym eb ∙ h))
 
 -- ---- the slope at a pixel, along either axis of n pixels
 module _ (fit : ℤ → Fit) (coef : ℕ → List Float) (radius n x : ℕ) (fits : (k : ℕ) → radius ≤ k → k + radius < n → fit (pos k) ≡ fitted (coef k)) (away : (z : ℤ) → inside radius n z ≡ false → fit z ≡ noFit) (low : radius ≤ x) (high : x + radius < n) where
@@ -171,63 +162,81 @@ column w = omega (arith, w .right, w .sound .image .sized .width-most)
 pub row : {img : Image} {radius x y : ℕ} → PatchWithin img radius x y → y < 4096
 row w = omega (arith, w .below, w .sound .image .sized .height-most)
 
--- ---- the whole run
-module _ (img : Image) (columns overlap : List Float) (cfg : SaddlePointConfig) (seed : Seed) (first : PatchSaddle) (wanted : Bool) where
+-- ---- the whole run, but for the overlaps
+module _ (img : Image) (columns : List Float) (cfg : SaddlePointConfig) (seed : Seed) (first : PatchSaddle) where
   abbrev task : Task
   task = taskAt img columns cfg seed
 
-  abbrev whole : Estimate
-  whole = finished task overlap wanted first (runOf task first)
+  abbrev whole : List Float → Bool → Estimate
+  whole overlap wanted = finished task overlap wanted first (runOf task first)
 
   abbrev origin : WindowPlace
   origin = windowPlace (pos (seed .«centre_x»)) (pos (seed .«centre_y»)) plusZero plusZero
 
-  no-fraction : plusZero ≡ origin .tx
+  no-fraction : origin .tx ≡ plusZero
   unfolding windowPlace floor sub
   no-fraction = refl
 
-  no-fraction-y : plusZero ≡ origin .ty
+  no-fraction-y : origin .ty ≡ plusZero
   unfolding windowPlace floor sub
   no-fraction-y = refl
 
-  module _ (ax ay : Sloping) (ex : GoesX img columns (cfg .radius) (seed .«centre_x») (seed .«centre_y») ax) (ey : GoesY img columns (cfg .radius) (seed .«centre_x») (seed .«centre_y») ay) (h : settled first ≡ true) (r : Estimate) where
-    start-is : whole ≡ closedAt task overlap wanted origin first 0 (both (wayOf ax) (wayOf ay))
+  module _ (ax ay : Sloping) (ex : GoesX img columns (cfg .radius) (seed .«centre_x») (seed .«centre_y») ax) (ey : GoesY img columns (cfg .radius) (seed .«centre_x») (seed .«centre_y») ay) (h : settled first ≡ true) where
+    abbrev sloping : List Float → Bool → Along → Along → Estimate
+    sloping overlap wanted a b = closedAt task overlap wanted origin first 0 (both a b)
+
+    start-is : (overlap : List Float) (wanted : Bool) → whole overlap wanted ≡ sloping overlap wanted (wayOf ax) (wayOf ay)
     unfolding runOf slopeAt
-    start-is =
+    start-is overlap wanted =
         let s = searchFrom 4 task first plusZero plusZero (record { x = first .ux; y = first .uy }) one in
         ap (λ (e : Finish). finished task overlap wanted first e) (yes (settled first) (atStart 0) (picked (s .outcome) (λ v. stepsFrom 15 task v (s .count)) (atStart (s .count))) h)
         ∙ yes (settled first) (closedAt task overlap wanted origin first 0 (slopeAt img columns (cfg .radius) (pos (seed .«centre_x»)) (pos (seed .«centre_y»)))) (single task first 0) h
-        ∙ ap (λ (u : Along). closedAt task overlap wanted origin first 0 (both u (along (fitAt img columns (cfg .radius) (pos (seed .«centre_x»)) (pos (seed .«centre_y»))) (fitAt img columns (cfg .radius) (pos (seed .«centre_x»)) (pos (seed .«centre_y») +ℤ pos 1)) (fitAt img columns (cfg .radius) (pos (seed .«centre_x»)) (pos (seed .«centre_y») +ℤ negsuc 0))))) (ex .is)
-        ∙ ap (λ (u : Along). closedAt task overlap wanted origin first 0 (both (wayOf ax) u)) (ey .is)
+        ∙ ap (λ (u : Along). sloping overlap wanted u (along (fitAt img columns (cfg .radius) (pos (seed .«centre_x»)) (pos (seed .«centre_y»))) (fitAt img columns (cfg .radius) (pos (seed .«centre_x»)) (pos (seed .«centre_y») +ℤ pos 1)) (fitAt img columns (cfg .radius) (pos (seed .«centre_x»)) (pos (seed .«centre_y») +ℤ negsuc 0)))) (ex .is)
+        ∙ ap (λ (u : Along). sloping overlap wanted (wayOf ax) u) (ey .is)
 
-    pub with-slope : ax .found ≡ true → ay .found ≡ true → Closes (centred seed) overlap wanted plusZero plusZero plusZero plusZero first 0 (record { x = ax .coefs; y = ay .coefs }) r → r ≡ whole
-    with-slope p q k =
-        k .is origin no-fraction no-fraction-y
-        ∙ sym (start-is
-        ∙ ap (λ (b : Bool). closedAt task overlap wanted origin first 0 (both (cond b (way (ax .coefs)) noWay) (wayOf ay))) p
-        ∙ ap (λ (b : Bool). closedAt task overlap wanted origin first 0 (both (way (ax .coefs)) (cond b (way (ay .coefs)) noWay))) q)
+    -- where the slope along x is found, and that along y is or not
+    found-x : (b : Bool) → ax .found ≡ true → ay .found ≡ b → (overlap : List Float) (wanted : Bool) → whole overlap wanted ≡ sloping overlap wanted (way (ax .coefs)) (cond b (way (ay .coefs)) noWay)
+    found-x b p q overlap wanted =
+        start-is overlap wanted
+        ∙ ap (λ (c : Bool). sloping overlap wanted (cond c (way (ax .coefs)) noWay) (wayOf ay)) p
+        ∙ ap (λ (c : Bool). sloping overlap wanted (way (ax .coefs)) (cond c (way (ay .coefs)) noWay)) q
 
-    pub no-slope-y : ax .found ≡ true → ay .found ≡ false → r ≡ estimate (centred seed) plusZero plusZero first false 0 Unknown → r ≡ whole
-    no-slope-y p q k =
-        k
-        ∙ sym (start-is
-        ∙ ap (λ (b : Bool). closedAt task overlap wanted origin first 0 (both (cond b (way (ax .coefs)) noWay) (wayOf ay))) p
-        ∙ ap (λ (b : Bool). closedAt task overlap wanted origin first 0 (both (way (ax .coefs)) (cond b (way (ay .coefs)) noWay))) q)
+    pub with-slope : (j : Jacobian) (m : Matrix) → ax .found ≡ true → ay .found ≡ true → j ≡ saddleJacobian first → m ≡ sensitivity j (record { x = ax .coefs; y = ay .coefs })
+        → Opens (ranOut task first) seed (Open (record { ox = plusZero; oy = plusZero; tx = plusZero; ty = plusZero; fit = first; tries = 0; moves = m }))
+    with-slope j m p q ej em =
+        record {
+          is = λ overlap wanted.
+              ap Accepted
+              (found-x true p q overlap wanted
+              ∙ as-ending img columns overlap cfg seed wanted plusZero plusZero plusZero plusZero origin first 0 (record { x = ax .coefs; y = ay .coefs }) no-fraction no-fraction-y
+              ∙ ap (λ (v : Matrix). closedAs seed overlap wanted (record { ox = plusZero; oy = plusZero; tx = plusZero; ty = plusZero; fit = first; tries = 0; moves = v }))
+              (sym (em ∙ ap (λ (v : Jacobian). sensitivity v (record { x = ax .coefs; y = ay .coefs })) ej)));
+        }
 
-    pub no-slope-x : ax .found ≡ false → r ≡ estimate (centred seed) plusZero plusZero first false 0 Unknown → r ≡ whole
-    no-slope-x p k = k ∙ sym (start-is ∙ ap (λ (b : Bool). closedAt task overlap wanted origin first 0 (both (cond b (way (ax .coefs)) noWay) (wayOf ay))) p)
+    -- where a slope is missing
+    pub no-slope-y : (r : Opened) → ax .found ≡ true → ay .found ≡ false → r ≡ Done (Accepted (estimate (centred seed) plusZero plusZero first false 0 Unknown)) → Opens (ranOut task first) seed r
+    no-slope-y r p q k = record { is = λ overlap wanted. ap Accepted (found-x false p q overlap wanted) ∙ sym (ap (answerWith seed overlap wanted) k) }
 
-  module _ (e : Ended) (ends : Ends task first e) (r : Estimate) where
-    pub ends-first : e .settled ≡ false → r ≡ single (centred seed) first (e .tries) → r ≡ whole
-    ends-first h k =
-        k
-        ∙ sym (ends .is overlap wanted
-        ∙ no (e .settled) (closed task overlap wanted (e .ox) (e .oy) (windowPlace (pos (seed .«centre_x»)) (pos (seed .«centre_y»)) (e .ox) (e .oy)) (e .fit) (e .tries) (slopeWithin (e .corners) (e .tx) (e .ty))) (single task first (e .tries)) h)
+    pub no-slope-x : (r : Opened) → ax .found ≡ false → r ≡ Done (Accepted (estimate (centred seed) plusZero plusZero first false 0 Unknown)) → Opens (ranOut task first) seed r
+    no-slope-x r p k = record { is = λ overlap wanted. ap Accepted (start-is overlap wanted ∙ ap (λ (b : Bool). sloping overlap wanted (cond b (way (ax .coefs)) noWay) (wayOf ay)) p) ∙ sym (ap (answerWith seed overlap wanted) k) }
 
-    pub ends-closed : (s : Slope) → e .settled ≡ true → s ≡ slopeWithin (e .corners) (e .tx) (e .ty) → Closes (centred seed) overlap wanted (e .ox) (e .oy) (e .tx) (e .ty) (e .fit) (e .tries) s r → r ≡ whole
-    ends-closed s h g k =
-        let w : WindowPlace = windowPlace (pos (seed .«centre_x»)) (pos (seed .«centre_y»)) (e .ox) (e .oy) in
-        k .is w (ends .tx h) (ends .ty h)
-        ∙ ap (λ (v : Slope). closed task overlap wanted (e .ox) (e .oy) w (e .fit) (e .tries) v) g
-        ∙ sym (ends .is overlap wanted
-        ∙ yes (e .settled) (closed task overlap wanted (e .ox) (e .oy) w (e .fit) (e .tries) (slopeWithin (e .corners) (e .tx) (e .ty))) (single task first (e .tries)) h)
+  module _ (e : Ended) (ends : Ends task first e) where
+    abbrev there-at : WindowPlace
+    there-at = windowPlace (pos (seed .«centre_x»)) (pos (seed .«centre_y»)) (e .ox) (e .oy)
+
+    abbrev closed-there : List Float → Bool → Estimate
+    closed-there overlap wanted = closed task overlap wanted (e .ox) (e .oy) there-at (e .fit) (e .tries) (slopeWithin (e .corners) (e .tx) (e .ty))
+
+    pub ends-first : (r : Estimate) → e .settled ≡ false → r ≡ single (centred seed) first (e .tries) → Opens (ranOut task first) seed (Done (Accepted r))
+    ends-first r h k = record { is = λ overlap wanted. ap Accepted (ends .is overlap wanted ∙ no (e .settled) (closed-there overlap wanted) (single task first (e .tries)) h ∙ sym k) }
+
+    pub ends-open : (g : Ending) → e .settled ≡ true → g ≡ endingOf e → Opens (ranOut task first) seed (Open g)
+    ends-open g h k =
+        record {
+          is = λ overlap wanted.
+              ap Accepted
+              (ends .is overlap wanted
+              ∙ yes (e .settled) (closed-there overlap wanted) (single task first (e .tries)) h
+              ∙ as-ending img columns overlap cfg seed wanted (e .ox) (e .oy) (e .tx) (e .ty) there-at (e .fit) (e .tries) (slopeWithin (e .corners) (e .tx) (e .ty)) (sym (ends .tx h)) (sym (ends .ty h))
+              ∙ ap (λ (v : Ending). closedAs seed overlap wanted v) (sym k));
+        }

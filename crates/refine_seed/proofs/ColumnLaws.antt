@@ -1,7 +1,7 @@
 -- Two tasks whose fits are the same entry every pixel run alike. A fit reads the first columns of an operator and no more, so two operators that agree there refine alike.
 use mathlib.Core.Path.{_≡_, refl, sym, ap, _∙_, subst}
-use mathlib.Core.Bool.{Bool, true, false, cond}
-use mathlib.Core.List.{List, [], _++_}
+use mathlib.Core.Bool.{Bool, cond}
+use mathlib.Core.List.{List, _++_}
 use Prim.Native.Nat.{ℕ, zero, suc, _+_, _*_, _/_, _<_}
 use native.Mathlib.Omega.{arith}
 use lib.IntN.{ℤ, pos, negsuc, _+ℤ_}
@@ -16,7 +16,7 @@ use Rattle.refine_operator.specs.declared.Operator.{Operator}
 use Rattle.refine_operator.specs.declared.Operator.the-variants as Answer
 use Rattle.shapes.proofs.ListLaws.{tabulated-cong}
 use Rattle.shapes.proofs.TurnLaws.{turns-cong}
-use Rattle.refine_operator.proofs.CallLaws.{built-length, with-overlap}
+use Rattle.refine_operator.proofs.CallLaws.{built-length}
 use Rattle.refine_formulas.specs.declared.SaddlePointConfig.{SaddlePointConfig}
 use Rattle.refine_formulas.specs.declared.PatchSaddle.{PatchSaddle}
 use Rattle.refine_formulas.specs.declared.Move.{Move}
@@ -37,7 +37,7 @@ use Rattle.refine_formulas.specs.Between.{blend}
 use Rattle.refine_seed.specs.PixelSlope.{Sloped, noSlope, sloped, along, both, slopeAt}
 use Rattle.refine_fits.specs.Candidate.{Task, nearSeed, Stand, Tried, passed, taken, judged, weighed, candidate, taskAt}
 use Rattle.refine_seed.specs.Run.{Search, orElse, searchFrom, Finish, atStart, atStand, picked, laterMove, stepsFrom, runOf}
-use Rattle.refine_seed.specs.Refine.{single, closed, closedAt, finished, fromSaddle, refineWith, withOperator}
+use Rattle.refine_seed.specs.Refine.{single, closedAt, finished, fromSaddle, refineWith, withOperator}
 
 -- ---- two images and two operators that give the same fit entry every pixel
 abbrev pub SameFits : Image → Image → List Float → List Float → ℕ → Type 0
@@ -224,36 +224,3 @@ module _ (img : Image) (cfg : SaddlePointConfig) (seed : Seed) (wanted : Bool) w
 
   pub fresh-refused : (old overlap columns' overlap' : List Float) (r : Operator) (f : Refusal) → Operator.Done (cfg .radius) old overlap r columns' overlap' → r ≡ Answer.Refused f → Refined.Refused f ≡ withOperator img cfg seed wanted (Operator.wayOf (cfg .radius))
   fresh-refused old overlap columns' overlap' r f d e = refused-way (Operator.wayOf (cfg .radius)) f (sym (d .answers) ∙ e)
-
--- ---- where no covariance is wanted, the overlaps are not read
-module _ (t : Task) (o p : List Float) where
-  closed-unwanted : (w : WindowPlace) (f : PatchSaddle) (n : ℕ) (s : Sloped) → closedAt t o false w f n s ≡ closedAt t p false w f n s
-  closed-unwanted w f n noSlope = refl
-  closed-unwanted w f n (sloped s) = refl
-
-  finished-unwanted : (f : PatchSaddle) (e : Finish) → finished t o false f e ≡ finished t p false f e
-  finished-unwanted f (atStart n) = ap (λ (z : Estimate). cond (settled f) z (single t f n)) (closed-unwanted _ f n (slopeAt (t .img) (t .columns) (t .cfg .radius) (t .centreX) (t .centreY)))
-  finished-unwanted f (atStand s n) = refl
-
-  from-unwanted : (s : Solved) → fromSaddle t o false s ≡ fromSaddle t p false s
-  from-unwanted (Refused flaw det) = refl
-  from-unwanted (Saddle f) = ap (λ (z : Estimate). cond (nearSeed t (f .ux) (f .uy)) (Accepted z) (Unmoved Rejected (f .«det_h»))) (finished-unwanted f (runOf t f))
-
-pub unwanted : (img : Image) (cfg : SaddlePointConfig) (seed : Seed) (columns o p : List Float) → refineWith img cfg seed false columns o ≡ refineWith img cfg seed false columns p
-unwanted img cfg seed columns o p =
-    from-unwanted (taskAt img columns cfg seed) o p (solve cfg (coefficients img columns (cfg .radius) (seed .«centre_x») (seed .«centre_y»)))
-
--- ---- with the columns built, and the overlaps where they are wanted
-module _ (img : Image) (cfg : SaddlePointConfig) (seed : Seed) (wanted : Bool) (old columns' overlap' : List Float) (r : Operator) (built : Operator.ColumnsDone (cfg .radius) old r columns') (e : r ≡ Answer.Built) where
-  pub fresh-wanted : (overlap last : List Float) (q : Operator) → Operator.OverlapDone (cfg .radius) overlap q last → overlap' ≡ last
-      → refineWith img cfg seed wanted columns' overlap' ≡ withOperator img cfg seed wanted (Operator.wayOf (cfg .radius))
-  fresh-wanted overlap last q o p =
-      ap (λ (z : List Float). refineWith img cfg seed wanted columns' z) p
-      ∙ fresh-built img cfg seed wanted old overlap columns' last r (record { answers = built .answers; leaves-columns = built .leaves; leaves-overlap = o .leaves }) e
-
-  pub fresh-unwanted : wanted ≡ false → refineWith img cfg seed wanted columns' overlap' ≡ withOperator img cfg seed wanted (Operator.wayOf (cfg .radius))
-  fresh-unwanted p =
-      ap (λ (w : Bool). refineWith img cfg seed w columns' overlap') p
-      ∙ unwanted img cfg seed columns' overlap' (Operator.overlapAfter [] (Operator.wayOf (cfg .radius)))
-      ∙ ap (λ (w : Bool). refineWith img cfg seed w columns' (Operator.overlapAfter [] (Operator.wayOf (cfg .radius)))) (sym p)
-      ∙ fresh-built img cfg seed wanted old [] columns' _ r (with-overlap (cfg .radius) old [] columns' r built) e

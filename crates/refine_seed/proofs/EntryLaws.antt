@@ -2,14 +2,13 @@
 use mathlib.Core.Path.{_≡_, refl, sym, ap, _∙_, subst}
 use mathlib.Core.Bool.{Bool, true, false, _&&_, not, cond, and-eq-true-iff}
 use mathlib.Core.List.{List}
-use Prim.Native.Nat.{ℕ, _+_, _^_, _≤_, _<_}
+use Prim.Native.Nat.{ℕ, _+_, _≤_, _<_}
 use native.Mathlib.Omega.{arith}
 use lib.Dec.{T, leb, ltb}
 use lib.IntN.{ℤ, pos, negsuc, natAbs}
 use lib.Signed.{nonNeg}
-use lib.Ieee.{Float, binary32, toSigned, lt}
+use lib.Ieee.{Float, binary32, toSigned}
 use lib.Ieee.Casts.{toSigned-in}
-use lib.Ieee.Scale.{finite}
 use mir.Syntax.{w32, w64}
 use mir.Val.{SFits, Fits, toZ, ofZ}
 use mir.ValLaws.{toZ-ofZ}
@@ -37,7 +36,7 @@ use Rattle.refine_formulas.specs.Solve.{solve}
 use Rattle.refine_fits.specs.Candidate.{Task, nearAlong, nearSeed, taskAt}
 use Rattle.refine_seed.specs.Run.{runOf}
 use Rattle.refine_seed.specs.Refine.{goodLimits, isPlace, centreOf, seedOf, admitOf, answered, finished, fromSaddle, refineWith, lentWith, refineLent, withOperator, refineOf}
-use Rattle.refine_fits.specs.StepsAdding.{Sound, PatchWithin}
+use Rattle.refine_fits.specs.StepsAdding.{PatchWithin}
 use Rattle.refine_seed.proofs.StepLaws.{no, yes, differs}
 
 -- ---- a centre inside
@@ -148,7 +147,7 @@ module _ (img : Image) (cfg : SaddlePointConfig) (x y : Float) where
 
 -- ---- the first fit
 module _ (img : Image) (columns overlap : List Float) (cfg : SaddlePointConfig) (seed : Seed) (wanted : Bool) (here coef : List Float) (s : Solved) (fit : here ≡ coef) (solved : s ≡ solve cfg here) where
-  abbrev near : PatchSaddle → Bool
+  abbrev pub near : PatchSaddle → Bool
   near f = nearAlong cfg (pos (seed .«centre_x»)) (f .ux) (seed .x) && nearAlong cfg (pos (seed .«centre_y»)) (f .uy) (seed .y)
 
   abbrev task : Task

@@ -208,18 +208,14 @@ module _ (t : Task) (first : PatchSaddle) where
                 ∙ ap (λ (v : Float). newtonStep (sensitivity (saddleJacobian (c .fit)) (slopeWithin corners (stand .place .tx) v)) (c .fit)) window-ty
 
 -- a cache of none
-pub none-kept : (fits : IntegerFits) → Shaped fits → fits .len ≡ 0 → fits .«base_x» ≡ 8192 → Fresh fits
-none-kept fits s e b =
+pub none-kept : (fits : IntegerFits) → Shaped fits → fits .len ≡ 0 → Fresh fits
+none-kept fits s e =
     record {
       kept = λ img columns radius. record {
         sized = s;
         fresh = λ slot h g. absurd (no-slot slot (subst (λ (k : ℕ). slot < k) e g));
-        about = λ h. absurd (no-base (subst (λ (k : ℕ). k < 8192) b h));
       };
     }
   where
     no-slot : (slot : ℕ) → slot < 0 → ⊥
     no-slot slot h = omega arith
-
-    no-base : 8192 < 8192 → ⊥
-    no-base h = omega arith

@@ -1,6 +1,10 @@
-// The end of a run: the estimate, whether it converged, and its covariance where that is wanted.
+// The end of a run, in two halves: all that the columns decide, and then the estimate with its covariance where that is wanted. Only the second asks for overlaps, so that
+// columns and overlaps need not stand in one stack.
 use super::Ended;
+use super::Ending;
 use super::Estimate;
+use super::Opened;
+use super::Refined;
 use super::Sloping;
 use crate::steps;
 use imageview::Sizes;
@@ -15,19 +19,20 @@ use refine_formulas::noise;
 use refine_formulas::sensitivity;
 use refine_formulas::solve;
 ghost use mathlib.Core.Path.{_≡_};
-ghost use mathlib.Core.Bool.{true};
-ghost use Prim.Native.Nat.{_<_, _≤_};
-ghost use lib.IntN.{pos};
+ghost use mathlib.Core.Bool.{true, false};
+ghost use Prim.Native.Nat.{_<_};
 ghost use Rattle.imageview.specs.Image.{imageOf};
 ghost use Rattle.refine_fits.specs.Fit.{coefficients};
-ghost use Rattle.refine_seed.specs.Run.{runOf};
 ghost use Rattle.refine_fits.specs.Candidate.{taskAt};
-ghost use Rattle.refine_formulas.specs.Sensitivity as Sensitivity;
 ghost use Rattle.refine_formulas.specs.Solve as Solve;
-ghost use Rattle.refine_seed.specs.Refine.{single, finished};
+ghost use Rattle.refine_seed.specs.Refine.{single};
 ghost use Rattle.refine_seed.specs.Refine as Refine;
-ghost use Rattle.refine_fits.specs.StepsAdding.{Sound, PatchWithin};
-ghost use Rattle.refine_seed.specs.StepsEnding.{centred, Closes, GoesX, GoesY};
+ghost use Rattle.refine_seed.specs.declared.Opened.the-variants.{Done};
+ghost use Rattle.refine_seed.specs.declared.Refined.the-variants.{Accepted};
+ghost use Rattle.refine_formulas.specs.declared.Covariance.the-variants.{Unknown};
+ghost use Rattle.shapes.specs.Numbers.{plusZero};
+ghost use Rattle.refine_fits.specs.StepsAdding.{PatchWithin};
+ghost use Rattle.refine_seed.specs.StepsEnding.{centred, closedAs, endingOf, ranOut, Opens, GoesX, GoesY};
 
 // The first fit, where the steps did not settle.
 fn single_at(seed: Seed, f: PatchSaddle, tries: u32) -> Estimate
@@ -66,32 +71,21 @@ fn estimate_at(
     }
 }
 
-// With the slope there: converged where the window sensitivity is regular.
-fn closed(
-    seed: Seed,
-    overlap: &[f32; 225],
-    wanted: bool,
-    ox: f32,
-    oy: f32,
-    tx: f32,
-    ty: f32,
-    f: PatchSaddle,
-    tries: u32,
-    slope: Slope,
-) -> Estimate
+// The estimate of an ending: converged where the window sensitivity is regular.
+pub fn closed(seed: Seed, overlap: &[f32; 225], wanted: bool, g: Ending) -> Estimate
     requires { ⌜ (seed .«centre_x» < 4096) × (seed .«centre_y» < 4096) ⌝ }
-    ensures { λ r. ⌜ Closes (centred seed) (now (overlap .entry)) wanted ox oy tx ty f tries slope r ⌝ }
+    ensures { λ r. ⌜ r ≡ closedAs seed (now (overlap .entry)) wanted g ⌝ }
 {
-    let j = sensitivity::saddle_jacobian(f);
-    let m = sensitivity::sensitivity(j, slope);
+    let f = g.fit;
+    let m = g.moves;
     if sensitivity::regular(m) {
         if wanted {
-            let v = noise::covariance(overlap, tx, ty, j, m);
-            return estimate_at(seed, ox, oy, f, true, tries, v);
+            let v = noise::covariance(overlap, g.tx, g.ty, sensitivity::saddle_jacobian(f), m);
+            return estimate_at(seed, g.ox, g.oy, f, true, g.tries, v);
         }
-        return estimate_at(seed, ox, oy, f, true, tries, Covariance::Unknown);
+        return estimate_at(seed, g.ox, g.oy, f, true, g.tries, Covariance::Unknown);
     }
-    estimate_at(seed, ox, oy, f, false, tries, Covariance::Unknown)
+    estimate_at(seed, g.ox, g.oy, f, false, g.tries, Covariance::Unknown)
 }
 
 // The slope along x at a pixel, from the next fit, or from the one before where the next leaves the image.
@@ -164,15 +158,13 @@ fn at_centre(
     img: &[u8],
     sizes: Sizes,
     columns: &[f32; 1125],
-    overlap: &[f32; 225],
     cfg: SaddlePointConfig,
     seed: Seed,
     here: [f32; 5],
     first: PatchSaddle,
-    wanted: bool,
-) -> Estimate
+) -> Opened
     requires { ⌜ PatchWithin (imageOf (now img) sizes) (cfg .radius) (seed .«centre_x») (seed .«centre_y») ⌝ ∗ ⌜ here ≡ coefficients (imageOf (now img) sizes) (now columns) (cfg .radius) (seed .«centre_x») (seed .«centre_y») ⌝ ∗ ⌜ Solve.settled first ≡ true ⌝ }
-    ensures { λ r. ⌜ r ≡ finished (taskAt (imageOf (now (img .entry)) sizes) (now (columns .entry)) cfg seed) (now (overlap .entry)) wanted first (runOf (taskAt (imageOf (now (img .entry)) sizes) (now (columns .entry)) cfg seed) first) ⌝ }
+    ensures { λ r. ⌜ Opens (ranOut (taskAt (imageOf (now (img .entry)) sizes) (now (columns .entry)) cfg seed) first) seed r ⌝ }
 {
     let radius = cfg.radius;
     let cx = seed.centre_x;
@@ -183,57 +175,72 @@ fn at_centre(
         if ay.found {
             let x = ax.coefs;
             let y = ay.coefs;
-            let slope = Slope { x, y };
-            return closed(seed, overlap, wanted, 0.0, 0.0, 0.0, 0.0, first, 0, slope);
+            let moves = sensitivity::sensitivity(
+                sensitivity::saddle_jacobian(first),
+                Slope { x, y },
+            );
+            return Opened::Open(Ending {
+                ox: 0.0,
+                oy: 0.0,
+                tx: 0.0,
+                ty: 0.0,
+                fit: first,
+                tries: 0,
+                moves,
+            });
         }
-        return estimate_at(seed, 0.0, 0.0, first, false, 0, Covariance::Unknown);
+        return unsloped(seed, first);
     }
-    estimate_at(seed, 0.0, 0.0, first, false, 0, Covariance::Unknown)
+    unsloped(seed, first)
+}
+
+// Without a slope: not converged.
+fn unsloped(seed: Seed, first: PatchSaddle) -> Opened
+    requires { ⌜ (seed .«centre_x» < 4096) × (seed .«centre_y» < 4096) ⌝ }
+    ensures { λ r. ⌜ r ≡ Done (Accepted (Refine.estimate (centred seed) plusZero plusZero first false 0 Unknown)) ⌝ }
+{
+    let none = Covariance::Unknown;
+    Opened::Done(Refined::Accepted(estimate_at(seed, 0.0, 0.0, first, false, 0, none)))
 }
 
 // Where the steps settled: the slope is that of the window between pixels.
-fn at_window(seed: Seed, overlap: &[f32; 225], wanted: bool, e: Ended) -> Estimate
-    requires { ⌜ (seed .«centre_x» < 4096) × (seed .«centre_y» < 4096) ⌝ }
-    ensures { λ r. ⌜ Closes (centred seed) (now (overlap .entry)) wanted (e .ox) (e .oy) (e .tx) (e .ty) (e .fit) (e .tries) (Sensitivity.slopeWithin (e .corners) (e .tx) (e .ty)) r ⌝ }
+fn at_window(e: Ended) -> Ending
+    ensures { λ r. ⌜ r ≡ endingOf e ⌝ }
 {
     let corners = e.corners;
     let fit = e.fit;
     let slope = between::slope_within(corners, e.tx, e.ty);
-    closed(
-        seed,
-        overlap,
-        wanted,
-        e.ox,
-        e.oy,
-        e.tx,
-        e.ty,
+    let moves = sensitivity::sensitivity(sensitivity::saddle_jacobian(fit), slope);
+    Ending {
+        ox: e.ox,
+        oy: e.oy,
+        tx: e.tx,
+        ty: e.ty,
         fit,
-        e.tries,
-        slope,
-    )
+        tries: e.tries,
+        moves,
+    }
 }
 
 // From the first fit, whose saddle is `first`.
-pub fn estimate(
+pub fn opened(
     img: &[u8],
     sizes: Sizes,
     columns: &[f32; 1125],
-    overlap: &[f32; 225],
     cfg: SaddlePointConfig,
     seed: Seed,
     here: [f32; 5],
     first: PatchSaddle,
-    wanted: bool,
-) -> Estimate
+) -> Opened
     requires { ⌜ PatchWithin (imageOf (now img) sizes) (cfg .radius) (seed .«centre_x») (seed .«centre_y») ⌝ ∗ ⌜ here ≡ coefficients (imageOf (now img) sizes) (now columns) (cfg .radius) (seed .«centre_x») (seed .«centre_y») ⌝ }
-    ensures { λ r. ⌜ r ≡ finished (taskAt (imageOf (now (img .entry)) sizes) (now (columns .entry)) cfg seed) (now (overlap .entry)) wanted first (runOf (taskAt (imageOf (now (img .entry)) sizes) (now (columns .entry)) cfg seed) first) ⌝ }
+    ensures { λ r. ⌜ Opens (ranOut (taskAt (imageOf (now (img .entry)) sizes) (now (columns .entry)) cfg seed) first) seed r ⌝ }
 {
     if solve::settled(first) {
-        return at_centre(img, sizes, columns, overlap, cfg, seed, here, first, wanted);
+        return at_centre(img, sizes, columns, cfg, seed, here, first);
     }
     let e = steps::run(img, sizes, columns, cfg, seed, first);
     if e.settled {
-        return at_window(seed, overlap, wanted, e);
+        return Opened::Open(at_window(e));
     }
-    single_at(seed, first, e.tries)
+    Opened::Done(Refined::Accepted(single_at(seed, first, e.tries)))
 }

@@ -1,5 +1,8 @@
 // One seed: its tests in their order, the first fit, and what follows from it.
 use super::Admitted;
+use super::Ending;
+use super::Estimate;
+use super::Opened;
 use super::Refined;
 use super::Why;
 use crate::closing;
@@ -18,7 +21,9 @@ ghost use Rattle.imageview.specs.Image.{imageOf};
 ghost use Rattle.refine_formulas.specs.Solve.{goodLimit};
 ghost use Rattle.refine_seed.specs.Refine.{goodLimits, isPlace, flawNumber, whyNumber, oldNumber, admitOf, refineWith, withOperator, lentWith, refineLent, refineOf};
 ghost use Rattle.refine_fits.specs.StepsAdding.{PatchWithin};
+ghost use Rattle.refine_seed.specs.StepsEnding.{Opens, OpensFresh, ClosesFresh};
 ghost use Rattle.refine_operator.specs.Call.{wayOf};
+ghost use Prim.Native.Nat.{_<_};
 
 // The refiner of one seed with an operator that is lent.
 pub fn refine_with(
@@ -60,7 +65,7 @@ pub fn refine(
     }
 }
 
-// A seed that passed the tests, with the operator of the settings' radius; at radius 0 there is none. Overlaps serve the covariance alone.
+// A seed that passed the tests, with the operator of the settings' radius.
 fn refine_fresh(
     img: &[u8],
     sizes: Sizes,
@@ -71,17 +76,37 @@ fn refine_fresh(
     requires { ⌜ PatchWithin (imageOf (now img) sizes) (cfg .radius) (seed .«centre_x») (seed .«centre_y») ⌝ }
     ensures { λ r. ⌜ r ≡ withOperator (imageOf (now (img .entry)) sizes) cfg seed wanted (wayOf (cfg .radius)) ⌝ }
 {
+    let opened = open_fresh(img, sizes, cfg, seed);
+    match opened {
+        Opened::Open(g) => Refined::Accepted(close_fresh(cfg.radius, seed, wanted, g)),
+        Opened::Done(answer) => answer,
+    }
+}
+
+// As far as the columns go; at radius 0 there is no operator.
+fn open_fresh(img: &[u8], sizes: Sizes, cfg: SaddlePointConfig, seed: Seed) -> Opened
+    requires { ⌜ PatchWithin (imageOf (now img) sizes) (cfg .radius) (seed .«centre_x») (seed .«centre_y») ⌝ }
+    ensures { λ r. ⌜ OpensFresh (imageOf (now (img .entry)) sizes) cfg seed r ⌝ }
+{
     let mut columns = [0.0f32; 1125];
-    let mut overlap = [0.0f32; 225];
     let operator = refine_operator::fit_columns(cfg.radius, &mut columns);
-    if wanted {
-        refine_operator::fit_overlap(cfg.radius, &mut overlap);
-    }
     match operator {
-        Operator::Built => refine_seed(img, sizes, cfg, seed, wanted, &columns, &overlap),
-        Operator::Singular => Refined::Unmoved(Why::IllConditioned, 0.0),
-        Operator::Refused(refusal) => Refined::Refused(refusal),
+        Operator::Built => open_seed(img, sizes, cfg, seed, &columns),
+        Operator::Singular => Opened::Done(Refined::Unmoved(Why::IllConditioned, 0.0)),
+        Operator::Refused(refusal) => Opened::Done(Refined::Refused(refusal)),
     }
+}
+
+// An ending, with the overlaps where a covariance is wanted.
+fn close_fresh(radius: usize, seed: Seed, wanted: bool, g: Ending) -> Estimate
+    requires { ⌜ (seed .«centre_x» < 4096) × (seed .«centre_y» < 4096) ⌝ }
+    ensures { λ r. ⌜ ClosesFresh radius seed wanted g r ⌝ }
+{
+    let mut overlap = [0.0f32; 225];
+    if wanted {
+        refine_operator::fit_overlap(radius, &mut overlap);
+    }
+    closing::closed(seed, &overlap, wanted, g)
 }
 
 // The number of a reason.
@@ -197,21 +222,23 @@ fn refine_lent(
     if cfg.radius == 0 {
         return Refined::Unmoved(Why::IllConditioned, 0.0);
     }
-    refine_seed(img, sizes, cfg, seed, wanted, columns, overlap)
+    let opened = open_seed(img, sizes, cfg, seed, columns);
+    match opened {
+        Opened::Open(g) => Refined::Accepted(closing::closed(seed, overlap, wanted, g)),
+        Opened::Done(answer) => answer,
+    }
 }
 
 // A seed that passed the tests: the first fit decides acceptance.
-fn refine_seed(
+fn open_seed(
     img: &[u8],
     sizes: Sizes,
     cfg: SaddlePointConfig,
     seed: Seed,
-    wanted: bool,
     columns: &[f32; 1125],
-    overlap: &[f32; 225],
-) -> Refined
+) -> Opened
     requires { ⌜ PatchWithin (imageOf (now img) sizes) (cfg .radius) (seed .«centre_x») (seed .«centre_y») ⌝ }
-    ensures { λ r. ⌜ r ≡ refineWith (imageOf (now (img .entry)) sizes) cfg seed wanted (now (columns .entry)) (now (overlap .entry)) ⌝ }
+    ensures { λ r. ⌜ Opens (λ overlap wanted. refineWith (imageOf (now (img .entry)) sizes) cfg seed wanted (now (columns .entry)) overlap) seed r ⌝ }
 {
     let radius = cfg.radius;
     let cx = seed.centre_x;
@@ -219,22 +246,12 @@ fn refine_seed(
     let here = fits::fit_patch(img, sizes, cx, cy, radius, columns);
     let solved = solve::solve(cfg, here);
     match solved {
-        Solved::Refused(flaw, det) => Refined::Unmoved(Why::Flawed(flaw), det),
+        Solved::Refused(flaw, det) => Opened::Done(Refined::Unmoved(Why::Flawed(flaw), det)),
         Solved::Saddle(f) => {
             if tries::near_seed(cfg, seed, f.ux, f.uy) {
-                return Refined::Accepted(closing::estimate(
-                    img,
-                    sizes,
-                    columns,
-                    overlap,
-                    cfg,
-                    seed,
-                    here,
-                    f,
-                    wanted,
-                ));
+                return closing::opened(img, sizes, columns, cfg, seed, here, f);
             }
-            Refined::Unmoved(Why::Rejected, f.det_h)
+            Opened::Done(Refined::Unmoved(Why::Rejected, f.det_h))
         }
     }
 }

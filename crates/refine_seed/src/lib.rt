@@ -3,6 +3,7 @@ use refine_fits::Seed;
 use refine_formulas::Corners;
 use refine_formulas::Covariance;
 use refine_formulas::Flaw;
+use refine_formulas::Matrix;
 use refine_formulas::PatchSaddle;
 use refusals::Refusal;
 
@@ -64,6 +65,17 @@ pub struct Estimate {
     pub covariance: Covariance,
 }
 
+// A run that settled, with the window sensitivity there: all of its estimate but the covariance, which alone asks for the operator's overlaps.
+pub struct Ending {
+    pub ox: f32,
+    pub oy: f32,
+    pub tx: f32,
+    pub ty: f32,
+    pub fit: PatchSaddle,
+    pub tries: u32,
+    pub moves: Matrix,
+}
+
 // Why a seed stays where it is, by the Rust's names; that a coordinate is no finite number, and why a fit is refused, are ours. IllConditioned: there is no operator.
 pub enum Why {
     Rejected,
@@ -78,6 +90,12 @@ pub enum Refined {
     Accepted(Estimate),
     Unmoved(Why, f32),
     Refused(Refusal),
+}
+
+// How far a seed comes without the overlaps: to an ending, or to its answer.
+pub enum Opened {
+    Open(Ending),
+    Done(Refined),
 }
 
 // Where a seed was refined to, if it was accepted.

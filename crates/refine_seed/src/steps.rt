@@ -32,19 +32,10 @@ ghost use Rattle.refine_seed.specs.StepsEnding.{Ends};
 fn no_fits() -> IntegerFits
     ensures { λ r. ⌜ Fresh r ⌝ }
 {
-    let none = [0.0f32; 5];
     IntegerFits {
         centres: [0u16; 18],
         coefs: [0.0f32; 45],
         len: 0,
-        corners: Corners {
-            c00: none,
-            c10: none,
-            c01: none,
-            c11: none,
-        },
-        base_x: 8192,
-        base_y: 0,
     }
 }
 
@@ -175,6 +166,5 @@ pub fn run(
             step = halved(step);
         }
     }
-    let corners = fits.corners;
-    not_settled(tries, fit, corners)
+    not_settled(tries, fit, laid::corners_at(&flat, 0))
 }

@@ -187,17 +187,20 @@ loop-again-2 c =
     subst (Stays t (a .first) (k .before .before .before .if2 .fits) (k .before .before .before .before .before .ready .result .bases) (k .before .before .before .if2 .flat) (l .fit) (l .tries + 1)) (sym (c .halved .ensures))
     (passes t (a .first) (l .fits) (l .bases) (l .flat) (l .fit) (l .step .ox) (l .step .oy) (record { x = l .step .x; y = l .step .y }) (l .step .scale) (l .step .halvings) (l .step .left) (l .tries) (k .candidate .result) (w .result) (k .before .corners-at .result) (w .ensures) (tried k) (k .before .before .before .if2 .fits) (k .before .before .before .before .before .ready .result .bases) (k .before .before .before .if2 .flat) (kept (k .before .before .before)) (ready (k .before .before .before) .held) (l .inv) (c .before .before .before .before .before .before .before .before .before .before .before .before .before .before .if1 .taken) (c .before .if3 .left))
 
+corners-at-requires-2 : tie.Need-corners-at-requires-2 Inv-loop μ-loop
+corners-at-requires-2 c κs = omega arith
+
 not-settled-requires-2 : tie.Need-not-settled-requires-2 Inv-loop μ-loop
 not-settled-requires-2 c κs = tt
 
 returns-3 : tie.Need-returns-3 Inv-loop μ-loop
 returns-3 c =
-    let a = c .before .before .before .before .before .before .before .before .before .args in
-    let l = c .before .before .before .before .loop in
+    let a = c .before .before .before .before .before .before .before .before .before .before .args in
+    let l = c .before .before .before .before .before .loop in
     let t = taskAt (imageOf (a .img .now) (a .sizes)) (a .columns .now) (a .cfg) (a .seed) in
     unsettled t (a .first) _ (c .not-settled2 .ensures .0)
     (λ overlap wanted.
-    runs-out t (a .first) (l .fits) (l .bases) (l .flat) (l .fit) (l .step .ox) (l .step .oy) (record { x = l .step .x; y = l .step .y }) (l .step .scale) (l .step .halvings) (l .step .left) (l .tries) (l .inv) (let e : l .step .halvings ≡ 0 = omega (arith, c .before .before .if1 .left) in e) overlap wanted
+    runs-out t (a .first) (l .fits) (l .bases) (l .flat) (l .fit) (l .step .ox) (l .step .oy) (record { x = l .step .x; y = l .step .y }) (l .step .scale) (l .step .halvings) (l .step .left) (l .tries) (l .inv) (let e : l .step .halvings ≡ 0 = omega (arith, c .before .before .before .if1 .left) in e) overlap wanted
     ∙ ap (single t (a .first)) (sym (c .not-settled2 .ensures .1)))
 
 pub run-spec : {M : Type 1} → statement M
@@ -229,5 +232,6 @@ run-spec =
     halved-requires
     loop-less-2
     loop-again-2
+    corners-at-requires-2
     not-settled-requires-2
     returns-3)

@@ -1,12 +1,10 @@
--- `refine_seed::closing::estimate` meets its contract: settled at the start, settled at a window, or not.
+-- `refine_seed::closing::opened` meets its contract: settled at the start, settled at a window, or not.
 use borrow.Author.Needs.{needs}
-use mathlib.Core.Path.{_≡_, refl, sym, _∙_}
-use mathlib.Core.Bool.{true, false}
-use Prim.Native.Nat.{_<_}
+use mathlib.Core.Path.{sym, _∙_}
 use Rattle.imageview.specs.Image.{imageOf}
-use Rattle.refine_seed.proofs.ClosingLaws.{column, row, ends-first, ends-closed}
-use Rattle.refine_seed.proofs.closing.estimate.Statement.{statement}
-use Rattle.refine_seed.proofs.closing.estimate.Tie as tie
+use Rattle.refine_seed.proofs.ClosingLaws.{column, row, ends-first, ends-open}
+use Rattle.refine_seed.proofs.closing.opened.Statement.{statement}
+use Rattle.refine_seed.proofs.closing.opened.Tie as tie
 
 settled-requires : tie.Need-settled-requires
 settled-requires c κs = search needs
@@ -25,12 +23,12 @@ run-requires c κs =
     (s .pre .0 .sound, ((column (s .pre .0), row (s .pre .0)), sym (c .before .settled .ensures) ∙ c .if1 .left))
 
 at-window-requires : tie.Need-at-window-requires
-at-window-requires c κs = (column (c .before .before .before .before .before .pre .0), row (c .before .before .before .before .before .pre .0))
+at-window-requires c κs = search needs
 
 returns-2 : tie.Need-returns-2
 returns-2 c =
     let a = c .before .before .before .before .before .before .args in
-    ends-closed (imageOf (a .img .now) (a .sizes)) (a .columns .now) (a .overlap .now) (a .cfg) (a .seed) (a .first) (a .wanted) (c .before .before .run .result) (c .before .before .run .ensures) (c .at-window .result) _ (c .before .if2 .taken) refl (c .at-window .ensures)
+    ends-open (imageOf (a .img .now) (a .sizes)) (a .columns .now) (a .cfg) (a .seed) (a .first) (c .before .before .run .result) (c .before .before .run .ensures) (c .at-window .result) (c .before .if2 .taken) (c .at-window .ensures)
 
 single-at-requires : tie.Need-single-at-requires
 single-at-requires c κs = (column (c .before .before .before .before .before .pre .0), row (c .before .before .before .before .before .pre .0))
@@ -38,10 +36,10 @@ single-at-requires c κs = (column (c .before .before .before .before .before .p
 returns-3 : tie.Need-returns-3
 returns-3 c =
     let a = c .before .before .before .before .before .before .args in
-    ends-first (imageOf (a .img .now) (a .sizes)) (a .columns .now) (a .overlap .now) (a .cfg) (a .seed) (a .first) (a .wanted) (c .before .before .run .result) (c .before .before .run .ensures) (c .single-at .result) (c .before .if2 .left) (c .single-at .ensures)
+    ends-first (imageOf (a .img .now) (a .sizes)) (a .columns .now) (a .cfg) (a .seed) (a .first) (c .before .before .run .result) (c .before .before .run .ensures) (c .single-at .result) (c .before .if2 .left) (c .single-at .ensures)
 
-pub estimate-spec : {M : Type 1} → statement M
-estimate-spec =
+pub opened-spec : {M : Type 1} → statement M
+opened-spec =
     tie.close
     (tie.spec
     settled-requires
