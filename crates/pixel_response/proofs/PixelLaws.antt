@@ -4,7 +4,7 @@ use Prim.Native.Nat.{ℕ, zero, suc, _+_, _-_, _*_, _≤_, _<_}
 use native.Mathlib.Nat.{zero-add}
 use native.Mathlib.Numerals.{add-one}
 use native.Mathlib.Omega.{arith}
-use Rattle.pixel_response.specs.Samples.{total, apart, squareSum, edgeSum, ringSum, crossSum, valueOf, responseOf}
+use Rattle.pixel_response.specs.Samples.{total, apart, squareSum, edgeSum, ringSum, crossSum, gain, loss, valueOf, responseOf}
 use Rattle.pixel_response.specs.Steps.{Bounded, squareOf, edgesOf, sumOf, crossOf, quarterOf}
 
 pub apart-below : (a b : ℕ) → a < b → b - a ≡ apart a b
@@ -90,14 +90,34 @@ all s c k square edge sum five e q t =
     ∙ ap (λ (z : ℕ). valueOf (squareSum s) (edgeSum s) z five) (q .sum-is ∙ ap (λ (j : ℕ). total j (quarterOf sumOf s)) e ∙ sums s)
     ∙ ap (λ (z : ℕ). valueOf (squareSum s) (edgeSum s) (ringSum s) z) (t ∙ crosses c)
 
--- ---- the response depends on its 21 samples alone
-pub response-cong : (s c s' c' : ℕ → ℕ) → ((k : ℕ) → k < 16 → s k ≡ s' k) → ((k : ℕ) → k < 5 → c k ≡ c' k) → responseOf s c ≡ responseOf s' c'
-unfolding responseOf squareSum edgeSum ringSum crossSum
-response-cong s c s' c' p q =
-    ap (λ (z : ℕ). valueOf z (edgeSum s) (ringSum s) (crossSum c))
-    (total-cong 4 (λ k. apart (s k + s (k + 8)) (s (k + 4) + s (k + 12))) (λ k. apart (s' k + s' (k + 8)) (s' (k + 4) + s' (k + 12)))
-    (λ k h. four (λ x y z w. apart (x + y) (z + w)) (s k) (s (k + 8)) (s (k + 4)) (s (k + 12)) (s' k) (s' (k + 8)) (s' (k + 4)) (s' (k + 12)) (p k (omega arith)) (p (k + 8) (omega arith)) (p (k + 4) (omega arith)) (p (k + 12) (omega arith))))
-    ∙ ap (λ (z : ℕ). valueOf (squareSum s') z (ringSum s) (crossSum c))
-    (total-cong 8 (λ k. apart (s k) (s (k + 8))) (λ k. apart (s' k) (s' (k + 8))) (λ k h. ap (λ (z : ℕ). apart z (s (k + 8))) (p k (omega arith)) ∙ ap (λ (z : ℕ). apart (s' k) z) (p (k + 8) (omega arith))))
-    ∙ ap (λ (z : ℕ). valueOf (squareSum s') (edgeSum s') z (crossSum c)) (total-cong 16 s s' p)
-    ∙ ap (λ (z : ℕ). valueOf (squareSum s') (edgeSum s') (ringSum s') z) (total-cong 5 c c' q)
+-- ---- the response depends on its 21 samples alone, and so does N
+module _ (s c s' c' : ℕ → ℕ) (p : (k : ℕ) → k < 16 → s k ≡ s' k) (q : (k : ℕ) → k < 5 → c k ≡ c' k) where
+  square-cong : squareSum s ≡ squareSum s'
+  unfolding squareSum
+  square-cong =
+      total-cong 4 (λ k. apart (s k + s (k + 8)) (s (k + 4) + s (k + 12))) (λ k. apart (s' k + s' (k + 8)) (s' (k + 4) + s' (k + 12)))
+      (λ k h. four (λ x y z w. apart (x + y) (z + w)) (s k) (s (k + 8)) (s (k + 4)) (s (k + 12)) (s' k) (s' (k + 8)) (s' (k + 4)) (s' (k + 12)) (p k (omega arith)) (p (k + 8) (omega arith)) (p (k + 4) (omega arith)) (p (k + 12) (omega arith)))
+
+  edge-cong : edgeSum s ≡ edgeSum s'
+  unfolding edgeSum
+  edge-cong = total-cong 8 (λ k. apart (s k) (s (k + 8))) (λ k. apart (s' k) (s' (k + 8))) (λ k h. ap (λ (z : ℕ). apart z (s (k + 8))) (p k (omega arith)) ∙ ap (λ (z : ℕ). apart (s' k) z) (p (k + 8) (omega arith)))
+
+  ring-cong : ringSum s ≡ ringSum s'
+  unfolding ringSum
+  ring-cong = total-cong 16 s s' p
+
+  cross-cong : crossSum c ≡ crossSum c'
+  unfolding crossSum
+  cross-cong = total-cong 5 c c' q
+
+  pub gain-cong : gain s ≡ gain s'
+  unfolding gain
+  gain-cong = cc square-cong
+
+  pub loss-cong : loss s c ≡ loss s' c'
+  unfolding loss
+  loss-cong = cc (edge-cong, ring-cong, cross-cong)
+
+  pub response-cong : responseOf s c ≡ responseOf s' c'
+  unfolding responseOf
+  response-cong = cc (square-cong, edge-cong, ring-cong, cross-cong)

@@ -1,5 +1,5 @@
 -- The response depends on the pixels alone: every sample that is read lies in the image, since the ring fits and no component leaves its radius.
-use mathlib.Core.Path.{_≡_, refl, sym, ap, _∙_, subst}
+use mathlib.Core.Path.{_≡_, refl, sym, ap, _∙_}
 use mathlib.Core.Bool.{Bool, true, false, not, _&&_, cond, and-eq-true-iff}
 use mathlib.Core.List.{List, [], _∷_}
 use Prim.Native.Nat.{ℕ, zero, suc, _+_, _-_, _*_, _/_, _%_, _≤_, _<_}
@@ -11,6 +11,7 @@ use lib.Ieee.{Float}
 use borrow.Author.Tests.{leb-true, ltb-true}
 use Rattle.shapes.specs.Numbers.{plusZero}
 use Rattle.shapes.proofs.ListLaws.{tabulated-cong}
+use Rattle.shapes.proofs.TestLaws.{first-of, second-of}
 use Rattle.refusals.specs.declared.Refusal.the-variants.{BadImage, BadRadius, BadRing, EmptyRoi, BadOut}
 use Rattle.imageview.specs.Image.{Image, pixel, isImage}
 use Rattle.imageview.specs.Same.{SamePixels, unpadded}
@@ -21,7 +22,7 @@ use Rattle.pixel_response.specs.Samples.{responseOf}
 use Rattle.pixel_response.proofs.PixelLaws.{response-cong}
 use Rattle.response.specs.Region.{Region, moved, ringSample, crossSample, ringFits, writtenAt, written, widthOf, heightOf, clamped, isEmpty, ringWithin}
 use Rattle.response.specs.Call.{Way, refused, wrote, wayOf, answerOf, outAfter}
-use Rattle.response.specs.Alone.{SameResponse, ByPixels, Unpadded}
+use Rattle.response.specs.Alone.{ByPixels, Unpadded}
 
 -- ---- every component lies within the radius
 component : (radius : ℕ) (ring : List ℤ) (k : ℕ) → ringWithin radius ring ≡ true → natAbs (getD ring k (pos 0)) ≤ radius
@@ -34,50 +35,54 @@ stays : (x n radius : ℕ) (z : ℤ) → natAbs z ≤ radius → x + radius < n 
 stays x n radius (pos m) h l = omega arith
 stays x n radius (negsuc m) h l = omega arith
 
--- ---- of two images of one size
-module _ (a b : Image) (wide : b .width ≡ a .width) (high : b .height ≡ a .height) (same : (x y : ℕ) → x < a .width → y < a .height → pixel a x y ≡ pixel b x y) (ring : List ℤ) (radius : ℕ) (some : 1 ≤ radius) (w : ringWithin radius ring ≡ true) where
-  module _ (x y : ℕ) (left : radius ≤ x) (right : x + radius < a .width) (above : radius ≤ y) (below : y + radius < a .height) where
-    ring-same : (k : ℕ) → k < 16 → ringSample a ring x y k ≡ ringSample b ring x y k
-    unfolding ringSample
-    ring-same k h =
-        same (moved x (getD ring (2 * k) (pos 0))) (moved y (getD ring (2 * k + 1) (pos 0)))
-        (stays x (a .width) radius (getD ring (2 * k) (pos 0)) (component radius ring (2 * k) w) right)
-        (stays y (a .height) radius (getD ring (2 * k + 1) (pos 0)) (component radius ring (2 * k + 1) w) below)
-
-    cross-same : (k : ℕ) → k < 5 → crossSample a x y k ≡ crossSample b x y k
-    unfolding crossSample
-    cross-same zero h = same x y (omega arith) (omega arith)
-    cross-same (suc zero) h = same x (y - 1) (omega arith) (omega arith)
-    cross-same (suc (suc zero)) h = same x (y + 1) (omega arith) (omega arith)
-    cross-same (suc (suc (suc zero))) h = same (x + 1) y (omega arith) (omega arith)
-    cross-same (suc (suc (suc (suc k)))) h = same (x - 1) y (omega arith) (omega arith)
-
-  fits-same : (x y : ℕ) → ringFits b radius x y ≡ ringFits a radius x y
+-- ---- what holds of every pixel of two images holds of the samples of a pixel whose ring fits
+module _ (R : ℕ → ℕ → Type 0) (a b : Image) (holds : (x y : ℕ) → x < a .width → y < a .height → R (pixel a x y) (pixel b x y)) (radius x y : ℕ) (fits : ringFits a radius x y ≡ true) where
+  right : x + radius < a .width
   unfolding ringFits
-  fits-same x y =
-      ap (λ (n : ℕ). leb radius x && ltb (x + radius) n && leb radius y && ltb (y + radius) (b .height)) wide
-      ∙ ap (λ (n : ℕ). leb radius x && ltb (x + radius) (a .width) && leb radius y && ltb (y + radius) n) high
+  right =
+      let p = leb radius x in
+      let q = ltb (x + radius) (a .width) in
+      let r = leb radius y in
+      ltb-true (x + radius) (a .width) (second-of p q (first-of (p && q) r (first-of (p && q && r) (ltb (y + radius) (a .height)) fits)))
 
+  below : y + radius < a .height
+  unfolding ringFits
+  below = ltb-true (y + radius) (a .height) (second-of (leb radius x && ltb (x + radius) (a .width) && leb radius y) (ltb (y + radius) (a .height)) fits)
+
+  pub ring-holds : (ring : List ℤ) → ringWithin radius ring ≡ true → (k : ℕ) → R (ringSample a ring x y k) (ringSample b ring x y k)
+  unfolding ringSample
+  ring-holds ring w k =
+      holds (moved x (getD ring (2 * k) (pos 0))) (moved y (getD ring (2 * k + 1) (pos 0)))
+      (stays x (a .width) radius (getD ring (2 * k) (pos 0)) (component radius ring (2 * k) w) right)
+      (stays y (a .height) radius (getD ring (2 * k + 1) (pos 0)) (component radius ring (2 * k + 1) w) below)
+
+  pub cross-holds : 1 ≤ radius → (k : ℕ) → R (crossSample a x y k) (crossSample b x y k)
+  unfolding crossSample
+  cross-holds some zero = holds x y (omega (arith, right)) (omega (arith, below))
+  cross-holds some (suc zero) = holds x (y - 1) (omega (arith, right)) (omega (arith, below))
+  cross-holds some (suc (suc zero)) = holds x (y + 1) (omega (arith, right)) (omega (arith, below))
+  cross-holds some (suc (suc (suc zero))) = holds (x + 1) y (omega (arith, right)) (omega (arith, below))
+  cross-holds some (suc (suc (suc (suc k)))) = holds (x - 1) y (omega (arith, right)) (omega (arith, below))
+
+-- ---- of two images of one size
+pub fits-same : (a b : Image) → b .width ≡ a .width → b .height ≡ a .height → (radius x y : ℕ) → ringFits b radius x y ≡ ringFits a radius x y
+unfolding ringFits
+fits-same a b wide high radius x y =
+    ap (λ (n : ℕ). leb radius x && ltb (x + radius) n && leb radius y && ltb (y + radius) (b .height)) wide
+    ∙ ap (λ (n : ℕ). leb radius x && ltb (x + radius) (a .width) && leb radius y && ltb (y + radius) n) high
+
+-- that show the same
+module _ (a b : Image) (wide : b .width ≡ a .width) (high : b .height ≡ a .height) (same : (x y : ℕ) → x < a .width → y < a .height → pixel a x y ≡ pixel b x y) (ring : List ℤ) (radius : ℕ) (some : 1 ≤ radius) (w : ringWithin radius ring ≡ true) where
   at-same : (x y : ℕ) → writtenAt a ring radius x y ≡ writtenAt b ring radius x y
   unfolding writtenAt ringFits
-  at-same x y = by (ringFits a radius x y) refl ∙ ap (λ (f : Bool). cond f (responseOf (ringSample b ring x y) (crossSample b x y)) plusZero) (sym (fits-same x y))
+  at-same x y = by (ringFits a radius x y) refl ∙ ap (λ (f : Bool). cond f (responseOf (ringSample b ring x y) (crossSample b x y)) plusZero) (sym (fits-same a b wide high radius x y))
     where
       by : (f : Bool) → ringFits a radius x y ≡ f → cond (ringFits a radius x y) (responseOf (ringSample a ring x y) (crossSample a x y)) plusZero ≡ cond (ringFits a radius x y) (responseOf (ringSample b ring x y) (crossSample b x y)) plusZero
       by false e = ap (λ (f : Bool). cond f (responseOf (ringSample a ring x y) (crossSample a x y)) plusZero) e ∙ sym (ap (λ (f : Bool). cond f (responseOf (ringSample b ring x y) (crossSample b x y)) plusZero) e)
       by true e =
-          let p = leb radius x in
-          let q = ltb (x + radius) (a .width) in
-          let r = leb radius y in
-          let s = ltb (y + radius) (a .height) in
-          let three = and-eq-true-iff (p && q && r) s .0 e in
-          let two = and-eq-true-iff (p && q) r .0 (three .0) in
-          let each = and-eq-true-iff p q .0 (two .0) in
-          let right : x + radius < a .width = ltb-true (x + radius) (a .width) (each .1) in
-          let below : y + radius < a .height = ltb-true (y + radius) (a .height) (three .1) in
-          let left : radius ≤ x = leb-true radius x (each .0) in
-          let above : radius ≤ y = leb-true radius y (two .1) in
           ap (λ (v : Float). cond (ringFits a radius x y) v plusZero)
-          (response-cong (ringSample a ring x y) (crossSample a x y) (ringSample b ring x y) (crossSample b x y) (ring-same x y left right above below) (cross-same x y left right above below))
+          (response-cong (ringSample a ring x y) (crossSample a x y) (ringSample b ring x y) (crossSample b x y)
+          (λ k h. ring-holds (_≡_ {A = ℕ}) a b same radius x y e ring w k) (λ k h. cross-holds (_≡_ {A = ℕ}) a b same radius x y e some k))
 
   written-same : (r : Region) → written a ring radius r ≡ written b ring radius r
   unfolding written

@@ -1,3 +1,4 @@
 -- What is claimed over several crates.
 pub mod Claims
 pub mod WholeRoad
+pub mod Inverted
