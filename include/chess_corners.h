@@ -1,5 +1,5 @@
 /* Proved chessboard corners: the ChESS response, its peaks, the saddle-point refiner, the merge, the tie of corners to
- * the squares of a board, and the reader of graymaps.
+ * the squares of a board, the reader of graymaps, and the salvage of damaged corner files.
  *
  * Link with libchess_corners.a. Every call takes any numbers and any contents of its buffers, ends, and returns
  * a number: 0 done, 1 to 7 a seed's status, from 10 up a refusal. A refusal writes nothing, neither to a buffer
@@ -18,8 +18,8 @@
  * 8192. img_len: pitch times height, so that the last row has its padding too. A response has no pitch.
  *
  * Stack in bytes, on x86-64, as compiled for release, all that a call calls included (docs/SPEED.md): response 1,328,
- * peaks 5,808, fit_operator 2,336, refine 7,344, refine_with 2,816, refine_list 7,296, merge 240, tie 1,984, graymap 56.
- * No call recurses. Scratch: only the merge asks for any, heads and links.
+ * peaks 5,808, fit_operator 2,336, refine 7,344, refine_with 2,816, refine_list 7,296, merge 240, tie 1,984, graymap 56,
+ * salvage 56. No call recurses. Scratch: only the merge asks for any, heads and links.
  *
  * Numbers:
  *    0 Accepted        1 Rejected: the first fit lies outside the box about the seed
@@ -35,8 +35,9 @@
  *   12 BadLimit: a float setting that is not finite or below zero (the peak threshold may be below zero)
  *   13 BadRing: a ring component beyond the ring radius
  *   14 EmptyRoi: x0 >= x1 or y0 >= y1
- *   15 BadOut: a response buffer not of the clamped region's size; a refine output shorter than its input
- *   16 TooMany: over 4,096 corners, or more peaks than the output holds
+ *   15 BadOut: a response buffer not of the clamped region's size; a refine output shorter than its input; an output of
+ *      the salvage shorter than what goes into it
+ *   16 TooMany: over 4,096 corners or whole records, or more peaks than the output holds
  *   17 GridTooBig: more cells of the merge than heads
  *   18 BadScratch: fewer links than corners
  *   19 BadLength: a list of corners that is not made of whole triples
@@ -179,6 +180,19 @@ uint32_t chess_corners_tie(size_t rows, size_t columns, const float *places, siz
  * Returns 0, 20, 21, 22, 23, 24, 25. */
 uint32_t chess_corners_graymap(const uint8_t *file, size_t file_len, size_t *width, size_t *height, size_t *maximum,
                                size_t *start, size_t *pixel);
+
+/* Saves the records of a corner file that can be used. A record is twelve bytes, x, y and strength, each the bits of a
+ * binary32, low byte first; there is no header. One is kept where all three are finite and 0 <= x <= width - 1 and
+ * 0 <= y <= height - 1 in binary32; -0.0 is inside. 0 writes the kept records to the front of out, in order and to the
+ * bit, and to the front of faults a pair for each other record, in order: its number in the file, from 0, and the
+ * reason: 1 cut, 2 not finite, 3 outside, the first of them that is so; a cut record stands at the end of the file, and
+ * its number is how many whole ones there are. What lies behind stays, in both. kept, dropped: how many of each;
+ * together they are all records, the cut one too. out_len: 12 kept or more; faults_len: 2 dropped or more. file_len and
+ * 2 (file_len / 12 + 1) always serve, as do 49,152 and 8,194.
+ * Returns 0, 10 (the sizes alone), 16 (over 4,096 whole records), 15. */
+uint32_t chess_corners_salvage(const uint8_t *file, size_t file_len, size_t width, size_t height,
+                               uint8_t *out, size_t out_len, uint16_t *faults, size_t faults_len,
+                               size_t *kept, size_t *dropped);
 
 #ifdef __cplusplus
 }

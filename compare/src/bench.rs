@@ -7,6 +7,7 @@ mod graymap;
 mod peaks;
 mod pitch;
 mod refine;
+mod salvage;
 
 use crate::port;
 use oracle::plain::original as rust;
@@ -262,13 +263,14 @@ fn merges() -> bool {
 /// A table by its name.
 type Table = (&'static str, fn() -> bool);
 
-const TABLES: [Table; 6] = [
+const TABLES: [Table; 7] = [
     ("response", responses),
     ("peaks", peaks::table),
     ("merge", merges),
     ("refine", refine::tables),
     ("board", board::table),
     ("graymap", graymap::table),
+    ("salvage", salvage::table),
 ];
 
 /// Prints the tables, or one of them by its name. `false` where the two sides

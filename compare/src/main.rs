@@ -14,6 +14,7 @@ mod picture;
 mod port;
 mod refine;
 mod response;
+mod salvage;
 mod scene;
 mod trial;
 
@@ -47,7 +48,8 @@ fn faults_noticed() -> Result<(), String> {
     list::faults_noticed()?;
     number::faults_noticed()?;
     board::faults_noticed()?;
-    graymap::faults_noticed()
+    graymap::faults_noticed()?;
+    salvage::faults_noticed()
 }
 
 /// What was seen of each call.
@@ -62,6 +64,7 @@ struct Tallies {
     numbers: Tally,
     boards: Tally,
     graymaps: Tally,
+    salvages: Tally,
 }
 
 impl Tallies {
@@ -79,6 +82,8 @@ impl Tallies {
             && board::short(&mut self.boards)
             && graymap::longest(&mut self.graymaps)
             && graymap::short(&mut self.graymaps)
+            && salvage::longest(&mut self.salvages, random)
+            && salvage::short(&mut self.salvages)
             && merge::short(&mut self.merges)
             && peaks::longest(&mut self.peaks, random)
             && peaks::short(&mut self.peaks)
@@ -93,6 +98,7 @@ impl Tallies {
             && self.boards.tried(&board::any(random))
             && self.numbers.tried(&number::any(random))
             && self.graymaps.tried(&graymap::any(random))
+            && self.salvages.tried(&salvage::any(random))
             && self
                 .responses
                 .tried(&response::any(random, &mut kept.rings))
@@ -111,8 +117,9 @@ impl Tallies {
         let numbers = self.numbers.told::<number::Number>(to_the_end);
         let boards = self.boards.told::<board::Board>(to_the_end);
         let graymaps = self.graymaps.told::<graymap::Graymap>(to_the_end);
+        let salvages = self.salvages.told::<salvage::Salvage>(to_the_end);
         let images = responses && operators && seeds && lists;
-        images && merges && peaks && numbers && boards && graymaps
+        images && merges && peaks && numbers && boards && graymaps && salvages
     }
 }
 

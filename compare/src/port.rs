@@ -278,3 +278,28 @@ pub fn graymap(file: &[u8], given: &mut Given) -> u32 {
         )
     }
 }
+
+/// The rules' number; `counts` takes how many records are kept and dropped.
+pub fn salvage(
+    file: &[u8],
+    [width, height]: [u64; 2],
+    out: &mut [u8],
+    faults: &mut [u16],
+    [kept, dropped]: &mut [usize; 2],
+) -> u32 {
+    // SAFETY: as above.
+    unsafe {
+        raw::chess_corners_salvage(
+            file.as_ptr(),
+            file.len(),
+            width as usize,
+            height as usize,
+            out.as_mut_ptr(),
+            out.len(),
+            faults.as_mut_ptr(),
+            faults.len(),
+            kept,
+            dropped,
+        )
+    }
+}

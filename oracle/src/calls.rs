@@ -497,3 +497,15 @@ pub fn graymap(file: &[u8]) -> (Decision, Option<Graymap>, Option<usize>) {
     };
     (decision(refused, Decided::NotRun), read, pixel)
 }
+
+/// W-214: what is written, none if refused. The Rust has no such call.
+pub fn salvage(
+    file: &[u8],
+    size: [u64; 2],
+    out: usize,
+    faults: usize,
+) -> (Decision, Option<Salvaged>) {
+    let saved = rules::salvaged(file, size, out, faults);
+    let refused = saved.as_ref().err().copied();
+    (decision(refused, Decided::NotRun), saved.ok())
+}

@@ -1,6 +1,6 @@
 //! Document 01 in plain Rust: the refusals in their order, and the rules of
-//! response, peaks, merge, board and graymap where the Rust has another rule or
-//! none.
+//! response, peaks, merge, board, graymap and salvage where the Rust has another
+//! rule or none.
 //! Written from the document, slow and readable, and used by no code of the port.
 
 use crate::types::*;
@@ -687,4 +687,52 @@ pub fn graymap(file: &[u8]) -> Result<Graymap, (u32, Option<usize>)> {
         maximum,
         start: file.len() - count,
     })
+}
+
+// --- salvage (W-214) --------------------------------------------------------
+
+/// Why a record is dropped, the first reason that holds.
+pub const CUT: u16 = 1;
+pub const WITHOUT_A_NUMBER: u16 = 2;
+pub const OUTSIDE: u16 = 3;
+
+/// The three numbers of a record; none where it is cut.
+pub fn record(bytes: &[u8]) -> Option<Triple> {
+    let bytes: &[u8; 12] = bytes.try_into().ok()?;
+    let number = |k: usize| f32::from_le_bytes([0, 1, 2, 3].map(|j| bytes[4 * k + j]));
+    Some([0, 1, 2].map(number))
+}
+
+/// What is wrong with a record.
+pub fn fault([width, height]: [u64; 2], bytes: &[u8]) -> Option<u16> {
+    let Some([x, y, strength]) = record(bytes) else {
+        return Some(CUT);
+    };
+    // Both ends are whole numbers that binary32 has, so this is its comparison.
+    let within = |v: f32, side: u64| (0.0..=(side - 1) as f64).contains(&f64::from(v));
+    if ![x, y, strength].iter().all(|v| v.is_finite()) {
+        return Some(WITHOUT_A_NUMBER);
+    }
+    (!within(x, width) || !within(y, height)).then_some(OUTSIDE)
+}
+
+/// 10, 16, 15 in this order. The outputs are lent with so many bytes and numbers.
+pub fn salvaged(file: &[u8], size: [u64; 2], out: usize, faults: usize) -> Result<Salvaged, u32> {
+    if bad_sides(size[0], size[1]) {
+        return Err(BAD_IMAGE);
+    }
+    if file.chunks_exact(12).count() > MOST {
+        return Err(TOO_MANY);
+    }
+    let mut saved = Salvaged::default();
+    for (number, bytes) in file.chunks(12).enumerate() {
+        match fault(size, bytes) {
+            None => saved.kept.extend(bytes),
+            Some(why) => saved.dropped.push([number as u16, why]),
+        }
+    }
+    match out < saved.kept.len() || faults < 2 * saved.dropped.len() {
+        true => Err(BAD_OUT),
+        false => Ok(saved),
+    }
 }

@@ -175,3 +175,11 @@ pub struct Graymap {
     pub maximum: u8,
     pub start: usize,
 }
+
+/// W-214: what a salvage writes: the bytes of the kept records, and the number
+/// and the fault of each other one.
+#[derive(Clone, Debug, Default, PartialEq, Eq)]
+pub struct Salvaged {
+    pub kept: Vec<u8>,
+    pub dropped: Vec<[u16; 2]>,
+}

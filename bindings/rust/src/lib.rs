@@ -1,6 +1,7 @@
 //! Proved chessboard corners: the ChESS response, its peaks, the saddle-point
-//! refiner, the merge, the tie of corners to the squares of a board, and the
-//! reader of graymaps, behind slices and `Result`.
+//! refiner, the merge, the tie of corners to the squares of a board, the reader
+//! of graymaps, and the salvage of damaged corner files, behind slices and
+//! `Result`.
 //!
 //! Every call takes any numbers and any contents of its slices, and ends. A
 //! refusal has its name and number from docs/RULES.md and writes nothing. Which
@@ -132,6 +133,18 @@ pub mod raw {
             maximum: *mut usize,
             start: *mut usize,
             pixel: *mut usize,
+        ) -> u32;
+        pub fn chess_corners_salvage(
+            file: *const u8,
+            file_len: usize,
+            width: usize,
+            height: usize,
+            out: *mut u8,
+            out_len: usize,
+            faults: *mut u16,
+            faults_len: usize,
+            kept: *mut usize,
+            dropped: *mut usize,
         ) -> u32;
     }
 }
@@ -433,6 +446,15 @@ impl fmt::Display for Unread {
 }
 
 impl std::error::Error for Unread {}
+
+/// A corner file that was salvaged.
+#[derive(Clone, Copy, Debug, PartialEq, Eq)]
+pub struct Salvaged {
+    /// Records at the front of `out`, twelve bytes each.
+    pub kept: usize,
+    /// Pairs at the front of `faults`.
+    pub dropped: usize,
+}
 
 /// The operator of a radius, for many seeds.
 #[derive(Clone, Debug)]
@@ -751,6 +773,36 @@ pub fn graymap(file: &[u8]) -> Result<Graymap<'_>, Unread> {
     })
 }
 
+/// Saves the records of a corner file that are whole, finite and inside an image
+/// of that size, to the bit, to `out`, and to `faults` a pair for each other
+/// one: its number and the reason, 1 cut, 2 not finite, 3 outside. What lies
+/// behind stays, in both; so do both where it is refused.
+pub fn salvage(
+    file: &[u8],
+    width: usize,
+    height: usize,
+    out: &mut [u8],
+    faults: &mut [u16],
+) -> Result<Salvaged, Refusal> {
+    let (mut kept, mut dropped) = (0, 0);
+    // SAFETY: as above.
+    let number = unsafe {
+        raw::chess_corners_salvage(
+            file.as_ptr(),
+            file.len(),
+            width,
+            height,
+            out.as_mut_ptr(),
+            out.len(),
+            faults.as_mut_ptr(),
+            faults.len(),
+            &mut kept,
+            &mut dropped,
+        )
+    };
+    done(number, Salvaged { kept, dropped })
+}
+
 #[cfg(test)]
 mod tests {
     use super::*;
@@ -1043,5 +1095,59 @@ mod tests {
         let above = graymap(b"P5 2 2 9\n\x09\x00\x0a\xff\n").unwrap_err();
         assert_eq!(above, unread(24, 2));
         assert!(graymap(b"").is_err());
+    }
+
+    /// The bytes of a corner file with so many of a record that is cut.
+    fn corner_file(records: &[[f32; 3]], cut: usize) -> Vec<u8> {
+        let numbers = records.iter().flatten();
+        let mut file: Vec<u8> = numbers.flat_map(|value| value.to_le_bytes()).collect();
+        file.extend(vec![0; cut]);
+        file
+    }
+
+    /// Through the library, in an image of 4 by 3: each reason, the bits of what
+    /// is kept, and what lies behind it; a second run drops nothing.
+    #[test]
+    fn the_library_salvages_a_corner_file() {
+        let (first, second) = ([-0.0, 2.0, -1.5], [3.0, 0.0, 1e-45]);
+        let good = corner_file(&[first, second], 0);
+        let (outside, no_number) = ([3.5, 0.0, 1.0], [-1.0, 0.0, f32::NAN]);
+        let file = corner_file(&[first, outside, second, no_number], 5);
+        let (mut out, mut faults) = ([9; 25], [9; 8]);
+        let saved = salvage(&file, 4, 3, &mut out, &mut faults);
+        let (kept, dropped) = (2, 3);
+        assert_eq!(saved, Ok(Salvaged { kept, dropped }));
+        assert_eq!(out[..24], good);
+        assert_eq!((out[24], faults), (9, [1, 3, 3, 2, 4, 1, 9, 9]));
+        let (mut again, mut none) = ([9; 24], []);
+        let saved = salvage(&out[..24], 4, 3, &mut again, &mut none);
+        assert_eq!(saved, Ok(Salvaged { kept, dropped: 0 }));
+        assert_eq!(again[..], good);
+        let turned = salvage(&file, 3, 4, &mut out, &mut faults);
+        let (kept, dropped) = (1, 4);
+        assert_eq!(turned, Ok(Salvaged { kept, dropped }));
+    }
+
+    /// Through the library: each number, in its order, with nothing written.
+    #[test]
+    fn the_library_refuses_to_salvage_by_name() {
+        let ask = |records: usize, cut: usize, width: usize, room: (usize, usize)| {
+            let file = corner_file(&vec![[0.0; 3]; records], cut);
+            let (mut out, mut faults) = (vec![9; room.0], vec![9; room.1]);
+            let said = salvage(&file, width, 1, &mut out, &mut faults);
+            if said.is_err() {
+                assert!(out.iter().all(|&byte| byte == 9));
+                assert!(faults.iter().all(|&number| number == 9));
+            }
+            said.map(|saved| (saved.kept, saved.dropped))
+        };
+        assert_eq!(ask(4096, 11, 1, (49152, 2)), Ok((4096, 1)));
+        assert_eq!(ask(0, 0, 4096, (0, 0)), Ok((0, 0)));
+        for width in [0, 4097, usize::MAX] {
+            assert_eq!(ask(4097, 0, width, (0, 0)), Err(Refusal::BadImage));
+        }
+        assert_eq!(ask(4097, 0, 1, (0, 0)), Err(Refusal::TooMany));
+        assert_eq!(ask(4096, 11, 1, (49151, 2)), Err(Refusal::BadOut));
+        assert_eq!(ask(4096, 11, 1, (49152, 1)), Err(Refusal::BadOut));
     }
 }

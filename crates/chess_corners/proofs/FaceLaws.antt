@@ -20,7 +20,9 @@ use Rattle.board.specs.declared.Tie.{Tie}
 use Rattle.board.specs.Call as B
 use Rattle.graymap.specs.declared.Graymap.{Graymap}
 use Rattle.graymap.specs.Call as G
-use Rattle.chess_corners.specs.Face.{Responded, Merging, Refining, Scanning, Tying, Reading, Facts, widthAfter, heightAfter, countAfter, recordsAfter, peaksAfter, placeAfter, factsAfter}
+use Rattle.salvage.specs.declared.Salvage.{Salvage}
+use Rattle.salvage.specs.Call as S
+use Rattle.chess_corners.specs.Face.{Responded, Merging, Refining, Scanning, Tying, Reading, Salvaging, Facts, widthAfter, heightAfter, countAfter, recordsAfter, peaksAfter, placeAfter, factsAfter, keptAfter, droppedAfter}
 
 pub responded : {img : Image} {ring : List ℤ} {radius : ℕ} {r : Region} {out : List Float} {answer : Response} {out' : List Float} (w h : ℕ) (known : Response) (n : ℕ)
     → n ≡ R.numberOf known → answer ≡ known → R.Done img ring radius r out answer out' → Responded img ring radius r out w h n out' (widthAfter w known) (heightAfter h known)
@@ -68,4 +70,14 @@ pub reading : {file : List ℕ} {answer : Graymap} (old : Facts) (known : Grayma
 reading old known n q e d = record {
   says = q ∙ ap G.numberOf (sym e ∙ d);
   facts = ap (factsAfter old) (sym e ∙ d);
+}
+
+pub salvaging : {width height : ℕ} {file out faults : List ℕ} {answer : Salvage} {out' faults' : List ℕ} (kept dropped : ℕ) (known : Salvage) (n : ℕ)
+    → n ≡ S.numberOf known → answer ≡ known → S.Done width height file out faults answer out' faults' → Salvaging width height file out faults kept dropped n out' faults' (keptAfter kept known) (droppedAfter dropped known)
+salvaging kept dropped known n q e d = record {
+  says = q ∙ ap S.numberOf (sym e ∙ d .answers);
+  leaves-out = d .leaves-out;
+  leaves-faults = d .leaves-faults;
+  keeps = ap (keptAfter kept) (sym e ∙ d .answers);
+  drops = ap (droppedAfter dropped) (sym e ∙ d .answers);
 }

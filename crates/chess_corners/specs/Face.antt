@@ -34,6 +34,10 @@ use Rattle.graymap.specs.declared.Graymap.{Graymap}
 use Rattle.graymap.specs.declared.Graymap.the-variants as Graymap
 use Rattle.graymap.specs.declared.Graymap.the-variants.{Read, Above}
 use Rattle.graymap.specs.Call as G
+use Rattle.salvage.specs.declared.Salvage.{Salvage}
+use Rattle.salvage.specs.declared.Salvage.the-variants as Salvage
+use Rattle.salvage.specs.declared.Salvage.the-variants.{Saved}
+use Rattle.salvage.specs.Call as S
 
 -- ---- the response: the clamped width and height
 abbrev pub widthAfter : ℕ → Response → ℕ
@@ -110,3 +114,19 @@ factsAfter old (Graymap.Refused r) = old
 pub record Reading (file : List ℕ) (old : Facts) (number : ℕ) (new : Facts) : Type 0 where
   pub says : number ≡ G.numberOf (G.readOf file)
   pub facts : new ≡ factsAfter old (G.readOf file)
+
+-- ---- salvaging a corner file: how many records were kept and how many dropped
+abbrev pub keptAfter : ℕ → Salvage → ℕ
+keptAfter old (Saved k d) = k
+keptAfter old (Salvage.Refused r) = old
+
+abbrev pub droppedAfter : ℕ → Salvage → ℕ
+droppedAfter old (Saved k d) = d
+droppedAfter old (Salvage.Refused r) = old
+
+pub record Salvaging (width height : ℕ) (file out faults : List ℕ) (kept dropped : ℕ) (number : ℕ) (out' faults' : List ℕ) (kept' dropped' : ℕ) : Type 0 where
+  pub says : number ≡ S.numberOf (S.answerOf (S.wayOf width height file (length out) (length faults)))
+  pub leaves-out : out' ≡ S.outAfter out (S.wayOf width height file (length out) (length faults))
+  pub leaves-faults : faults' ≡ S.faultsAfter faults (S.wayOf width height file (length out) (length faults))
+  pub keeps : kept' ≡ keptAfter kept (S.answerOf (S.wayOf width height file (length out) (length faults)))
+  pub drops : dropped' ≡ droppedAfter dropped (S.answerOf (S.wayOf width height file (length out) (length faults)))

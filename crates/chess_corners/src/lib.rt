@@ -1,8 +1,10 @@
 // The public face for C and Rust: one exported function a call, over numbers, references and slices. Each returns the number of docs/RULES.md, 0 where it is
 // done. Further answers are written where the number is 0; one seed's place and score with 1 to 7 too, the place at fault with 33 and 34, and the pixel above
 // its maximum with 24.
+mod beside;
 mod seed;
 
+pub use beside::chess_corners_salvage;
 use board::Tie;
 use graymap::Graymap;
 use imageview::Sizes;

@@ -19,6 +19,7 @@ pub mod pieces;
 pub mod refine;
 pub mod refine_list;
 pub mod response;
+pub mod salvage;
 pub mod solve;
 
 /// A list's name and its writer.
@@ -42,6 +43,7 @@ pub const ALL: &[Writer] = &[
     ("gradient", gradient::list),
     ("board", board::list),
     ("graymap", graymap::list),
+    ("salvage", salvage::list),
     ("fit", pieces::fit),
     ("window", pieces::window),
     ("blend", pieces::blend),
@@ -65,6 +67,7 @@ const REACHED: &[(&str, &[u32])] = &[
     ("gradient", &[0, 10, 13, 15]),
     ("board", &[0, 30, 31, 32, 33, 34]),
     ("graymap", &[0, 20, 21, 22, 23, 24, 25]),
+    ("salvage", &[0, 10, 15, 16]),
 ];
 
 /// The lists that have an image in each case.
@@ -110,6 +113,7 @@ pub fn missing(list: &List) -> Vec<String> {
             .extend(["fitted", "5 AboveMargin", "6 TooSmall", "7 NotFinite"].map(String::from)),
         "board" => wanted.extend(board::MET.map(String::from)),
         "graymap" => wanted.extend(graymap::MET.map(String::from)),
+        "salvage" => wanted.extend(salvage::MET.map(String::from)),
         _ => {}
     }
     wanted.retain(|what| list.counted(what) == 0);
