@@ -1,5 +1,5 @@
 /* Proved chessboard corners: the ChESS response, its peaks, the saddle-point refiner, the merge, the tie of corners to
- * the squares of a board, the reader of graymaps, and the salvage of damaged corner files.
+ * the squares of a board, the reader of graymaps, the salvage of damaged corner files, and the coverage of an image.
  *
  * Link with libchess_corners.a. Every call takes any numbers and any contents of its buffers, ends, and returns
  * a number: 0 done, 1 to 7 a seed's status, from 10 up a refusal. A refusal writes nothing, neither to a buffer
@@ -19,7 +19,7 @@
  *
  * Stack in bytes, on x86-64, as compiled for release, all that a call calls included (docs/SPEED.md): response 1,328,
  * peaks 5,808, fit_operator 2,336, refine 7,344, refine_with 2,816, refine_list 7,296, merge 240, tie 1,984, graymap 56,
- * salvage 56. No call recurses. Scratch: only the merge asks for any, heads and links.
+ * salvage 56, coverage 56 to 88. No call recurses. Scratch: only the merge asks for any, heads and links.
  *
  * Numbers:
  *    0 Accepted        1 Rejected: the first fit lies outside the box about the seed
@@ -37,7 +37,7 @@
  *   14 EmptyRoi: x0 >= x1 or y0 >= y1
  *   15 BadOut: a response buffer not of the clamped region's size; a refine output shorter than its input; an output of
  *      the salvage shorter than what goes into it
- *   16 TooMany: over 4,096 corners or whole records, or more peaks than the output holds
+ *   16 TooMany: over 4,096 corners or whole records, a corner added to 4,096, or more peaks than the output holds
  *   17 GridTooBig: more cells of the merge than heads
  *   18 BadScratch: fewer links than corners
  *   19 BadLength: a list of corners that is not made of whole triples
@@ -52,7 +52,7 @@
  *   32 BadList: corners to be tied that are not whole triples, or over 4,096 of them
  *   33 NoCorner: no corner within the limit of a place
  *   34 UsedTwice: the nearest corner of a place serves an earlier one
- *   35 NoSuchCorner: a number that is not in the list; no call gives it yet
+ *   35 NoSuchCorner: a number that is not in the list
  */
 #ifndef CHESS_CORNERS_H
 #define CHESS_CORNERS_H
@@ -193,6 +193,35 @@ uint32_t chess_corners_graymap(const uint8_t *file, size_t file_len, size_t *wid
 uint32_t chess_corners_salvage(const uint8_t *file, size_t file_len, size_t width, size_t height,
                                uint8_t *out, size_t out_len, uint16_t *faults, size_t faults_len,
                                size_t *kept, size_t *dropped);
+
+/* Coverage: how many corners of a list lie in each of the eight by eight tiles of an image of width by height. The list
+ * has room for 4,096 corners, x, y and strength of each; the first count are there, and no call looks at the others.
+ * counts: the 64 tiles by row, then those outside or not finite. A corner is inside where the floor of x is in
+ * 0..width-1 and that of y in 0..height-1, so at -0.0 and at width - 0.5 and not at -0.5; its tile is in column
+ * floor(x) 8 / width and row floor(y) 8 / height, both in whole numbers. The strength may be anything.
+ *
+ * Afresh: 0 writes all 65 counts, whatever they held. Returns 0, 10 (the sizes alone), 16 (count over 4,096). */
+uint32_t chess_corners_coverage(size_t width, size_t height, const float list[12288], size_t count,
+                                uint16_t counts[65]);
+
+/* The next three change the list and the counts with it: if the counts were the list's they are the new list's, and need
+ * no counting afresh. Whatever they held, first the old corner's tile has one less (0 stays 0), then the new one's has
+ * one more (65,535 stays); the other counts stay, and so do the elements of the list that are not named.
+ *
+ * One corner more: 0 writes it behind the others, and to count one more than it held. Returns 0, 10, 16 (count 4,096 or
+ * more). */
+uint32_t chess_corners_coverage_add(size_t width, size_t height, float list[12288], size_t *count, uint16_t counts[65],
+                                    float x, float y, float strength);
+
+/* Another corner in the place of corner number, from 0. Returns 0, 10, 16 (count over 4,096), 35 (number not below
+ * count). */
+uint32_t chess_corners_coverage_replace(size_t width, size_t height, float list[12288], size_t count,
+                                        uint16_t counts[65], size_t number, float x, float y, float strength);
+
+/* Corner number left out: the later ones move down by one, the record that is freed is +0.0, and count is one less.
+ * Returns 0, 10, 16 (count over 4,096), 35 (number not below count). */
+uint32_t chess_corners_coverage_drop(size_t width, size_t height, float list[12288], size_t *count,
+                                     uint16_t counts[65], size_t number);
 
 #ifdef __cplusplus
 }

@@ -3,6 +3,7 @@
 //! wall would count the work of others, the more the longer a call takes.
 
 mod board;
+mod coverage;
 mod graymap;
 mod peaks;
 mod pitch;
@@ -263,7 +264,7 @@ fn merges() -> bool {
 /// A table by its name.
 type Table = (&'static str, fn() -> bool);
 
-const TABLES: [Table; 7] = [
+const TABLES: [Table; 8] = [
     ("response", responses),
     ("peaks", peaks::table),
     ("merge", merges),
@@ -271,6 +272,7 @@ const TABLES: [Table; 7] = [
     ("board", board::table),
     ("graymap", graymap::table),
     ("salvage", salvage::table),
+    ("coverage", coverage::table),
 ];
 
 /// Prints the tables, or one of them by its name. `false` where the two sides

@@ -4,6 +4,7 @@
 
 mod bench;
 mod board;
+mod coverage;
 mod graymap;
 mod list;
 mod merge;
@@ -35,6 +36,10 @@ const LONG: u64 = 60;
 const SEEDS: usize = 32;
 const PER_LIST: usize = 4;
 
+/// A row of calls on a list of corners has all of the list compared after each:
+/// one for so many merges and responses.
+const PER_ROW: usize = 4;
+
 /// Peak scans for each merge and response.
 const SCANS: usize = 2;
 
@@ -49,7 +54,8 @@ fn faults_noticed() -> Result<(), String> {
     number::faults_noticed()?;
     board::faults_noticed()?;
     graymap::faults_noticed()?;
-    salvage::faults_noticed()
+    salvage::faults_noticed()?;
+    coverage::faults_noticed()
 }
 
 /// What was seen of each call.
@@ -65,6 +71,7 @@ struct Tallies {
     boards: Tally,
     graymaps: Tally,
     salvages: Tally,
+    covers: Tally,
 }
 
 impl Tallies {
@@ -84,6 +91,9 @@ impl Tallies {
             && graymap::short(&mut self.graymaps)
             && salvage::longest(&mut self.salvages, random)
             && salvage::short(&mut self.salvages)
+            && coverage::longest(&mut self.covers, random)
+            && coverage::refused(&mut self.covers)
+            && coverage::short(&mut self.covers)
             && merge::short(&mut self.merges)
             && peaks::longest(&mut self.peaks, random)
             && peaks::short(&mut self.peaks)
@@ -99,6 +109,7 @@ impl Tallies {
             && self.numbers.tried(&number::any(random))
             && self.graymaps.tried(&graymap::any(random))
             && self.salvages.tried(&salvage::any(random))
+            && (!random.once_in(PER_ROW) || self.covers.tried(&coverage::any(random)))
             && self
                 .responses
                 .tried(&response::any(random, &mut kept.rings))
@@ -118,8 +129,9 @@ impl Tallies {
         let boards = self.boards.told::<board::Board>(to_the_end);
         let graymaps = self.graymaps.told::<graymap::Graymap>(to_the_end);
         let salvages = self.salvages.told::<salvage::Salvage>(to_the_end);
+        let covers = self.covers.told::<coverage::Coverage>(to_the_end);
         let images = responses && operators && seeds && lists;
-        images && merges && peaks && numbers && boards && graymaps && salvages
+        images && merges && peaks && numbers && boards && graymaps && salvages && covers
     }
 }
 

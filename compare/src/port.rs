@@ -4,7 +4,7 @@
 
 use chess_corners::raw;
 pub use chess_corners::{Image, PeakSettings, SaddlePointConfig as Settings};
-use oracle::types::{Board, Region, Ring};
+use oracle::types::{Asked, Board, Region, Ring};
 
 /// Floats of the operator: five a sample of radius 7, and nine overlaps of 5
 /// by 5.
@@ -301,5 +301,48 @@ pub fn salvage(
             kept,
             dropped,
         )
+    }
+}
+
+/// Floats of a list with room for every corner.
+pub const ROOM: usize = 12_288;
+
+/// The rules' number of one call on a list with its count and counts.
+pub fn cover(
+    [width, height]: [u64; 2],
+    asked: Asked,
+    list: &mut [f32; ROOM],
+    count: &mut usize,
+    counts: &mut [u16; 65],
+) -> u32 {
+    let [width, height] = [width as usize, height as usize];
+    let (list, counts) = (list.as_mut_ptr(), counts.as_mut_ptr());
+    // SAFETY: as above.
+    unsafe {
+        match asked {
+            Asked::Afresh => raw::chess_corners_coverage(width, height, list, *count, counts),
+            Asked::Add([x, y, strength]) => {
+                raw::chess_corners_coverage_add(width, height, list, count, counts, x, y, strength)
+            }
+            Asked::Replace(number, [x, y, strength]) => raw::chess_corners_coverage_replace(
+                width,
+                height,
+                list,
+                *count,
+                counts,
+                number as usize,
+                x,
+                y,
+                strength,
+            ),
+            Asked::Drop(number) => raw::chess_corners_coverage_drop(
+                width,
+                height,
+                list,
+                count,
+                counts,
+                number as usize,
+            ),
+        }
     }
 }

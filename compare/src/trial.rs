@@ -145,16 +145,16 @@ pub fn record_lines(floats: &[f32], each: usize) -> String {
     floats.chunks(each).map(line).collect()
 }
 
-/// The classes that a case belongs to, and how many seeds of a list it
-/// compared.
+/// The classes that a case belongs to, and how many seeds of a list or calls of
+/// a row it compared.
 #[derive(Clone, Copy)]
 pub struct Met {
     classes: [Option<&'static str>; MOST],
     parts: u64,
 }
 
-/// The most classes of a case.
-const MOST: usize = 24;
+/// The most classes of a case; a row of calls meets those of each.
+const MOST: usize = 48;
 
 impl Met {
     pub fn of(class: &'static str) -> Self {
@@ -183,6 +183,8 @@ pub trait Trial: Sized + Clone + Display {
     const CLASSES: &'static [&'static str];
     /// More of them, which several calls share.
     const SHARED: &'static [&'static str] = &[];
+    /// What a case has several of.
+    const PARTS: &'static str = "seeds";
     /// All that the call leaves.
     type Left: Clone;
 
@@ -330,7 +332,7 @@ impl Tally {
             T::NAME,
             self.cases,
             if self.parts > self.cases {
-                format!(" of {} seeds", self.parts)
+                format!(" of {} {}", self.parts, T::PARTS)
             } else {
                 String::new()
             },

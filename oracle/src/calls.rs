@@ -509,3 +509,8 @@ pub fn salvage(
     let refused = saved.as_ref().err().copied();
     (decision(refused, Decided::NotRun), saved.ok())
 }
+
+/// W-211: changes what is held; a refusal leaves it. The Rust has no such call.
+pub fn cover(size: [u64; 2], held: &mut Covered, asked: Asked) -> Decision {
+    decision(rules::covered(size, held, asked), Decided::NotRun)
+}

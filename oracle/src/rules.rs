@@ -1,6 +1,6 @@
 //! Document 01 in plain Rust: the refusals in their order, and the rules of
-//! response, peaks, merge, board, graymap and salvage where the Rust has another
-//! rule or none.
+//! response, peaks, merge, board, graymap, salvage and coverage where the Rust
+//! has another rule or none.
 //! Written from the document, slow and readable, and used by no code of the port.
 
 use crate::types::*;
@@ -31,6 +31,7 @@ pub const BAD_PLACE: u32 = 31;
 pub const BAD_LIST: u32 = 32;
 pub const NO_CORNER: u32 = 33;
 pub const USED_TWICE: u32 = 34;
+pub const NO_SUCH_CORNER: u32 = 35;
 
 /// The most corners in a list.
 pub const MOST: usize = 4096;
@@ -735,4 +736,84 @@ pub fn salvaged(file: &[u8], size: [u64; 2], out: usize, faults: usize) -> Resul
         true => Err(BAD_OUT),
         false => Ok(saved),
     }
+}
+
+// --- coverage (W-211) -------------------------------------------------------
+
+/// The count of corners that lie in no tile.
+pub const NO_TILE: usize = 64;
+
+/// Which of the 65 counts a place belongs to.
+pub fn tile([width, height]: [u64; 2], [x, y, _]: Triple) -> usize {
+    let eighth = |v: f32, side: u64| {
+        let pixel = f64::from(v).floor();
+        let inside = (0.0..side as f64).contains(&pixel);
+        inside.then(|| (pixel as u64 * 8 / side) as usize)
+    };
+    match (eighth(x, width), eighth(y, height)) {
+        (Some(column), Some(row)) => 8 * row + column,
+        _ => NO_TILE,
+    }
+}
+
+/// The summary worked out afresh.
+pub fn summary(size: [u64; 2], corners: &[Triple]) -> [u16; 65] {
+    let mut counts = [0; 65];
+    for corner in corners {
+        counts[tile(size, *corner)] += 1;
+    }
+    counts
+}
+
+/// 10, 16, 35 in this order.
+pub fn coverage_refusal([width, height]: [u64; 2], count: u64, asked: Asked) -> Option<u32> {
+    let most = MOST as u64;
+    let many = match asked {
+        Asked::Add(_) => count >= most,
+        _ => count > most,
+    };
+    let missing = match asked {
+        Asked::Replace(number, _) | Asked::Drop(number) => number >= count,
+        _ => false,
+    };
+    let tests = [
+        (bad_sides(width, height), BAD_IMAGE),
+        (many, TOO_MANY),
+        (missing, NO_SUCH_CORNER),
+    ];
+    tests.into_iter().find(|t| t.0).map(|t| t.1)
+}
+
+/// What a call makes of a list, its count and its counts, or a refusal, which
+/// writes nothing. A list has room for `MOST` records.
+pub fn covered(size: [u64; 2], held: &mut Covered, asked: Asked) -> Option<u32> {
+    let refused = coverage_refusal(size, held.count, asked);
+    if refused.is_some() {
+        return refused;
+    }
+    let count = held.count as usize;
+    let Covered { list, counts, .. } = held;
+    if let Asked::Replace(number, _) | Asked::Drop(number) = asked {
+        let n = &mut counts[tile(size, list[number as usize])];
+        *n = n.saturating_sub(1);
+    }
+    if let Asked::Add(corner) | Asked::Replace(_, corner) = asked {
+        let n = &mut counts[tile(size, corner)];
+        *n = n.saturating_add(1);
+    }
+    match asked {
+        Asked::Afresh => *counts = summary(size, &list[..count]),
+        Asked::Add(corner) => {
+            list[count] = corner;
+            held.count += 1;
+        }
+        Asked::Replace(number, corner) => list[number as usize] = corner,
+        Asked::Drop(number) => {
+            // The later ones move down, and what lay past the list stays there.
+            list.remove(number as usize);
+            list.insert(count - 1, [0.0; 3]);
+            held.count -= 1;
+        }
+    }
+    None
 }

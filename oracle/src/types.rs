@@ -183,3 +183,21 @@ pub struct Salvaged {
     pub kept: Vec<u8>,
     pub dropped: Vec<[u16; 2]>,
 }
+
+/// W-211: a lent list with room for 4,096 records, how many of them are corners,
+/// and the counts beside it.
+#[derive(Clone, Debug)]
+pub struct Covered {
+    pub list: Vec<Triple>,
+    pub count: u64,
+    pub counts: [u16; 65],
+}
+
+/// What is asked of them: the summary afresh, or one corner more, another or less.
+#[derive(Clone, Copy, Debug)]
+pub enum Asked {
+    Afresh,
+    Add(Triple),
+    Replace(u64, Triple),
+    Drop(u64),
+}

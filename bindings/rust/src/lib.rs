@@ -1,7 +1,7 @@
 //! Proved chessboard corners: the ChESS response, its peaks, the saddle-point
 //! refiner, the merge, the tie of corners to the squares of a board, the reader
-//! of graymaps, and the salvage of damaged corner files, behind slices and
-//! `Result`.
+//! of graymaps, the salvage of damaged corner files, and the coverage of an
+//! image, behind slices and `Result`.
 //!
 //! Every call takes any numbers and any contents of its slices, and ends. A
 //! refusal has its name and number from docs/RULES.md and writes nothing. Which
@@ -145,6 +145,42 @@ pub mod raw {
             faults_len: usize,
             kept: *mut usize,
             dropped: *mut usize,
+        ) -> u32;
+        pub fn chess_corners_coverage(
+            width: usize,
+            height: usize,
+            list: *const f32,
+            count: usize,
+            counts: *mut u16,
+        ) -> u32;
+        pub fn chess_corners_coverage_add(
+            width: usize,
+            height: usize,
+            list: *mut f32,
+            count: *mut usize,
+            counts: *mut u16,
+            x: f32,
+            y: f32,
+            strength: f32,
+        ) -> u32;
+        pub fn chess_corners_coverage_replace(
+            width: usize,
+            height: usize,
+            list: *mut f32,
+            count: usize,
+            counts: *mut u16,
+            number: usize,
+            x: f32,
+            y: f32,
+            strength: f32,
+        ) -> u32;
+        pub fn chess_corners_coverage_drop(
+            width: usize,
+            height: usize,
+            list: *mut f32,
+            count: *mut usize,
+            counts: *mut u16,
+            number: usize,
         ) -> u32;
     }
 }
@@ -803,6 +839,101 @@ pub fn salvage(
     done(number, Salvaged { kept, dropped })
 }
 
+/// Counts the first `count` corners of a list, x, y and strength of each, by
+/// tile of an image of that size: the 64 tiles by row, then those outside or
+/// not finite.
+pub fn coverage(
+    width: usize,
+    height: usize,
+    list: &[f32; 12288],
+    count: usize,
+    counts: &mut [u16; 65],
+) -> Result<(), Refusal> {
+    // SAFETY: as above, and the arrays are as long as the call asks.
+    let number = unsafe {
+        raw::chess_corners_coverage(width, height, list.as_ptr(), count, counts.as_mut_ptr())
+    };
+    done(number, ())
+}
+
+/// One corner more, x, y and strength, at the end of the list and in its tile.
+pub fn coverage_add(
+    width: usize,
+    height: usize,
+    list: &mut [f32; 12288],
+    count: &mut usize,
+    counts: &mut [u16; 65],
+    corner: [f32; 3],
+) -> Result<(), Refusal> {
+    let [x, y, strength] = corner;
+    // SAFETY: as above.
+    let number = unsafe {
+        raw::chess_corners_coverage_add(
+            width,
+            height,
+            list.as_mut_ptr(),
+            count,
+            counts.as_mut_ptr(),
+            x,
+            y,
+            strength,
+        )
+    };
+    done(number, ())
+}
+
+/// Another corner, x, y and strength, in the place of the one of that number.
+pub fn coverage_replace(
+    width: usize,
+    height: usize,
+    list: &mut [f32; 12288],
+    count: usize,
+    counts: &mut [u16; 65],
+    number: usize,
+    corner: [f32; 3],
+) -> Result<(), Refusal> {
+    let [x, y, strength] = corner;
+    // SAFETY: as above.
+    let number = unsafe {
+        raw::chess_corners_coverage_replace(
+            width,
+            height,
+            list.as_mut_ptr(),
+            count,
+            counts.as_mut_ptr(),
+            number,
+            x,
+            y,
+            strength,
+        )
+    };
+    done(number, ())
+}
+
+/// Leaves out the corner of that number; the later ones move down by one, and
+/// the record that is freed is +0.0.
+pub fn coverage_drop(
+    width: usize,
+    height: usize,
+    list: &mut [f32; 12288],
+    count: &mut usize,
+    counts: &mut [u16; 65],
+    number: usize,
+) -> Result<(), Refusal> {
+    // SAFETY: as above.
+    let number = unsafe {
+        raw::chess_corners_coverage_drop(
+            width,
+            height,
+            list.as_mut_ptr(),
+            count,
+            counts.as_mut_ptr(),
+            number,
+        )
+    };
+    done(number, ())
+}
+
 #[cfg(test)]
 mod tests {
     use super::*;
@@ -1149,5 +1280,94 @@ mod tests {
         assert_eq!(ask(4097, 0, 1, (0, 0)), Err(Refusal::TooMany));
         assert_eq!(ask(4096, 11, 1, (49151, 2)), Err(Refusal::BadOut));
         assert_eq!(ask(4096, 11, 1, (49152, 1)), Err(Refusal::BadOut));
+    }
+
+    /// 65 counts, 1 in each of these tiles and 0 in the others.
+    fn one_in(tiles: &[usize]) -> [u16; 65] {
+        core::array::from_fn(|tile| tiles.contains(&tile).into())
+    }
+
+    /// Through the library, in an image of 16 by 8: what each call does to the
+    /// list, its count and the counts, which are those worked out afresh.
+    #[test]
+    fn the_library_keeps_the_coverage_of_a_list() {
+        let (mut list, mut count, mut counts) = ([7.0; 12288], 0, [9; 65]);
+        let afresh = |list: &[f32; 12288], count: usize| {
+            let mut counts = [9; 65];
+            coverage(16, 8, list, count, &mut counts).map(|()| counts)
+        };
+        assert_eq!(coverage(16, 8, &list, 0, &mut counts), Ok(()));
+        assert_eq!(counts, [0; 65]);
+        for corner in [[15.5, 7.5, 1.0], [-0.5, 0.0, 2.0], [-0.0, 1.0, 3.0]] {
+            let said = coverage_add(16, 8, &mut list, &mut count, &mut counts, corner);
+            assert_eq!(said, Ok(()));
+        }
+        assert_eq!((count, counts), (3, one_in(&[63, 64, 8])));
+        assert_eq!(
+            list[..10],
+            [15.5, 7.5, 1.0, -0.5, 0.0, 2.0, -0.0, 1.0, 3.0, 7.0]
+        );
+        assert_eq!(afresh(&list, count), Ok(counts));
+        let corner = [2.0, 0.0, f32::INFINITY];
+        let said = coverage_replace(16, 8, &mut list, count, &mut counts, 1, corner);
+        assert_eq!((said, counts), (Ok(()), one_in(&[63, 1, 8])));
+        assert_eq!(list[..6], [15.5, 7.5, 1.0, 2.0, 0.0, f32::INFINITY]);
+        assert_eq!(afresh(&list, count), Ok(counts));
+        let said = coverage_drop(16, 8, &mut list, &mut count, &mut counts, 0);
+        assert_eq!((said, count, counts), (Ok(()), 2, one_in(&[1, 8])));
+        assert_eq!(
+            list[..10],
+            [2.0, 0.0, f32::INFINITY, -0.0, 1.0, 3.0, 0.0, 0.0, 0.0, 7.0]
+        );
+        assert!(list[9..].iter().all(|&value| value == 7.0));
+        assert_eq!(afresh(&list, count), Ok(counts));
+    }
+
+    /// Through the library: counts that are not the list's, at both ends.
+    #[test]
+    fn the_library_counts_from_0_to_65535() {
+        let (mut list, mut count, mut counts) = ([0.0; 12288], 0, [65535; 65]);
+        let corner = [f32::NAN, 0.0, 1.0];
+        let said = coverage_add(1, 1, &mut list, &mut count, &mut counts, corner);
+        assert_eq!((said, count, counts), (Ok(()), 1, [65535; 65]));
+        counts = [0; 65];
+        let said = coverage_drop(1, 1, &mut list, &mut count, &mut counts, 0);
+        assert_eq!((said, count, counts), (Ok(()), 0, [0; 65]));
+    }
+
+    /// Through the library: each number, in its order, with nothing written.
+    #[test]
+    fn the_library_refuses_coverage_by_name() {
+        // Afresh, adding, replacing, dropping.
+        let ask = |width: usize, held: usize, number: usize| {
+            [0, 1, 2, 3].map(|call| {
+                let (mut list, mut count, mut counts) = ([7.0; 12288], held, [9; 65]);
+                let corner = [0.0; 3];
+                let said = match call {
+                    0 => coverage(width, 1, &list, count, &mut counts),
+                    1 => coverage_add(width, 1, &mut list, &mut count, &mut counts, corner),
+                    2 => coverage_replace(width, 1, &mut list, count, &mut counts, number, corner),
+                    _ => coverage_drop(width, 1, &mut list, &mut count, &mut counts, number),
+                };
+                if said.is_err() {
+                    assert!(list == [7.0; 12288] && count == held && counts == [9; 65]);
+                }
+                said.err()
+            })
+        };
+        let [image, many, none] =
+            [Refusal::BadImage, Refusal::TooMany, Refusal::NoSuchCorner].map(Some);
+        for width in [0, 4097, usize::MAX] {
+            assert_eq!(ask(width, 4097, 4097), [image; 4]);
+        }
+        for held in [4097, usize::MAX] {
+            assert_eq!(ask(4096, held, 0), [many; 4]);
+            assert_eq!(ask(4096, held, usize::MAX), [many; 4]);
+        }
+        assert_eq!(ask(1, 4096, 4095), [None, many, None, None]);
+        assert_eq!(ask(1, 4096, 4096), [None, many, none, none]);
+        assert_eq!(ask(1, 4095, 4094), [None; 4]);
+        assert_eq!(ask(1, 0, 0), [None, None, none, none]);
+        assert_eq!(ask(1, 0, usize::MAX), [None, None, none, none]);
     }
 }

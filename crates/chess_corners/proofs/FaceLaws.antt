@@ -1,10 +1,14 @@
 -- From what a wrapped call promises to what its exported function does: once for all of its answers.
-use mathlib.Core.Path.{_≡_, sym, ap, _∙_}
+use mathlib.Core.Path.{_≡_, refl, sym, ap, _∙_}
+use mathlib.Core.Bool.{Bool, true, false, not, cond}
 use mathlib.Core.List.{List}
 use Prim.Native.Nat.{ℕ}
+use lib.Dec.{ltb}
 use lib.IntN.{ℤ}
 use lib.Ieee.{Float}
-use Rattle.imageview.specs.Image.{Image}
+use Rattle.corners.specs.Corners.{mostCorners}
+use Rattle.imageview.specs.Image.{Image, isSize}
+use Rattle.refusals.specs.declared.Refusal.the-variants.{BadImage, TooMany, NoSuchCorner}
 use Rattle.response.specs.declared.Response.{Response}
 use Rattle.response.specs.Region.{Region}
 use Rattle.response.specs.Call as R
@@ -22,7 +26,9 @@ use Rattle.graymap.specs.declared.Graymap.{Graymap}
 use Rattle.graymap.specs.Call as G
 use Rattle.salvage.specs.declared.Salvage.{Salvage}
 use Rattle.salvage.specs.Call as S
-use Rattle.chess_corners.specs.Face.{Responded, Merging, Refining, Scanning, Tying, Reading, Salvaging, Facts, widthAfter, heightAfter, countAfter, recordsAfter, peaksAfter, placeAfter, factsAfter, keptAfter, droppedAfter}
+use Rattle.coverage.specs.declared.Coverage.{Coverage}
+use Rattle.coverage.specs.Call as C
+use Rattle.chess_corners.specs.Face.{Responded, Merging, Refining, Scanning, Tying, Reading, Salvaging, Covering, Facts, widthAfter, heightAfter, countAfter, recordsAfter, peaksAfter, placeAfter, factsAfter, keptAfter, droppedAfter, heldAfter}
 
 pub responded : {img : Image} {ring : List ℤ} {radius : ℕ} {r : Region} {out : List Float} {answer : Response} {out' : List Float} (w h : ℕ) (known : Response) (n : ℕ)
     → n ≡ R.numberOf known → answer ≡ known → R.Done img ring radius r out answer out' → Responded img ring radius r out w h n out' (widthAfter w known) (heightAfter h known)
@@ -81,3 +87,32 @@ salvaging kept dropped known n q e d = record {
   keeps = ap (keptAfter kept) (sym e ∙ d .answers);
   drops = ap (droppedAfter dropped) (sym e ∙ d .answers);
 }
+
+pub covering : {way : C.Way} {list : List Float} {counts : List ℕ} {answer : Coverage} {list' : List Float} {counts' : List ℕ} (count : ℕ) (known : Coverage) (n : ℕ)
+    → n ≡ C.numberOf known → answer ≡ known → C.Done way list counts answer list' counts' → Covering way list counts count n list' counts' (heldAfter count known)
+covering count known n q e d = record {
+  says = q ∙ ap C.numberOf (sym e ∙ d .answers);
+  leaves-list = d .leaves-list;
+  leaves-counts = d .leaves-counts;
+  holds = ap (heldAfter count) (sym e ∙ d .answers);
+}
+
+-- ---- a call that neither adds nor drops holds as many as before, whichever test ends it
+pub still : {way : C.Way} {list : List Float} {counts : List ℕ} {count n : ℕ} {list' : List Float} {counts' : List ℕ} {m : ℕ}
+    → count ≡ heldAfter count (C.answerOf way) → Covering way list counts count n list' counts' m → Covering way list counts count n list' counts' count
+still h c = record { says = c .says; leaves-list = c .leaves-list; leaves-counts = c .leaves-counts; holds = h }
+
+pub still-tested : (w h n : ℕ) (rest : C.Way) → n ≡ heldAfter n (C.answerOf rest) → n ≡ heldAfter n (C.answerOf (C.tested w h n rest))
+still-tested w h n rest e = go (isSize w h) (ltb mostCorners n)
+  where
+    go : (s m : Bool) → n ≡ heldAfter n (C.answerOf (cond (not s) (C.refused BadImage) (cond m (C.refused TooMany) rest)))
+    go false m = refl
+    go true true = refl
+    go true false = e
+
+pub still-listed : (k n : ℕ) (rest : C.Way) → n ≡ heldAfter n (C.answerOf rest) → n ≡ heldAfter n (C.answerOf (C.inList k n rest))
+still-listed k n rest e = go (ltb k n)
+  where
+    go : (l : Bool) → n ≡ heldAfter n (C.answerOf (cond l rest (C.refused NoSuchCorner)))
+    go true = e
+    go false = refl

@@ -38,6 +38,10 @@ use Rattle.salvage.specs.declared.Salvage.{Salvage}
 use Rattle.salvage.specs.declared.Salvage.the-variants as Salvage
 use Rattle.salvage.specs.declared.Salvage.the-variants.{Saved}
 use Rattle.salvage.specs.Call as S
+use Rattle.coverage.specs.declared.Coverage.{Coverage}
+use Rattle.coverage.specs.declared.Coverage.the-variants as Coverage
+use Rattle.coverage.specs.declared.Coverage.the-variants.{Counted}
+use Rattle.coverage.specs.Call as C
 
 -- ---- the response: the clamped width and height
 abbrev pub widthAfter : ℕ → Response → ℕ
@@ -130,3 +134,14 @@ pub record Salvaging (width height : ℕ) (file out faults : List ℕ) (kept dro
   pub leaves-faults : faults' ≡ S.faultsAfter faults (S.wayOf width height file (length out) (length faults))
   pub keeps : kept' ≡ keptAfter kept (S.answerOf (S.wayOf width height file (length out) (length faults)))
   pub drops : dropped' ≡ droppedAfter dropped (S.answerOf (S.wayOf width height file (length out) (length faults)))
+
+-- ---- coverage: the count of the list, which adding and dropping change
+abbrev pub heldAfter : ℕ → Coverage → ℕ
+heldAfter old (Counted n) = n
+heldAfter old (Coverage.Refused r) = old
+
+pub record Covering (way : C.Way) (list : List Float) (counts : List ℕ) (count : ℕ) (number : ℕ) (list' : List Float) (counts' : List ℕ) (count' : ℕ) : Type 0 where
+  pub says : number ≡ C.numberOf (C.answerOf way)
+  pub leaves-list : list' ≡ C.listAfter list way
+  pub leaves-counts : counts' ≡ C.countsAfter counts way
+  pub holds : count' ≡ heldAfter count (C.answerOf way)

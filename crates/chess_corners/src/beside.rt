@@ -1,6 +1,9 @@
-// What stands beside the corners: damaged files.
+// What stands beside the corners: damaged files and coverage.
+use corners::Corner;
+use coverage::Coverage;
 use salvage::Salvage;
-ghost use Rattle.chess_corners.specs.Face.{Salvaging};
+ghost use Rattle.coverage.specs.Call.{freshWay, addWay, replaceWay, dropWay};
+ghost use Rattle.chess_corners.specs.Face.{Salvaging, Covering};
 
 // The records of a corner file that can be used, as they are, and the fault of each other one; 0, 10, 16 or 15.
 #[no_mangle]
@@ -26,5 +29,93 @@ pub extern "C" fn chess_corners_salvage(
             0
         }
         Salvage::Refused(refusal) => refusals::number(refusal),
+    }
+}
+
+// How many of the first `count` corners lie in each tile, afresh; 0, 10 or 16.
+#[no_mangle]
+pub extern "C" fn chess_corners_coverage(
+    width: usize,
+    height: usize,
+    list: &[f32; 12288],
+    count: usize,
+    counts: &mut [u16; 65],
+) -> u32
+    ensures { λ r. ⌜ Covering (freshWay width height (now (list .entry)) count) (now (list .entry)) (now (counts .entry)) count r (now (list .entry)) (now (counts .exit)) count ⌝ }
+{
+    let answer = coverage::coverage_afresh(width, height, list, count, counts);
+    match answer {
+        Coverage::Counted(_) => 0,
+        Coverage::Refused(refusal) => refusals::number(refusal),
+    }
+}
+
+// One corner more, at the end of the list; 0, 10 or 16.
+#[no_mangle]
+pub extern "C" fn chess_corners_coverage_add(
+    width: usize,
+    height: usize,
+    list: &mut [f32; 12288],
+    count: &mut usize,
+    counts: &mut [u16; 65],
+    x: f32,
+    y: f32,
+    strength: f32,
+) -> u32
+    ensures { λ r. ⌜ Covering (addWay width height (now (list .entry)) (now (count .entry)) (now (counts .entry)) x y strength) (now (list .entry)) (now (counts .entry)) (now (count .entry)) r (now (list .exit)) (now (counts .exit)) (now (count .exit)) ⌝ }
+{
+    let corner = Corner { x, y, strength };
+    let answer = coverage::add_corner(width, height, list, *count, counts, corner);
+    match answer {
+        Coverage::Counted(longer) => {
+            *count = longer;
+            0
+        }
+        Coverage::Refused(refusal) => refusals::number(refusal),
+    }
+}
+
+// The corner of this number is another one from now on; 0, 10, 16 or 35.
+#[no_mangle]
+pub extern "C" fn chess_corners_coverage_replace(
+    width: usize,
+    height: usize,
+    list: &mut [f32; 12288],
+    count: usize,
+    counts: &mut [u16; 65],
+    number: usize,
+    x: f32,
+    y: f32,
+    strength: f32,
+) -> u32
+    ensures { λ r. ⌜ Covering (replaceWay width height (now (list .entry)) count (now (counts .entry)) number x y strength) (now (list .entry)) (now (counts .entry)) count r (now (list .exit)) (now (counts .exit)) count ⌝ }
+{
+    let other = Corner { x, y, strength };
+    let answer = coverage::replace_corner(width, height, list, count, counts, number, other);
+    match answer {
+        Coverage::Counted(_) => 0,
+        Coverage::Refused(refusal) => refusals::number(refusal),
+    }
+}
+
+// The corner of this number is left out; the later ones move down by one; 0, 10, 16 or 35.
+#[no_mangle]
+pub extern "C" fn chess_corners_coverage_drop(
+    width: usize,
+    height: usize,
+    list: &mut [f32; 12288],
+    count: &mut usize,
+    counts: &mut [u16; 65],
+    number: usize,
+) -> u32
+    ensures { λ r. ⌜ Covering (dropWay width height (now (list .entry)) (now (count .entry)) (now (counts .entry)) number) (now (list .entry)) (now (counts .entry)) (now (count .entry)) r (now (list .exit)) (now (counts .exit)) (now (count .exit)) ⌝ }
+{
+    let answer = coverage::drop_corner(width, height, list, *count, counts, number);
+    match answer {
+        Coverage::Counted(left) => {
+            *count = left;
+            0
+        }
+        Coverage::Refused(refusal) => refusals::number(refusal),
     }
 }

@@ -4,6 +4,10 @@
 mod beside;
 mod seed;
 
+pub use beside::chess_corners_coverage;
+pub use beside::chess_corners_coverage_add;
+pub use beside::chess_corners_coverage_drop;
+pub use beside::chess_corners_coverage_replace;
 pub use beside::chess_corners_salvage;
 use board::Tie;
 use graymap::Graymap;

@@ -7,6 +7,7 @@ use crate::types::*;
 use crate::words::{bits32, Case, List};
 
 pub mod board;
+pub mod coverage;
 pub mod fallback;
 pub mod floats;
 pub mod gradient;
@@ -44,6 +45,7 @@ pub const ALL: &[Writer] = &[
     ("board", board::list),
     ("graymap", graymap::list),
     ("salvage", salvage::list),
+    ("coverage", coverage::list),
     ("fit", pieces::fit),
     ("window", pieces::window),
     ("blend", pieces::blend),
@@ -68,6 +70,7 @@ const REACHED: &[(&str, &[u32])] = &[
     ("board", &[0, 30, 31, 32, 33, 34]),
     ("graymap", &[0, 20, 21, 22, 23, 24, 25]),
     ("salvage", &[0, 10, 15, 16]),
+    ("coverage", &[0, 10, 16, 35]),
 ];
 
 /// The lists that have an image in each case.
@@ -114,6 +117,7 @@ pub fn missing(list: &List) -> Vec<String> {
         "board" => wanted.extend(board::MET.map(String::from)),
         "graymap" => wanted.extend(graymap::MET.map(String::from)),
         "salvage" => wanted.extend(salvage::MET.map(String::from)),
+        "coverage" => wanted.extend(coverage::MET.map(String::from)),
         _ => {}
     }
     wanted.retain(|what| list.counted(what) == 0);
@@ -215,6 +219,7 @@ fn number_name(number: u32) -> &'static str {
         32 => "32 BadList",
         33 => "33 NoCorner",
         34 => "34 UsedTwice",
+        35 => "35 NoSuchCorner",
         _ => "a number that document 01 does not have",
     }
 }
