@@ -3,3 +3,4 @@ pub mod Choice
 pub mod SolveLaws
 pub mod SensitivityLaws
 pub mod KernelLaws
+pub mod FiveLaws

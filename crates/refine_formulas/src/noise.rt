@@ -4,7 +4,9 @@ use super::Jacobian;
 use super::Matrix;
 use super::sensitivity;
 ghost use mathlib.Core.Path.{_≡_};
+ghost use Prim.Native.Nat.{_+_, _*_, _<_};
 ghost use Rattle.shapes.specs.Lists.{tabulated};
+ghost use Rattle.shapes.specs.Numbers.{entry};
 ghost use Rattle.refine_formulas.specs.Covariance as Spec;
 ghost use Rattle.refine_formulas.specs.Steps.{entryAfter, combined, spreadOf};
 
@@ -91,22 +93,24 @@ fn spread(k: [f32; 25], a: [f32; 5], b: [f32; 5]) -> Covariance
     known(xx, xy, yy)
 }
 
-// A row times the kernel's columns, each sum from -0.0.
+// A row times the kernel's columns.
 fn times_kernel(row: [f32; 5], k: [f32; 25]) -> [f32; 5]
     ensures { λ r. ⌜ r ≡ Spec.timesKernel row k ⌝ }
 {
-    let a = row[0];
-    let b = row[1];
-    let c = row[2];
-    let d = row[3];
-    let e = row[4];
     [
-        -0.0 + a * k[0] + b * k[5] + c * k[10] + d * k[15] + e * k[20],
-        -0.0 + a * k[1] + b * k[6] + c * k[11] + d * k[16] + e * k[21],
-        -0.0 + a * k[2] + b * k[7] + c * k[12] + d * k[17] + e * k[22],
-        -0.0 + a * k[3] + b * k[8] + c * k[13] + d * k[18] + e * k[23],
-        -0.0 + a * k[4] + b * k[9] + c * k[14] + d * k[19] + e * k[24],
+        sensitivity::dot(row, column(k, 0)),
+        sensitivity::dot(row, column(k, 1)),
+        sensitivity::dot(row, column(k, 2)),
+        sensitivity::dot(row, column(k, 3)),
+        sensitivity::dot(row, column(k, 4)),
     ]
+}
+
+fn column(k: [f32; 25], s: usize) -> [f32; 5]
+    requires { ⌜ s < 5 ⌝ }
+    ensures { λ r. ⌜ r ≡ tabulated 5 (λ r. entry k (5 * r + s)) ⌝ }
+{
+    [k[s], k[5 + s], k[10 + s], k[15 + s], k[20 + s]]
 }
 
 fn known(xx: f32, xy: f32, yy: f32) -> Covariance
