@@ -1,0 +1,131 @@
+"""Tests of the Python binding: python3 -m unittest, with CHESS_CORNERS_SO naming the shared object."""
+
+import array
+import math
+import os
+import struct
+import unittest
+
+import chess_corners as cc
+
+EXAMPLES = os.path.join(os.path.dirname(os.path.abspath(__file__)), "..", "..", "examples")
+
+
+def read(name):
+    with open(os.path.join(EXAMPLES, name), "rb") as file:
+        return file.read()
+
+
+def board(wrap=bytes):
+    return cc.Image(wrap(read("board.gray")), 128, 96)
+
+
+def lines(corners):
+    """As examples/board.corners has them."""
+    return [" ".join(f"{struct.unpack('<I', struct.pack('<f', v))[0]:08X}" for v in corner) for corner in cc.triples(corners)]
+
+
+class Road(unittest.TestCase):
+    stored = read("board.corners").decode().split("\n")[:-2]
+
+    def test_corners_are_the_oracles(self):
+        self.assertEqual(lines(cc.find_corners(board(), threshold=200.0)), self.stored)
+
+    def test_any_buffer_goes_in(self):
+        for wrap in (bytearray, memoryview, lambda b: array.array("B", b), lambda b: memoryview(bytearray(b))):
+            self.assertEqual(lines(cc.find_corners(board(wrap), threshold=200.0)), self.stored)
+
+    def test_numpy_goes_in(self):
+        try:
+            import numpy
+        except ImportError:
+            self.skipTest("numpy is not there")
+        samples = numpy.frombuffer(read("board.gray"), numpy.uint8).reshape(96, 128)
+        self.assertEqual(lines(cc.find_corners(cc.Image(samples, 128, 96), threshold=200.0)), self.stored)
+
+    def test_padding_is_not_read(self):
+        rows = read("board.gray")
+        padded = b"".join(rows[128 * y : 128 * y + 128] + bytes([y % 251] * 64) for y in range(96))
+        self.assertEqual(lines(cc.find_corners(cc.Image(padded, 128, 96, 192), threshold=200.0)), self.stored)
+
+    def test_regions_are_clamped(self):
+        whole, part = cc.response(board()), cc.response(board(), roi=(100, 90, 500, 94))
+        self.assertEqual((part.width, part.height), (28, 4))
+        self.assertEqual(part.values[:28], whole.values[90 * 128 + 100 : 90 * 128 + 128])
+
+    def test_an_operator_gives_the_same(self):
+        operator = cc.Operator(2)
+        for x, y, _ in cc.triples(cc.peaks(cc.response(board()), threshold=200.0)):
+            self.assertEqual(cc.refine(board(), x, y, covariance=True, operator=operator), cc.refine(board(), x, y, covariance=True))
+
+
+class Refusals(unittest.TestCase):
+    def refused(self, number, name, call, *words, at=None, **more):
+        with self.assertRaises(cc.Refused) as caught:
+            call(*words, **more)
+        self.assertEqual((caught.exception.number, caught.exception.name, caught.exception.at), (number, name, at))
+
+    def test_images(self):
+        self.refused(10, "BadImage", cc.response, cc.Image(b"abc", 2, 2))
+        self.refused(10, "BadImage", cc.response, cc.Image(b"", 0, 0))
+        self.refused(13, "BadRing", cc.response, board(), radius=4)
+        self.refused(14, "EmptyRoi", cc.response, board(), roi=(5, 5, 5, 9))
+
+    def test_lists(self):
+        self.refused(16, "TooMany", cc.peaks, cc.response(board()), most=2)
+        self.refused(19, "BadLength", cc.refine_list, board(), array.array("f", [1.0, 2.0]))
+        self.refused(12, "BadLimit", cc.refine_list, board(), array.array("f"), cc.Settings(det_margin=math.nan))
+        self.refused(17, "GridTooBig", cc.merge, array.array("f", [0, 0, 1, 600, 400, 1]), 1.0, heads=100)
+
+    def test_a_seed_has_a_status(self):
+        self.assertEqual(cc.refine(board(), math.nan, 3.0).number, 4)
+        self.assertEqual(cc.refine(board(), 1.0, 1.0)[:3], (2, 1.0, 1.0))
+        self.refused(11, "BadRadius", cc.refine, board(), 1.0, 1.0, cc.Settings(radius=8))
+        self.assertEqual([cc.old_number(n) for n in (3, 4, 5, 6, 7, 10)], [3, 4, 3, 3, 3, 10])
+
+    def test_graymaps(self):
+        picture = cc.graymap(b"P5 # made by hand\n3 1 255\n\x00#\xff")
+        self.assertEqual((picture.width, picture.height, bytes(picture.samples)), (3, 1, b"\x00#\xff"))
+        self.refused(20, "NoMagic", cc.graymap, b"")
+        self.refused(24, "AboveMaximum", cc.graymap, b"P5 2 1 7\n\x07\x08", at=1)
+        self.refused(25, "LeftOver", cc.graymap, b"P5 1 1 7\n\x07\x07")
+
+    def test_a_buffer_of_another_kind(self):
+        self.assertRaises(TypeError, cc.refine_list, board(), array.array("d", [1.0, 2.0, 3.0]))
+        self.assertRaises(TypeError, cc.response, cc.Image([1, 2, 3], 3, 1))
+        self.assertRaises(ValueError, cc.response, cc.Image(b"", -1, 1))
+
+
+class Beside(unittest.TestCase):
+    def test_merging_leaves_the_list(self):
+        corners = array.array("f", [0, 0, 1, 1, 0, 2, 9, 9, 3])
+        self.assertEqual(list(cc.merge(corners, 2.0)), [1, 0, 2, 9, 9, 3])
+        self.assertEqual(corners[0], 0.0)
+
+    def test_ties(self):
+        corners = array.array("f", [5, 5, 1, 1, 1, 1])
+        self.assertEqual(list(cc.tie_corners(2, 3, array.array("f", [1, 1, 5, 5]), 0.5, corners)), [1, 0])
+        with self.assertRaises(cc.Refused) as caught:
+            cc.tie_corners(2, 3, array.array("f", [1, 1, 7, 5]), 0.5, corners)
+        self.assertEqual((caught.exception.number, caught.exception.at), (33, 1))
+
+    def test_salvage(self):
+        good, bad = struct.pack("<3f", 1, 2, 3), struct.pack("<3f", math.nan, 2, 3)
+        self.assertEqual(cc.salvage(good + bad + good + b"cut", 640, 480), cc.Salvaged(good + good, [(1, 2), (3, 1)]))
+
+    def test_coverage(self):
+        covered = cc.Coverage(80, 80, [5, 5, 1])
+        covered.add(79.5, 79.5, 1)
+        covered.add(-1, 0, 1)
+        self.assertEqual([i for i, n in enumerate(covered.counts) if n], [0, 63, 64])
+        covered.replace(0, 15, 5, 1)
+        covered.drop(2)
+        self.assertEqual([i for i, n in enumerate(covered.counts) if n], [1, 63])
+        self.assertEqual(list(covered.corners), [15, 5, 1, 79.5, 79.5, 1])
+        with self.assertRaises(cc.Refused) as caught:
+            covered.drop(2)
+        self.assertEqual(caught.exception.number, 35)
+
+
+if __name__ == "__main__":
+    unittest.main()
