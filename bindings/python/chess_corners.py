@@ -15,6 +15,7 @@ The shared object is looked for where the environment's CHESS_CORNERS_SO says, e
 import array
 import collections
 import ctypes
+import math
 import os
 
 MOST_CORNERS = 4096
@@ -253,10 +254,25 @@ def refine_list(image, corners, settings=Settings()):
     return out[: 3 * count.value]
 
 
-def merge(corners, radius=2.0, heads=1 << 16):
-    """The corners with those merged that lie within the radius; the list that goes in stays. GridTooBig where the grid has more cells than heads."""
+def _cells(values, radius):
+    """At least as many cells as the merge's grid has along an axis; one more than it needs where a quotient rounds."""
+    numbers = [v for v in values if math.isfinite(v)]
+    return int((max(numbers) - min(numbers)) / radius) + 2 if numbers else 1
+
+
+def heads_for(corners, radius):
+    """How many heads serve the merge of these corners at this radius: one a cell of the grid, and some to spare."""
+    if not (math.isfinite(radius) and radius > 0):
+        return 0
+    return _cells(corners[0::3], radius) * _cells(corners[1::3], radius)
+
+
+def merge(corners, radius=2.0, heads=None):
+    """The corners with those merged that lie within the radius; the list that goes in stays. As many heads are lent as the grid needs, up to
+    16,777,216; GridTooBig where it has more cells than heads."""
     out = array.array("f", memoryview(corners).cast("B").tobytes())
-    grid, links, count = _words(heads), _words(len(out) // 3), _size()
+    grid = _words(min(heads_for(out, radius), 1 << 24) if heads is None else heads)
+    links, count = _words(len(out) // 3), _size()
     with _Lent(out, "f32", True) as list_, _Lent(grid, "u16", True) as cells, _Lent(links, "u16", True) as chain:
         number = _merge(list_.at, list_.len, radius, cells.at, cells.len, chain.at, chain.len, ctypes.byref(count))
     if number:

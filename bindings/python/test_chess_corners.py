@@ -102,6 +102,14 @@ class Beside(unittest.TestCase):
         self.assertEqual(list(cc.merge(corners, 2.0)), [1, 0, 2, 9, 9, 3])
         self.assertEqual(corners[0], 0.0)
 
+    def test_the_grid_has_enough_heads(self):
+        corners = array.array("f", [v for y in range(0, 480, 24) for x in range(0, 640, 24) for v in (x + 0.3, y + 0.7, 1)])
+        for radius in (0.5, 1.0, 2.0, 3.1, 7.0, 23.9):
+            self.assertEqual(cc.merge(corners, radius), corners)
+        self.assertEqual(len(cc.merge(array.array("f", [math.nan, 1, 2, 5, 5, 2]), 2.0)), 6)
+        self.assertEqual(len(cc.merge(array.array("f", [math.inf, 1, 2, 5, 5, 2]), 2.0)), 6)
+        self.assertEqual(len(cc.merge(array.array("f"), 2.0)), 0)
+
     def test_ties(self):
         corners = array.array("f", [5, 5, 1, 1, 1, 1])
         self.assertEqual(list(cc.tie_corners(2, 3, array.array("f", [1, 1, 5, 5]), 0.5, corners)), [1, 0])
