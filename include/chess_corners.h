@@ -1,5 +1,6 @@
 /* Proved chessboard corners: the ChESS response, its peaks, the saddle-point refiner, the merge, the tie of corners to
- * the squares of a board, the reader of graymaps, the salvage of damaged corner files, and the coverage of an image.
+ * the squares of a board, the reader of graymaps, the salvage of damaged corner files, the coverage of an image, and how
+ * each sample of a tile moves the response.
  *
  * Link with libchess_corners.a. Every call takes any numbers and any contents of its buffers, ends, and returns
  * a number: 0 done, 1 to 7 a seed's status, from 10 up a refusal. A refusal writes nothing, neither to a buffer
@@ -19,7 +20,7 @@
  *
  * Stack in bytes, on x86-64, as compiled for release, all that a call calls included (docs/SPEED.md): response 1,328,
  * peaks 5,808, fit_operator 2,336, refine 7,344, refine_with 2,816, refine_list 7,296, merge 240, tie 1,984, graymap 56,
- * salvage 56, coverage 56 to 88. No call recurses. Scratch: only the merge asks for any, heads and links.
+ * salvage 56, coverage 56 to 88, gradient 240. No call recurses. Scratch: only the merge asks for any, heads and links.
  *
  * Numbers:
  *    0 Accepted        1 Rejected: the first fit lies outside the box about the seed
@@ -30,13 +31,13 @@
  *    6 TooSmall: its magnitude is below min_abs_det
  *    7 NotFinite: the offset of the first fit is not finite
  *   10 BadImage: width or height outside 1..4096, pitch outside width..8192, or a count that is not pitch times height
- *      (of a response: width times height)
+ *      (of a response: width times height; of a tile: its side squared)
  *   11 BadRadius: refiner radius above 7, ring radius outside 1..10, window radius outside 1..8
  *   12 BadLimit: a float setting that is not finite or below zero (the peak threshold may be below zero)
- *   13 BadRing: a ring component beyond the ring radius
+ *   13 BadRing: a ring component beyond the ring radius; of the gradient, a ring or a cross that leaves the tile
  *   14 EmptyRoi: x0 >= x1 or y0 >= y1
  *   15 BadOut: a response buffer not of the clamped region's size; a refine output shorter than its input; an output of
- *      the salvage shorter than what goes into it
+ *      the salvage shorter than what goes into it; a grid without two numbers for each cell of a tile
  *   16 TooMany: over 4,096 corners or whole records, a corner added to 4,096, or more peaks than the output holds
  *   17 GridTooBig: more cells of the merge than heads
  *   18 BadScratch: fewer links than corners
@@ -222,6 +223,15 @@ uint32_t chess_corners_coverage_replace(size_t width, size_t height, float list[
  * Returns 0, 10, 16 (count over 4,096), 35 (number not below count). */
 uint32_t chess_corners_coverage_drop(size_t width, size_t height, float list[12288], size_t *count,
                                      uint16_t counts[65], size_t number);
+
+/* Adds to grid, which has two numbers for each cell of the tile, scale_x and scale_y times the gradient of the response at
+ * the cell (x, y): how it moves with each sample. tile: side times side bytes, row after row; side may be any number.
+ * ring: sixteen pairs (dx, dy). Every place of the ring and of the cross must lie on the tile, sideways too. Whole
+ * coefficients; a product and a sum are rounded, one after the other, ring places in their order and then the cross's. A
+ * cell that is no place stays as it was. An infinite scale makes a NaN where a coefficient is zero.
+ * 0; 10, 13, 15. */
+uint32_t chess_corners_gradient(const uint8_t *tile, size_t tile_len, size_t side, const int32_t ring[32], size_t x, size_t y,
+                                float scale_x, float scale_y, float *grid, size_t grid_len);
 
 #ifdef __cplusplus
 }

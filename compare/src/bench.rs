@@ -4,6 +4,7 @@
 
 mod board;
 mod coverage;
+mod gradient;
 mod graymap;
 mod peaks;
 mod pitch;
@@ -264,7 +265,7 @@ fn merges() -> bool {
 /// A table by its name.
 type Table = (&'static str, fn() -> bool);
 
-const TABLES: [Table; 8] = [
+const TABLES: [Table; 9] = [
     ("response", responses),
     ("peaks", peaks::table),
     ("merge", merges),
@@ -273,6 +274,7 @@ const TABLES: [Table; 8] = [
     ("graymap", graymap::table),
     ("salvage", salvage::table),
     ("coverage", coverage::table),
+    ("gradient", gradient::table),
 ];
 
 /// Prints the tables, or one of them by its name. `false` where the two sides

@@ -5,6 +5,7 @@
 mod bench;
 mod board;
 mod coverage;
+mod gradient;
 mod graymap;
 mod list;
 mod merge;
@@ -55,7 +56,8 @@ fn faults_noticed() -> Result<(), String> {
     board::faults_noticed()?;
     graymap::faults_noticed()?;
     salvage::faults_noticed()?;
-    coverage::faults_noticed()
+    coverage::faults_noticed()?;
+    gradient::faults_noticed()
 }
 
 /// What was seen of each call.
@@ -72,6 +74,7 @@ struct Tallies {
     graymaps: Tally,
     salvages: Tally,
     covers: Tally,
+    gradients: Tally,
 }
 
 impl Tallies {
@@ -94,6 +97,7 @@ impl Tallies {
             && coverage::longest(&mut self.covers, random)
             && coverage::refused(&mut self.covers)
             && coverage::short(&mut self.covers)
+            && gradient::short(&mut self.gradients)
             && merge::short(&mut self.merges)
             && peaks::longest(&mut self.peaks, random)
             && peaks::short(&mut self.peaks)
@@ -109,6 +113,7 @@ impl Tallies {
             && self.numbers.tried(&number::any(random))
             && self.graymaps.tried(&graymap::any(random))
             && self.salvages.tried(&salvage::any(random))
+            && self.gradients.tried(&gradient::any(random))
             && (!random.once_in(PER_ROW) || self.covers.tried(&coverage::any(random)))
             && self
                 .responses
@@ -130,7 +135,8 @@ impl Tallies {
         let graymaps = self.graymaps.told::<graymap::Graymap>(to_the_end);
         let salvages = self.salvages.told::<salvage::Salvage>(to_the_end);
         let covers = self.covers.told::<coverage::Coverage>(to_the_end);
-        let images = responses && operators && seeds && lists;
+        let gradients = self.gradients.told::<gradient::Gradient>(to_the_end);
+        let images = responses && operators && seeds && lists && gradients;
         images && merges && peaks && numbers && boards && graymaps && salvages && covers
     }
 }

@@ -346,3 +346,30 @@ pub fn cover(
         }
     }
 }
+
+/// The rules' number; the grid has two numbers a cell.
+pub fn gradient(
+    side: u32,
+    tile: &[u8],
+    ring: &Ring,
+    [x, y]: [u32; 2],
+    [scale_x, scale_y]: [f32; 2],
+    grid: &mut [f32],
+) -> u32 {
+    let ring = flat(ring);
+    // SAFETY: as above.
+    unsafe {
+        raw::chess_corners_gradient(
+            tile.as_ptr(),
+            tile.len(),
+            side as usize,
+            ring.as_ptr(),
+            x as usize,
+            y as usize,
+            scale_x,
+            scale_y,
+            grid.as_mut_ptr(),
+            grid.len(),
+        )
+    }
+}

@@ -365,6 +365,8 @@ pub fn covariance(
     probe::saddle_point::covariance_of(radius, t, jac, m)
 }
 
+pub use probe::response::Gradients;
+
 /// `ResponseStencil::add_gradient` on a square tile and a gradient grid of
 /// the same side.
 pub fn add_gradient(

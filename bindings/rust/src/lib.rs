@@ -1,7 +1,7 @@
 //! Proved chessboard corners: the ChESS response, its peaks, the saddle-point
 //! refiner, the merge, the tie of corners to the squares of a board, the reader
-//! of graymaps, the salvage of damaged corner files, and the coverage of an
-//! image, behind slices and `Result`.
+//! of graymaps, the salvage of damaged corner files, the coverage of an image,
+//! and how each sample of a tile moves the response, behind slices and `Result`.
 //!
 //! Every call takes any numbers and any contents of its slices, and ends. A
 //! refusal has its name and number from docs/RULES.md and writes nothing. Which
@@ -181,6 +181,18 @@ pub mod raw {
             count: *mut usize,
             counts: *mut u16,
             number: usize,
+        ) -> u32;
+        pub fn chess_corners_gradient(
+            tile: *const u8,
+            tile_len: usize,
+            side: usize,
+            ring: *const i32,
+            x: usize,
+            y: usize,
+            scale_x: f32,
+            scale_y: f32,
+            grid: *mut f32,
+            grid_len: usize,
         ) -> u32;
     }
 }
@@ -519,6 +531,17 @@ impl Operator {
     }
 }
 
+/// A ring as the library takes it, dx and dy of each pair.
+fn flat(ring: &[(i32, i32); 16]) -> [i32; 32] {
+    core::array::from_fn(|k| {
+        if k % 2 == 0 {
+            ring[k / 2].0
+        } else {
+            ring[k / 2].1
+        }
+    })
+}
+
 /// The response of a region, clamped to the image: its width and height.
 pub fn response(
     image: Image<'_>,
@@ -527,13 +550,7 @@ pub fn response(
     roi: Roi,
     out: &mut [f32],
 ) -> Result<(usize, usize), Refusal> {
-    let ring: [i32; 32] = core::array::from_fn(|k| {
-        if k % 2 == 0 {
-            ring[k / 2].0
-        } else {
-            ring[k / 2].1
-        }
-    });
+    let ring = flat(ring);
     let (mut width, mut height) = (0, 0);
     // SAFETY: each pointer and length come from one live slice or reference,
     // and Rust's borrows keep apart what is written.
@@ -929,6 +946,37 @@ pub fn coverage_drop(
             count,
             counts.as_mut_ptr(),
             number,
+        )
+    };
+    done(number, ())
+}
+
+/// Adds `scale` times the gradient of the response at the cell `[x, y]` of a
+/// tile, side times side bytes, to the grid, two numbers a cell: how the
+/// response moves with each sample. Every place of the ring and of the cross
+/// must lie on the tile.
+pub fn add_gradient(
+    tile: &[u8],
+    side: usize,
+    ring: &[(i32, i32); 16],
+    [x, y]: [usize; 2],
+    [scale_x, scale_y]: [f32; 2],
+    grid: &mut [f32],
+) -> Result<(), Refusal> {
+    let ring = flat(ring);
+    // SAFETY: as above.
+    let number = unsafe {
+        raw::chess_corners_gradient(
+            tile.as_ptr(),
+            tile.len(),
+            side,
+            ring.as_ptr(),
+            x,
+            y,
+            scale_x,
+            scale_y,
+            grid.as_mut_ptr(),
+            grid.len(),
         )
     };
     done(number, ())
@@ -1369,5 +1417,80 @@ mod tests {
         assert_eq!(ask(1, 4095, 4094), [None; 4]);
         assert_eq!(ask(1, 0, 0), [None, None, none, none]);
         assert_eq!(ask(1, 0, usize::MAX), [None, None, none, none]);
+    }
+
+    /// The eight cells about the middle of 3 by 3, twice.
+    const AROUND: [(i32, i32); 16] = {
+        let eight = [
+            (-1, -1),
+            (0, -1),
+            (1, -1),
+            (1, 0),
+            (1, 1),
+            (0, 1),
+            (-1, 1),
+            (-1, 0),
+        ];
+        let mut ring = [(0, 0); 16];
+        let mut k = 0;
+        while k < 16 {
+            ring[k] = eight[k % 8];
+            k += 1;
+        }
+        ring
+    };
+
+    /// Through the library: a dark middle moves the ring's mean alone, and a
+    /// level tile nothing.
+    #[test]
+    fn the_library_adds_a_gradient() {
+        let dark = [10, 10, 10, 10, 0, 10, 10, 10, 10];
+        let mut grid = [0.0; 18];
+        let said = add_gradient(&dark, 3, &AROUND, [1, 1], [1.0, 2.0], &mut grid);
+        assert_eq!(said, Ok(()));
+        let x = [-2.0, 1.2, -2.0, 1.2, 3.2, 1.2, -2.0, 1.2, -2.0];
+        for (cell, &want) in x.iter().enumerate() {
+            let want = if want == 1.2 { 3.2f32 - 2.0 } else { want };
+            assert_eq!(grid[2 * cell..2 * cell + 2], [want, 2.0 * want]);
+        }
+        let mut grid = [7.0; 18];
+        let said = add_gradient(
+            &[10; 9],
+            3,
+            &AROUND,
+            [1, 1],
+            [1.0, f32::INFINITY],
+            &mut grid,
+        );
+        assert_eq!(said, Ok(()));
+        assert!(grid[0] == 7.0 && grid[1].is_nan() && grid[8..10] == [7.0; 2]);
+    }
+
+    /// Through the library: each number, in its order, with nothing written.
+    #[test]
+    fn the_library_refuses_a_gradient_by_name() {
+        let ask = |tile: usize, side: usize, at: [usize; 2], room: usize| {
+            let mut grid = vec![7.0; room];
+            let said = add_gradient(&vec![1; tile], side, &AROUND, at, [1.0; 2], &mut grid);
+            assert!(said.is_ok() || grid.iter().all(|&g| g == 7.0));
+            said.err()
+        };
+        let [image, ring, out] = [Refusal::BadImage, Refusal::BadRing, Refusal::BadOut].map(Some);
+        assert_eq!(ask(9, 3, [1, 1], 18), None);
+        assert_eq!(ask(9, 3, [1, 1], 17), out);
+        for at in [
+            [0, 1],
+            [2, 1],
+            [1, 2],
+            [3, 1],
+            [usize::MAX, 1],
+            [1, usize::MAX],
+        ] {
+            assert_eq!(ask(9, 3, at, 17), ring);
+        }
+        for (tile, side) in [(8, 3), (0, 1 << 32), (0, usize::MAX), (1, usize::MAX)] {
+            assert_eq!(ask(tile, side, [usize::MAX; 2], 1), image);
+        }
+        assert_eq!(ask(0, 0, [0, 0], 0), ring);
     }
 }

@@ -28,7 +28,9 @@ use Rattle.salvage.specs.declared.Salvage.{Salvage}
 use Rattle.salvage.specs.Call as S
 use Rattle.coverage.specs.declared.Coverage.{Coverage}
 use Rattle.coverage.specs.Call as C
-use Rattle.chess_corners.specs.Face.{Responded, Merging, Refining, Scanning, Tying, Reading, Salvaging, Covering, Facts, widthAfter, heightAfter, countAfter, recordsAfter, peaksAfter, placeAfter, factsAfter, keptAfter, droppedAfter, heldAfter}
+use Rattle.gradient.specs.declared.Gradient.{Gradient}
+use Rattle.gradient.specs.Call as D
+use Rattle.chess_corners.specs.Face.{Responded, Merging, Refining, Scanning, Tying, Reading, Salvaging, Covering, Grading, Facts, widthAfter, heightAfter, countAfter, recordsAfter, peaksAfter, placeAfter, factsAfter, keptAfter, droppedAfter, heldAfter}
 
 pub responded : {img : Image} {ring : List ℤ} {radius : ℕ} {r : Region} {out : List Float} {answer : Response} {out' : List Float} (w h : ℕ) (known : Response) (n : ℕ)
     → n ≡ R.numberOf known → answer ≡ known → R.Done img ring radius r out answer out' → Responded img ring radius r out w h n out' (widthAfter w known) (heightAfter h known)
@@ -116,3 +118,9 @@ still-listed k n rest e = go (ltb k n)
     go : (l : Bool) → n ≡ heldAfter n (C.answerOf (cond l rest (C.refused NoSuchCorner)))
     go true = e
     go false = refl
+
+pub grading : {a : D.Asked} {grid : List Float} {answer : Gradient} {grid' : List Float} (known : Gradient) (n : ℕ) → n ≡ D.numberOf known → answer ≡ known → D.Done a grid answer grid' → Grading a grid n grid'
+grading known n q e d = record {
+  says = q ∙ ap D.numberOf (sym e ∙ d .answers);
+  leaves = d .leaves;
+}

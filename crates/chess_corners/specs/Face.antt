@@ -42,6 +42,7 @@ use Rattle.coverage.specs.declared.Coverage.{Coverage}
 use Rattle.coverage.specs.declared.Coverage.the-variants as Coverage
 use Rattle.coverage.specs.declared.Coverage.the-variants.{Counted}
 use Rattle.coverage.specs.Call as C
+use Rattle.gradient.specs.Call as D
 
 -- ---- the response: the clamped width and height
 abbrev pub widthAfter : ℕ → Response → ℕ
@@ -145,3 +146,8 @@ pub record Covering (way : C.Way) (list : List Float) (counts : List ℕ) (count
   pub leaves-list : list' ≡ C.listAfter list way
   pub leaves-counts : counts' ≡ C.countsAfter counts way
   pub holds : count' ≡ heldAfter count (C.answerOf way)
+
+-- ---- the gradient at a cell
+pub record Grading (a : D.Asked) (grid : List Float) (number : ℕ) (grid' : List Float) : Type 0 where
+  pub says : number ≡ D.numberOf (D.answerOf (D.wayOf a (length grid)))
+  pub leaves : grid' ≡ D.gridLeft a grid (D.wayOf a (length grid))

@@ -1,9 +1,12 @@
-// What stands beside the corners: damaged files and coverage.
+// What stands beside the corners: damaged files, coverage, and how samples move the response.
 use corners::Corner;
 use coverage::Coverage;
+use gradient::Gradient;
+use gradient::Scale;
 use salvage::Salvage;
 ghost use Rattle.coverage.specs.Call.{freshWay, addWay, replaceWay, dropWay};
-ghost use Rattle.chess_corners.specs.Face.{Salvaging, Covering};
+ghost use Rattle.gradient.specs.Call.{askedOf};
+ghost use Rattle.chess_corners.specs.Face.{Salvaging, Covering, Grading};
 
 // The records of a corner file that can be used, as they are, and the fault of each other one; 0, 10, 16 or 15.
 #[no_mangle]
@@ -117,5 +120,30 @@ pub extern "C" fn chess_corners_coverage_drop(
             0
         }
         Coverage::Refused(refusal) => refusals::number(refusal),
+    }
+}
+
+// Adds two scales times the gradient of the response at the cell (x, y) of the tile to the grid; 0, 10, 13 or 15.
+#[no_mangle]
+pub extern "C" fn chess_corners_gradient(
+    tile: &[u8],
+    side: usize,
+    ring: &[i32; 32],
+    x: usize,
+    y: usize,
+    scale_x: f32,
+    scale_y: f32,
+    grid: &mut [f32],
+) -> u32
+    ensures { λ r. ⌜ Grading (askedOf (now (tile .entry)) side (now (ring .entry)) x y (record { x = «scale_x»; y = «scale_y» })) (now (grid .entry)) r (now (grid .exit)) ⌝ }
+{
+    let scale = Scale {
+        x: scale_x,
+        y: scale_y,
+    };
+    let answer = gradient::add_gradient(tile, side, ring, x, y, scale, grid);
+    match answer {
+        Gradient::Added => 0,
+        Gradient::Refused(refusal) => refusals::number(refusal),
     }
 }

@@ -8,6 +8,7 @@ pub use beside::chess_corners_coverage;
 pub use beside::chess_corners_coverage_add;
 pub use beside::chess_corners_coverage_drop;
 pub use beside::chess_corners_coverage_replace;
+pub use beside::chess_corners_gradient;
 pub use beside::chess_corners_salvage;
 use board::Tie;
 use graymap::Graymap;

@@ -62,3 +62,46 @@ pub fn add_gradient(
         .collect();
     flat.chunks_exact(2).map(|g| [g[0], g[1]]).collect()
 }
+
+/// A tile of an odd side and its gradient grid, for many calls.
+pub struct Gradients {
+    ring: [(i32, i32); 16],
+    tile: PixelTile,
+    grads: PixelGradients,
+    stencil: ResponseStencil,
+}
+
+impl Gradients {
+    pub fn of(ring: &[(i32, i32); 16], side: usize, samples: &[u8]) -> Self {
+        let view = crate::ImageView::from_u8_slice(side, side, samples).expect("a square");
+        let reach = (side / 2) as i32;
+        let mut tile = PixelTile::default();
+        tile.load(&view, [reach, reach], reach);
+        let mut grads = PixelGradients::default();
+        grads.reset([0, 0], side);
+        let stencil = ResponseStencil::new(ring, &tile, &grads);
+        Gradients {
+            ring: *ring,
+            tile,
+            grads,
+            stencil,
+        }
+    }
+
+    /// With the stencil that was made before.
+    pub fn add(&mut self, x: i32, y: i32, scale: [f32; 2]) {
+        self.stencil
+            .add_gradient(&self.tile, x, y, scale, &mut self.grads);
+    }
+
+    /// With a stencil of its own.
+    pub fn add_anew(&mut self, x: i32, y: i32, scale: [f32; 2]) {
+        ResponseStencil::new(&self.ring, &self.tile, &self.grads).add_gradient(
+            &self.tile,
+            x,
+            y,
+            scale,
+            &mut self.grads,
+        );
+    }
+}
