@@ -1,16 +1,22 @@
 -- Laws of a window's base: the sum as the code has it, the pixel's number of a whole number, and that the four fits about both are the same.
 use mathlib.Core.Path.{_≡_, refl, sym, ap, _∙_, subst}
-use mathlib.Core.Bool.{Bool, true, false, _&&_, cond}
+use mathlib.Core.Bool.{Bool, true, false, _&&_, _||_, cond, or-false}
 use mathlib.Core.List.{List}
-use Prim.Native.Nat.{ℕ, suc, _≤_, _<_}
+use Prim.Native.Nat.{ℕ, suc, _+_, _≤_, _<_}
 use native.Mathlib.Nat.{lt-of-lt-of-le}
 use native.Mathlib.Omega.{arith}
 use lib.Dec.{T, ltb, lit≤}
 use lib.IntN.{ℤ, pos, negsuc, _+ℤ_, natAbs}
 use lib.Signed.{mag, ltZ, nonNeg}
-use lib.Ieee.{Float, binary32, toSigned}
+use lib.Ieee.{Float, binary32, toSigned, toUnsigned, ofInt, lt, neg}
+use lib.Ieee.Bits.{is-true}
 use lib.Ieee.Casts.{toSigned-in}
 use Rattle.floats.specs.Whole.{floor}
+use Rattle.floats.proofs.PartLaws.{Between, small, floor-of, above-of}
+use Rattle.floats.proofs.PartLaws as Parts
+use Rattle.floats.proofs.WholeLaws.{flipped, neg-neg}
+use Rattle.shapes.specs.Numbers.{plusZero, one}
+use Rattle.shapes.proofs.TestLaws.{first-of, second-of}
 use Rattle.refine_fits.specs.declared.Window.{Window}
 use Rattle.refine_formulas.specs.Numbers.{_⊖_}
 use mir.Syntax.{w32, w64}
@@ -24,7 +30,7 @@ use Rattle.imageview.specs.Patch.{inside, supportsPatch}
 use Rattle.refine_operator.proofs.BasisLaws.{sub-small}
 use Rattle.refine_fits.specs.Fit.{Fit, noFit, fitAt, fitWithin}
 use Rattle.refine_fits.specs.Windows.{baseOf, windowPlace, Fits, lacking, cornersAt}
-use Rattle.refine_fits.specs.StepsTries.{pixelOf, windowOf}
+use Rattle.refine_fits.specs.StepsTries.{nearZero, pixelOf, windowOf}
 use Rattle.refine_fits.specs.StepsAdding.{Sound}
 use Rattle.refine_fits.proofs.CacheLaws.{none-first, behind}
 
@@ -114,6 +120,46 @@ pixel-most (pos n) = by (ltb n 8192) refl
     by : (b : Bool) → ltb n 8192 ≡ b → cond (ltb n 8192) n 8192 ≤ 8192
     by true e = subst (λ (b : Bool). cond b n 8192 ≤ 8192) (sym e) (let l : n < 8192 = ltb-true n 8192 e in omega arith)
     by false e = subst (λ (b : Bool). cond b n 8192 ≤ 8192) (sym e) (omega arith)
+
+-- ---- an offset of less than a pixel
+part-none : (x : Float) (b : Between 0 x) → toUnsigned 64 x ≡ 0
+part-none x b = let h : toUnsigned 64 x < 1 = small binary32 0 64 x (lit≤ tt) b in omega arith
+
+floor-up : (o : Float) → lt plusZero o ≡ true → lt o one ≡ true → floor binary32 o ≡ plusZero
+unfolding ofInt
+floor-up o h g =
+    let b = Parts.between 0 o (subst T (sym h) tt) (subst T (sym g) tt) in
+    sym (floor-of binary32 0 64 o (lit≤ tt) b) ∙ ap (λ (n : ℕ). ofInt binary32 (pos n)) (part-none o b)
+
+floor-down : (o : Float) → lt o plusZero ≡ true → lt (neg one) o ≡ true → floor binary32 o ≡ neg one
+unfolding ofInt
+floor-down o h g =
+    let t = flipped 0 o h g in
+    let b = Parts.between 0 (neg o) (t .0) (t .1) in
+    let none = part-none (neg o) b in
+    ap (λ (v : Float). floor binary32 v) (sym (neg-neg o))
+    ∙ sym (above-of binary32 0 64 (neg o) (lit≤ tt) b (lit≤ tt) (ap (λ (n : ℕ). lt (ofInt binary32 (pos n)) (neg o)) none ∙ is-true (lt plusZero (neg o)) (t .0)))
+    ∙ ap (λ (n : ℕ). neg (ofInt binary32 (pos (n + 1)))) none
+
+-- its sign tells the whole number before it
+module _ (o : Float) (near : nearZero o ≡ true) where
+  within : (lt (neg one) o && lt o one) ≡ true
+  within = first-of (lt (neg one) o && lt o one) (lt o plusZero || lt plusZero o) near
+
+  signed : (lt o plusZero || lt plusZero o) ≡ true
+  signed = second-of (lt (neg one) o && lt o one) (lt o plusZero || lt plusZero o) near
+
+  pub near-below : lt o plusZero ≡ true → floor binary32 o ≡ neg one
+  near-below h = floor-down o h (first-of (lt (neg one) o) (lt o one) within)
+
+  pub near-above : lt plusZero o ≡ true → floor binary32 o ≡ plusZero
+  near-above h = floor-up o h (second-of (lt (neg one) o) (lt o one) within)
+
+  pub not-below : lt o plusZero ≡ false → lt plusZero o ≡ true
+  not-below h = ap (λ (b : Bool). b || lt plusZero o) (sym h) ∙ signed
+
+  pub not-above : lt plusZero o ≡ false → lt o plusZero ≡ true
+  not-above h = sym (or-false (lt o plusZero)) ∙ ap (λ (b : Bool). lt o plusZero || b) (sym h) ∙ signed
 
 -- ---- the window
 based : (cx r : ℕ) (o f : Float) (i : ℤ) → f ≡ floor binary32 o → i ≡ toSigned 31 f → r ≡ pixelOf (pos cx +ℤ toZ w32 (ofZ w32 i)) → r ≡ pixelOf (baseOf (pos cx) o)

@@ -1,11 +1,12 @@
 -- One candidate as the code has it: a base as a pixel's number, and what a candidate that is taken or passed hands on.
 use mathlib.Core.Path.{_≡_}
-use mathlib.Core.Bool.{Bool, cond}
+use mathlib.Core.Bool.{Bool, _&&_, _||_, cond}
 use mathlib.Core.List.{List}
 use Prim.Native.Nat.{ℕ}
 use lib.Dec.{ltb}
 use lib.IntN.{ℤ, pos, negsuc}
-use lib.Ieee.{Float}
+use lib.Ieee.{Float, lt, neg}
+use Rattle.shapes.specs.Numbers.{plusZero, one}
 use Rattle.imageview.specs.Image.{Image}
 use Rattle.refine_formulas.specs.declared.SaddlePointConfig.{SaddlePointConfig}
 use Rattle.refine_formulas.specs.declared.PatchSaddle.{PatchSaddle}
@@ -16,6 +17,10 @@ use Rattle.refine_fits.specs.declared.Weighed.{Weighed}
 use Rattle.refine_fits.specs.Windows.{WindowPlace, windowPlace, four}
 use Rattle.refine_fits.specs.Candidate.{taskAt, Task, Tried, passed, taken, weighed, candidate}
 use Rattle.refine_fits.specs.StepsBases.{fitsOf}
+
+-- between -1 and 1, and no zero
+abbrev pub nearZero : Float → Bool
+nearZero o = lt (neg one) o && lt o one && (lt o plusZero || lt plusZero o)
 
 -- a whole number as a pixel's number; 8192 is none, since no image is as wide
 abbrev pub pixelOf : ℤ → ℕ

@@ -9,8 +9,8 @@ use Rattle.shapes.specs.Numbers.{entry}
 use Rattle.imageview.specs.Image.{Image}
 use Rattle.refine_formulas.specs.declared.SaddlePointConfig.{SaddlePointConfig}
 use Rattle.refine_fits.specs.StepsBases.{coefsIn}
-use Rattle.refine_seed.specs.Refine.{admitOf, refineLent, refineOf}
-use Rattle.refine_seed.specs.StepsSpot.{firstFor, Fitted}
+use Rattle.refine_seed.specs.Refine.{refineLent, refineOf}
+use Rattle.refine_seed.specs.StepsSpot.{seedAlone, firstFor, Fitted}
 use Rattle.refine_list.specs.Refining.{recordsOf}
 
 -- so many numbers, those of l, were written to the front
@@ -40,6 +40,6 @@ pub record FirstFits (img : Image) (cfg : SaddlePointConfig) (columns corners : 
   pub fitted : (l : ℕ) → l < 4 → 4 * group + l < length corners / 3 → Fitted img columns cfg (entry corners (3 * (4 * group + l))) (entry corners (3 * (4 * group + l) + 1)) (coefsIn flat l)
 
 -- where the patch of the seed number i begins, or of some patch of the image
-pub record Begins (img : Image) (cfg : SaddlePointConfig) (corners : List Float) (i r : ℕ) : Type 0 where
-  pub is : i < length corners / 3 → r ≡ firstFor (img .pitch) (cfg .radius) (admitOf img cfg (entry corners (3 * i)) (entry corners (3 * i + 1)))
+pub record Begins (width height pitch radius : ℕ) (corners : List Float) (i r : ℕ) : Type 0 where
+  pub is : i < length corners / 3 → r ≡ firstFor pitch radius (seedAlone width height radius (entry corners (3 * i)) (entry corners (3 * i + 1)))
   pub else : length corners / 3 ≤ i → r ≡ 0

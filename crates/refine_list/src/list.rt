@@ -6,7 +6,7 @@ ghost use lib.ListN.{length, take, drop};
 ghost use Rattle.imageview.specs.Image.{imageOf};
 ghost use Rattle.refine_list.specs.Refining.{recordOf};
 ghost use Rattle.refine_list.specs.Steps.{AllWritten, Usable, FirstFits, Begins};
-ghost use Rattle.refine_fits.specs.StepsAdding.{Sound};
+ghost use Rattle.refine_seed.specs.StepsSpot.{Ready};
 use corners::Corner;
 use imageview::Sizes;
 use refine_fits::laid;
@@ -23,7 +23,7 @@ pub fn refine_list(
     corners: &[f32],
     out: &mut [f32],
 ) -> usize
-    requires { ⌜ length (now corners) ≤ length (now out) ⌝ ∗ ⌜ Sound (imageOf (now img) sizes) (cfg .radius) ⌝ }
+    requires { ⌜ length (now corners) ≤ length (now out) ⌝ ∗ ⌜ Ready (imageOf (now img) sizes) cfg ⌝ }
     ensures { λ n. ⌜ AllWritten (imageOf (now (img .entry)) sizes) cfg (now (corners .entry)) (now (out .entry)) n (now (out .exit)) ⌝ }
 {
     let mut columns = [0.0f32; 1125];
@@ -44,7 +44,7 @@ fn refine_all(
     corners: &[f32],
     out: &mut [f32],
 ) -> usize
-    requires { ⌜ length (now corners) ≤ length (now out) ⌝ ∗ ⌜ Usable cfg (now columns) ⌝ ∗ ⌜ Sound (imageOf (now img) sizes) (cfg .radius) ⌝ }
+    requires { ⌜ length (now corners) ≤ length (now out) ⌝ ∗ ⌜ Usable cfg (now columns) ⌝ ∗ ⌜ Ready (imageOf (now img) sizes) cfg ⌝ }
     ensures { λ n. ⌜ AllWritten (imageOf (now (img .entry)) sizes) cfg (now (corners .entry)) (now (out .entry)) n (now (out .exit)) ⌝ }
 {
     let n = corners.len() / 3;
@@ -81,31 +81,33 @@ fn first_fits(
     group: usize,
     flat: &mut [f32; 40],
 )
-    requires { ⌜ Sound (imageOf (now img) sizes) (cfg .radius) ⌝ ∗ ⌜ (length (now flat) ≡ 40) × (4 * group < length (now corners) / 3) ⌝ }
+    requires { ⌜ Ready (imageOf (now img) sizes) cfg ⌝ ∗ ⌜ (length (now flat) ≡ 40) × (4 * group < length (now corners) / 3) ⌝ }
     ensures { λ _. ⌜ FirstFits (imageOf (now (img .entry)) sizes) cfg (now (columns .entry)) (now (corners .entry)) group (now (flat .exit)) ⌝ }
 {
-    let most = 2 * cfg.radius;
+    let radius = cfg.radius;
+    let most = 2 * radius;
     if (sizes.width <= most) | (sizes.height <= most) {
         return;
     }
     let i = 4 * group;
     let at = Firsts {
-        a: first_of(img, sizes, cfg, corners, i),
-        b: first_of(img, sizes, cfg, corners, i + 1),
-        c: first_of(img, sizes, cfg, corners, i + 2),
-        d: first_of(img, sizes, cfg, corners, i + 3),
+        a: first_of(sizes, radius, corners, i),
+        b: first_of(sizes, radius, corners, i + 1),
+        c: first_of(sizes, radius, corners, i + 2),
+        d: first_of(sizes, radius, corners, i + 3),
     };
-    refine_patch::fit_four(img, sizes.pitch, columns, cfg.radius, at, flat, 0);
+    refine_patch::fit_four(img, sizes.pitch, columns, radius, at, flat, 0);
 }
 
 // Where the patch about the seed number i begins; 0 for a seed that is not refined, and past the last.
-fn first_of(img: &[u8], sizes: Sizes, cfg: SaddlePointConfig, corners: &[f32], i: usize) -> usize
-    ensures { λ r. ⌜ Begins (imageOf (now (img .entry)) sizes) cfg (now (corners .entry)) i r ⌝ }
+fn first_of(sizes: Sizes, radius: usize, corners: &[f32], i: usize) -> usize
+    requires { ⌜ (sizes .width ≤ 4096) × (sizes .height ≤ 4096) × (sizes .pitch ≤ 8192) ⌝ }
+    ensures { λ r. ⌜ Begins (sizes .width) (sizes .height) (sizes .pitch) radius (now (corners .entry)) i r ⌝ }
 {
     if corners.len() / 3 <= i {
         return 0;
     }
-    refine_seed::first_place(img, sizes, cfg, corners[3 * i], corners[3 * i + 1])
+    refine_seed::first_place(sizes, radius, corners[3 * i], corners[3 * i + 1])
 }
 
 // The record of a seed, after so many numbers.

@@ -36,7 +36,8 @@ use Rattle.refine_formulas.specs.Solve.{solve}
 use Rattle.refine_fits.specs.Candidate.{Task, nearAlong, nearSeed, taskAt}
 use Rattle.refine_seed.specs.Run.{runOf}
 use Rattle.refine_seed.specs.Refine.{goodLimits, isPlace, centreOf, seedOf, admitOf, answered, finished, fromSaddle, refineWith, lentWith, refineLent, withOperator, refineOf}
-use Rattle.refine_fits.specs.StepsAdding.{PatchWithin}
+use Rattle.refine_fits.specs.StepsAdding.{Sound, PatchWithin}
+use Rattle.refine_seed.specs.StepsSpot.{Ready, seedAlone}
 use Rattle.refine_seed.proofs.StepLaws.{no, yes, differs}
 
 -- ---- a centre inside
@@ -67,6 +68,9 @@ within-of img radius z w i r p =
       below = inside-high radius (img .height) w (both .1);
     }
 
+pub ready-sound : (img : Image) (cfg : SaddlePointConfig) → Ready img cfg → Sound img (cfg .radius)
+ready-sound img cfg r = record { image = images.tested img (images.passed (r .image)); small = leb-true (cfg .radius) 7 (r .small) }
+
 -- the centre as the code has it
 pub centre-is : (x f : Float) (i : ℤ) → f ≡ roundAway binary32 x → i ≡ toSigned 31 f → toZ w32 (ofZ w32 i) ≡ centreOf x
 centre-is x f i p q = toZ-ofZ w32 i (subst (λ (z : ℤ). SFits w32 z) (sym q) (record { sfits = toSigned-in 31 f })) ∙ q ∙ ap (λ (v : Float). toSigned 31 v) p
@@ -77,10 +81,9 @@ same-seed x y z w p q = ap (λ (v : ℤ). made (natAbs v) (natAbs w)) p ∙ ap (
     made : ℕ → ℕ → Admitted
     made a b = Admitted.Good (record { x = x; y = y; «centre_x» = a; «centre_y» = b })
 
-pub supported : (img : Image) (radius : ℕ) (x y : Float) (z w : ℤ) (r : Bool) → z ≡ centreOf x → w ≡ centreOf y → r ≡ (inside radius (img .width) z && inside radius (img .height) w) → (b : Bool) → r ≡ b → supportsPatch img radius (centreOf x) (centreOf y) ≡ b
-unfolding supportsPatch
-supported img radius x y z w r p q e b h =
-    sym (ap (λ (v : ℤ). inside radius (img .width) v && inside radius (img .height) w) p ∙ ap (λ (v : ℤ). inside radius (img .width) (centreOf x) && inside radius (img .height) v) q) ∙ sym e ∙ h
+pub supported : (width height radius : ℕ) (x y : Float) (z w : ℤ) (r : Bool) → z ≡ centreOf x → w ≡ centreOf y → r ≡ (inside radius width z && inside radius height w) → (b : Bool) → r ≡ b → (inside radius width (centreOf x) && inside radius height (centreOf y)) ≡ b
+supported width height radius x y z w r p q e b h =
+    sym (ap (λ (v : ℤ). inside radius width v && inside radius height w) p ∙ ap (λ (v : ℤ). inside radius width (centreOf x) && inside radius height v) q) ∙ sym e ∙ h
 
 -- ---- the tests as one answer
 abbrev pub chosen : Bool → Bool → Bool → Bool → Bool → Seed → Admitted
@@ -91,6 +94,12 @@ chosen i r l f p s =
     (cond (not f) (Admitted.Unmoved BadSeed)
     (cond (not p) (Admitted.Unmoved OutOfBounds)
     (Admitted.Good s)))))
+
+-- those of the seed alone
+pub to-seed : (width height radius : ℕ) (x y : Float) (f p : Bool) → isPlace x y ≡ f → (inside radius width (centreOf x) && inside radius height (centreOf y)) ≡ p → chosen true true true f p (seedOf x y) ≡ seedAlone width height radius x y
+to-seed width height radius x y f p d e =
+    sym (ap (λ (z : Bool). chosen true true true z (inside radius width (centreOf x) && inside radius height (centreOf y)) (seedOf x y)) d
+    ∙ ap (λ (z : Bool). chosen true true true f z (seedOf x y)) e)
 
 -- what a good answer says of the tests
 record Passed (i r p : Bool) (s t : Seed) : Type 0 where
@@ -117,6 +126,14 @@ passed true true true false p s t h = absurd (subst isGood (sym h) tt)
 passed true true true true false s t h = absurd (subst isGood (sym h) tt)
 passed true true true true true s t h = record { image = refl; radius = refl; patch = refl; seed = sym (ap (λ (v : Admitted). seedIn v s) h) }
 
+-- a seed that passed its own tests has its patch inside
+pub patch-inside : (width height radius : ℕ) (x y : Float) (seed : Seed) → seedAlone width height radius x y ≡ Admitted.Good seed → (radius ≤ seed .«centre_x») × (radius ≤ seed .«centre_y») × (seed .«centre_x» + radius < width) × (seed .«centre_y» + radius < height)
+patch-inside width height radius x y seed h =
+    let t = passed true true true (isPlace x y) (inside radius width (centreOf x) && inside radius height (centreOf y)) (seedOf x y) seed h in
+    let both = and-eq-true-iff (inside radius width (centreOf x)) (inside radius height (centreOf y)) .0 (t .patch) in
+    subst (λ (s : Seed). (radius ≤ s .«centre_x») × (radius ≤ s .«centre_y») × (s .«centre_x» + radius < width) × (s .«centre_y» + radius < height)) (sym (t .seed))
+    (inside-low radius width (centreOf x) (both .0), inside-low radius height (centreOf y) (both .1), inside-high radius width (centreOf x) (both .0), inside-high radius height (centreOf y) (both .1))
+
 module _ (img : Image) (cfg : SaddlePointConfig) (x y : Float) where
   abbrev supports : Bool
   supports = supportsPatch img (cfg .radius) (centreOf x) (centreOf y)
@@ -129,6 +146,11 @@ module _ (img : Image) (cfg : SaddlePointConfig) (x y : Float) where
       ∙ ap (λ (z : Bool). chosen i r z (isPlace x y) supports (seedOf x y)) c
       ∙ ap (λ (z : Bool). chosen i r l z supports (seedOf x y)) d
       ∙ ap (λ (z : Bool). chosen i r l f z (seedOf x y)) e)
+
+  -- where the image and the settings passed, the seed's own tests are all that is left
+  pub alone : Ready img cfg → seedAlone (img .width) (img .height) (cfg .radius) x y ≡ admitOf img cfg x y
+  unfolding supportsPatch
+  alone r = to true true true (isPlace x y) supports (r .image) (r .small) (r .limits) refl refl
 
   pub good-within : (seed : Seed) → admitOf img cfg x y ≡ Admitted.Good seed → PatchWithin img (cfg .radius) (seed .«centre_x») (seed .«centre_y»)
   good-within seed h =

@@ -1,10 +1,12 @@
--- What the steps to a spot ask and promise: the seed's first fit; it is the spot of the seed's answer, whatever the overlaps and whether the covariance is wanted.
+-- What the steps to a spot ask and promise: the image and the settings tested, the seed's first fit; it is the spot of the seed's answer, whatever the overlaps and whether the covariance is wanted.
 use mathlib.Core.Path.{_≡_}
-use mathlib.Core.Bool.{Bool}
+use mathlib.Core.Bool.{Bool, true, _&&_, not, cond}
 use mathlib.Core.List.{List}
 use Prim.Native.Nat.{ℕ}
+use lib.Dec.{leb}
 use lib.Ieee.{Float}
-use Rattle.imageview.specs.Image.{Image}
+use Rattle.imageview.specs.Image.{Image, isImage}
+use Rattle.imageview.specs.Patch.{inside}
 use Rattle.refine_formulas.specs.declared.SaddlePointConfig.{SaddlePointConfig}
 use Rattle.refine_formulas.specs.declared.PatchSaddle.{PatchSaddle}
 use Rattle.refine_fits.specs.declared.Seed.{Seed}
@@ -16,8 +18,22 @@ use Rattle.refine_seed.specs.declared.Refined.{Refined}
 use Rattle.refine_seed.specs.declared.Spot.{Spot}
 use Rattle.refine_seed.specs.declared.Admitted.{Admitted}
 use Rattle.refine_seed.specs.declared.Admitted.the-variants as Admitted
-use Rattle.refine_seed.specs.Refine.{admitOf, finished}
+use Rattle.refine_seed.specs.declared.Why.the-variants.{OutOfBounds, BadSeed}
+use Rattle.refine_seed.specs.Refine.{goodLimits, isPlace, centreOf, seedOf, admitOf, finished}
 use Rattle.refine_seed.specs.Spot.{spotAt, spotOf}
+
+-- an image and settings that passed their tests
+pub record Ready (img : Image) (cfg : SaddlePointConfig) : Type 0 where
+  pub image : isImage img ≡ true
+  pub small : leb (cfg .radius) 7 ≡ true
+  pub limits : goodLimits cfg ≡ true
+
+-- the tests of a seed that are left then, in an image of this width and height
+abbrev pub seedAlone : ℕ → ℕ → ℕ → Float → Float → Admitted
+seedAlone width height radius x y =
+    cond (not (isPlace x y)) (Admitted.Unmoved BadSeed)
+    (cond (not (inside radius width (centreOf x) && inside radius height (centreOf y))) (Admitted.Unmoved OutOfBounds)
+    (Admitted.Good (seedOf x y)))
 
 -- where the patch about a seed begins, 0 where it did not pass its tests
 abbrev pub firstFor : ℕ → ℕ → Admitted → ℕ

@@ -22,8 +22,9 @@ ghost use Rattle.refine_formulas.specs.Solve.{goodLimit};
 ghost use Rattle.refine_seed.specs.Refine.{goodLimits, isPlace, flawNumber, whyNumber, oldNumber, admitOf, refineWith, withOperator, lentWith, refineLent, refineOf};
 ghost use Rattle.refine_fits.specs.StepsAdding.{PatchWithin};
 ghost use Rattle.refine_seed.specs.StepsEnding.{Opens, OpensFresh, ClosesFresh};
+ghost use Rattle.refine_seed.specs.StepsSpot.{seedAlone};
 ghost use Rattle.refine_operator.specs.Call.{wayOf};
-ghost use Prim.Native.Nat.{_<_};
+ghost use Prim.Native.Nat.{_≤_, _<_};
 
 // The refiner of one seed with an operator that is lent.
 pub fn refine_with(
@@ -178,7 +179,7 @@ fn is_place(x: f32, y: f32) -> bool
 }
 
 // The tests before the first fit.
-pub fn admit(img: &[u8], sizes: Sizes, cfg: SaddlePointConfig, x: f32, y: f32) -> Admitted
+fn admit(img: &[u8], sizes: Sizes, cfg: SaddlePointConfig, x: f32, y: f32) -> Admitted
     ensures { λ r. ⌜ r ≡ admitOf (imageOf (now (img .entry)) sizes) cfg x y ⌝ }
 {
     if !imageview::is_image(img, sizes) {
@@ -190,12 +191,20 @@ pub fn admit(img: &[u8], sizes: Sizes, cfg: SaddlePointConfig, x: f32, y: f32) -
     if !good_limits(cfg) {
         return Admitted::Refused(Refusal::BadLimit);
     }
+    place_seed(sizes, cfg.radius, x, y)
+}
+
+// The tests of a seed alone, where the image and the settings passed theirs: a list asks those once.
+pub fn place_seed(sizes: Sizes, radius: usize, x: f32, y: f32) -> Admitted
+    requires { ⌜ (sizes .width ≤ 4096) × (sizes .height ≤ 4096) ⌝ }
+    ensures { λ r. ⌜ r ≡ seedAlone (sizes .width) (sizes .height) radius x y ⌝ }
+{
     if !is_place(x, y) {
         return Admitted::Unmoved(Why::BadSeed);
     }
     let cx = floats::f32_to_i32(floats::round_f32(x));
     let cy = floats::f32_to_i32(floats::round_f32(y));
-    if !imageview::supports_patch(sizes, cx, cy, cfg.radius) {
+    if !imageview::supports_patch(sizes, cx, cy, radius) {
         return Admitted::Unmoved(Why::OutOfBounds);
     }
     Admitted::Good(Seed {

@@ -12,7 +12,7 @@ use refine_formulas::SaddlePointConfig;
 use refine_formulas::Solved;
 use refine_formulas::solve;
 ghost use mathlib.Core.Path.{_≡_};
-ghost use Prim.Native.Nat.{_<_};
+ghost use Prim.Native.Nat.{_≤_, _<_};
 ghost use lib.IntN.{pos};
 ghost use lib.Ieee.{binary32, ofInt};
 ghost use Rattle.imageview.specs.Image.{imageOf};
@@ -21,18 +21,17 @@ ghost use Rattle.refine_fits.specs.Fit.{coefficients};
 ghost use Rattle.refine_fits.specs.StepsAdding.{PatchWithin};
 ghost use Rattle.refine_fits.specs.Candidate.{taskAt};
 ghost use Rattle.refine_seed.specs.declared.Spot.the-variants.{At};
-ghost use Rattle.refine_seed.specs.Refine.{admitOf, refineWith, lentWith, refineLent};
-ghost use Rattle.refine_seed.specs.StepsSpot.{firstFor, Fitted, Comes, Lands};
+ghost use Rattle.refine_seed.specs.Refine.{refineWith, lentWith, refineLent};
+ghost use Rattle.refine_seed.specs.StepsSpot.{Ready, seedAlone, firstFor, Fitted, Comes, Lands};
 
-// Where the patch about a seed begins in the image's bytes; 0 for a seed that does not pass its tests.
-pub fn first_place(img: &[u8], sizes: Sizes, cfg: SaddlePointConfig, x: f32, y: f32) -> usize
-    ensures { λ r. ⌜ r ≡ firstFor (sizes .pitch) (cfg .radius) (admitOf (imageOf (now (img .entry)) sizes) cfg x y) ⌝ }
+// Where the patch about a seed begins in the image's bytes; 0 for a seed that does not pass its own tests.
+pub fn first_place(sizes: Sizes, radius: usize, x: f32, y: f32) -> usize
+    requires { ⌜ (sizes .width ≤ 4096) × (sizes .height ≤ 4096) × (sizes .pitch ≤ 8192) ⌝ }
+    ensures { λ r. ⌜ r ≡ firstFor (sizes .pitch) radius (seedAlone (sizes .width) (sizes .height) radius x y) ⌝ }
 {
-    let admitted = entry::admit(img, sizes, cfg, x, y);
-    match admitted {
-        Admitted::Good(seed) => {
-            fits::first_place(sizes, seed.centre_x, seed.centre_y, cfg.radius)
-        }
+    let placed = entry::place_seed(sizes, radius, x, y);
+    match placed {
+        Admitted::Good(seed) => fits::first_place(sizes, seed.centre_x, seed.centre_y, radius),
         Admitted::Unmoved(_) => 0,
         Admitted::Refused(_) => 0,
     }
@@ -48,11 +47,11 @@ pub fn spot_with(
     columns: &[f32; 1125],
     here: [f32; 5],
 ) -> Spot
-    requires { ⌜ Fitted (imageOf (now img) sizes) (now columns) cfg x y here ⌝ }
+    requires { ⌜ Ready (imageOf (now img) sizes) cfg ⌝ ∗ ⌜ Fitted (imageOf (now img) sizes) (now columns) cfg x y here ⌝ }
     ensures { λ r. ⌜ Lands (λ overlap wanted. refineLent (imageOf (now (img .entry)) sizes) cfg x y wanted (now (columns .entry)) overlap) r ⌝ }
 {
-    let admitted = entry::admit(img, sizes, cfg, x, y);
-    match admitted {
+    let placed = entry::place_seed(sizes, cfg.radius, x, y);
+    match placed {
         Admitted::Good(seed) => spot_lent(img, sizes, cfg, seed, columns, here),
         Admitted::Unmoved(_) => Spot::Nowhere,
         Admitted::Refused(_) => Spot::Nowhere,

@@ -3,10 +3,9 @@ use mathlib.Core.Path.{_≡_, sym, _∙_}
 use mathlib.Core.Bool.{true, false}
 use lib.ListN.{length}
 use borrow.Author.Needs.{needs}
-use borrow.Author.Tests.{not-true, not-false}
+use borrow.Author.Tests.{le-leb, not-true, not-false}
 use Rattle.corners.specs.Corners.{whole, tooMany}
 use Rattle.imageview.specs.Image.{Image, imageOf, isImage}
-use Rattle.imageview.proofs.ImageLaws.{tested, passed}
 use Rattle.refine_seed.specs.Refine.{goodLimits}
 use Rattle.refine_list.proofs.CallLaws.{bad-image, bad-radius, bad-limit, bad-length, too-many, bad-out, refined}
 use Rattle.refine_list.proofs.refine_corners_on_image.Statement.{statement}
@@ -85,7 +84,7 @@ refine-list-requires c κs =
     let m = o .before in
     let l = m .before .before .before .before in
     let e = l .before .before in
-    (o .if6 .left, record { image = tested (image (e .before .before .before .before .before .before .before)) (passed (is-one (e .before .before))); small = e .if2 .left })
+    (o .if6 .left, record { image = is-one (e .before .before); small = le-leb (e .before .before .before .before .before .before .before .args .cfg .radius) 7 (e .if2 .left); limits = limits-good l })
 
 same-length : tie.Need-same-length
 same-length c = search needs

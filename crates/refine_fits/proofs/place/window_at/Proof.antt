@@ -1,40 +1,31 @@
--- `refine_fits::place::window_at` meets its contract: both axes go the same way.
+-- `refine_fits::place::window_at` meets its contract: both ways answer the same.
+use mathlib.Core.Path.{sym, _∙_}
 use borrow.Author.Needs.{needs}
-use Rattle.refine_fits.proofs.PlaceLaws.{window-is}
+use Rattle.shapes.proofs.TestLaws.{first-of, second-of}
 use Rattle.refine_fits.proofs.place.window_at.Statement.{statement}
 use Rattle.refine_fits.proofs.place.window_at.Tie as tie
 
-floor-f32-requires : tie.Need-floor-f32-requires
-floor-f32-requires c κs = search needs
+is-near-requires : tie.Need-is-near-requires
+is-near-requires c κs = search needs
 
-floor-f32-requires-2 : tie.Need-floor-f32-requires-2
-floor-f32-requires-2 c κs = search needs
+is-near-requires-2 : tie.Need-is-near-requires-2
+is-near-requires-2 c κs = search needs
 
-f32-to-i32-requires : tie.Need-f32-to-i32-requires
-f32-to-i32-requires c κs = search needs
-
-moved-requires : tie.Need-moved-requires
-moved-requires c κs = search needs
-
-f32-to-i32-requires-2 : tie.Need-f32-to-i32-requires-2
-f32-to-i32-requires-2 c κs = search needs
-
-moved-requires-2 : tie.Need-moved-requires-2
-moved-requires-2 c κs = search needs
+window-near-requires : tie.Need-window-near-requires
+window-near-requires c κs =
+    let s = c .before .before .before in
+    let x = c .before .before .is-near in
+    let y = c .before .is-near2 in
+    (s .pre, (sym (x .ensures) ∙ first-of (x .result) (y .result) (c .if1 .taken), sym (y .ensures) ∙ second-of (x .result) (y .result) (c .if1 .taken)))
 
 returns : tie.Need-returns
-returns c =
-    let a = c .before .before .before .before .before .before .args in
-    window-is (a .cx) (a .cy) (c .before .before .moved .result) (c .moved2 .result) (a .ox) (a .oy) (c .before .before .before .before .before .floor-f32 .result) (c .before .before .before .before .floor-f322 .result) (c .before .before .before .f32-to-i32 .result) (c .before .f32-to-i322 .result) (c .before .before .before .before .before .floor-f32 .ensures) (c .before .before .before .before .floor-f322 .ensures) (c .before .before .before .f32-to-i32 .ensures) (c .before .f32-to-i322 .ensures) (c .before .before .moved .ensures) (c .moved2 .ensures)
+returns c = search needs
+
+window-far-requires : tie.Need-window-far-requires
+window-far-requires c κs = search needs
+
+returns-2 : tie.Need-returns-2
+returns-2 c = search needs
 
 pub window-at-spec : {M : Type 1} → statement M
-window-at-spec =
-    tie.close
-    (tie.spec
-    floor-f32-requires
-    floor-f32-requires-2
-    f32-to-i32-requires
-    moved-requires
-    f32-to-i32-requires-2
-    moved-requires-2
-    returns)
+window-at-spec = tie.close (tie.spec is-near-requires is-near-requires-2 window-near-requires returns window-far-requires returns-2)

@@ -1,11 +1,9 @@
 -- `refine_list::list::refine_all` meets its contract: the records of the seeds so far stand in the front of the output, and the first fits of a group serve its seeds.
-use mathlib.Core.Path.{_≡_, refl, sym, ap, _∙_, subst}
+use mathlib.Core.Path.{_≡_, refl, sym, subst}
 use mathlib.Core.Logic.{⊎-elim}
-use mathlib.Core.List.{List}
 use Prim.Native.Nat.{_+_, _-_, _*_, _/_, _%_, _≤_}
 use native.Mathlib.Omega.{arith}
 use lib.ListN.{length}
-use lib.Ieee.{Float}
 use Rattle.imageview.specs.Image.{imageOf}
 use Rattle.shapes.specs.Numbers.{entry}
 use Rattle.refine_list.specs.Steps.{Going, FirstFits}
@@ -71,7 +69,7 @@ spot-with-requires c κs =
     let a = c .before .before .before .before .before .before .before .before .before .before .args in
     let l = c .before .before .before .before .before .before .loop in
     let img = imageOf (a .img .now) (a .sizes) in
-    subst (Fitted img (a .columns .now) (a .cfg) (entry (a .corners .now) (3 * l .i)) (entry (a .corners .now) (3 * l .i + 1))) (sym (c .before .before .coefs-at .ensures)) (this-group img (a .cfg) (a .columns .now) (a .corners .now) (l .i) (c .before .before .before .before .if1 .flat) (group (c .before .before .before .before)) (c .before .before .before .before .before .loop-test .taken))
+    (c .before .before .before .before .before .before .before .before .before .before .pre .1 .1, subst (Fitted img (a .columns .now) (a .cfg) (entry (a .corners .now) (3 * l .i)) (entry (a .corners .now) (3 * l .i + 1))) (sym (c .before .before .coefs-at .ensures)) (this-group img (a .cfg) (a .columns .now) (a .corners .now) (l .i) (c .before .before .before .before .if1 .flat) (group (c .before .before .before .before)) (c .before .before .before .before .before .loop-test .taken)))
 
 mul-put : tie.Need-mul-put Inv-loop μ-loop
 mul-put c = omega arith
