@@ -21,8 +21,8 @@ use Rattle.refine_seed.specs.declared.Spot.the-variants.{At, Nowhere}
 use Rattle.refine_seed.specs.Refine.{refineLent, refineOf}
 use Rattle.refine_seed.specs.Spot.{spotOf}
 use Rattle.refine_seed.specs.StepsSpot.{Lands}
-use Rattle.refine_list.specs.Refining.{recordOf, spotFor, recordsOf}
-use Rattle.refine_list.specs.Steps.{Front, AllWritten, Usable, Going}
+use Rattle.refine_list.specs.Refining.{recordOf, spotFor, recordsBy}
+use Rattle.refine_list.specs.Steps.{Front, Usable, Going}
 
 -- ---- one record
 -- a corner written to the front of what stands behind the first w numbers
@@ -48,38 +48,50 @@ record-most : (p : Spot) (s : Float) → length (recordOf p s) ≤ 3
 record-most (At x y) s = omega arith
 record-most Nowhere s = omega arith
 
+-- ---- a list of anything that stands in the front of another
+-- so many more behind it
+pub front-more : {A : Type 0} (l r out now after : List A) (w : ℕ) → w ≡ length l → now ≡ l ++ drop (length l) out → after ≡ take w now ++ (r ++ drop (w + length r) now) → after ≡ (l ++ r) ++ drop (length (l ++ r)) out
+front-more {A} l r out now after w c e f =
+    f
+    ∙ ap (λ (n : List A). take w n ++ (r ++ drop (w + length r) n)) e
+    ∙ ap (λ (k : ℕ). take k (l ++ drop (length l) out) ++ (r ++ drop (k + length r) (l ++ drop (length l) out))) c
+    ∙ ap (λ (n : List A). n ++ (r ++ drop (length l + length r) (l ++ drop (length l) out))) (take-at l (drop (length l) out) (length l) refl)
+    ∙ ap (λ (n : List A). l ++ (r ++ n)) (drop-append-add l (drop (length l) out) (length r) ∙ drop-drop (length r) (length l) out)
+    ∙ sym (append-assoc l r (drop (length l + length r) out))
+    ∙ ap (λ (k : ℕ). (l ++ r) ++ drop k out) (sym (length-append l r))
+
+pub front-long : {A : Type 0} (l out now : List A) → now ≡ l ++ drop (length l) out → length l ≤ length out → length now ≡ length out
+front-long l out now e h =
+    ap length e ∙ length-append l (drop (length l) out) ∙ ap (λ (k : ℕ). length l + k) (length-drop (length l) out) ∙ whole (length l) (length out) h
+  where
+    whole : (a b : ℕ) → a ≤ b → a + (b - a) ≡ b
+    whole a b h = omega arith
+
 -- ---- the loop
-module _ (img : Image) (cfg : SaddlePointConfig) (corners out : List Float) where
-  pub begins : Going img cfg corners out 0 0 out
-  unfolding recordsOf
+module _ (spots : ℕ → Spot) (corners out : List Float) where
+  pub begins : Going spots corners out 0 0 out
+  unfolding recordsBy
   begins = record { count = refl; leaves = refl; most = omega arith }
 
-  longer : (i : ℕ) (p : Spot) → p ≡ spotFor img cfg corners i → recordsOf img cfg corners i ++ recordOf p (entry corners (3 * i + 2)) ≡ recordsOf img cfg corners (i + 1)
-  unfolding recordsOf
-  longer i p e = ap (λ (q : Spot). recordsOf img cfg corners i ++ recordOf q (entry corners (3 * i + 2))) e ∙ ap (recordsOf img cfg corners) (sym (add-one i))
+  longer : (i : ℕ) (p : Spot) → p ≡ spots i → recordsBy spots corners i ++ recordOf p (entry corners (3 * i + 2)) ≡ recordsBy spots corners (i + 1)
+  unfolding recordsBy
+  longer i p e = ap (λ (q : Spot). recordsBy spots corners i ++ recordOf q (entry corners (3 * i + 2))) e ∙ ap (recordsBy spots corners) (sym (add-one i))
 
-  module _ (i w : ℕ) (now : List Float) (g : Going img cfg corners out i w now) (p : Spot) (e : p ≡ spotFor img cfg corners i) where
+  module _ (i w : ℕ) (now : List Float) (g : Going spots corners out i w now) (p : Spot) (e : p ≡ spots i) where
     abbrev recs : List Float
-    recs = recordsOf img cfg corners i
+    recs = recordsBy spots corners i
 
     abbrev rec : List Float
     rec = recordOf p (entry corners (3 * i + 2))
 
-    length-longer : length (recordsOf img cfg corners (i + 1)) ≡ length recs + length rec
+    length-longer : length (recordsBy spots corners (i + 1)) ≡ length recs + length rec
     length-longer = ap length (sym (longer i p e)) ∙ length-append recs rec
 
-    pub goes-on : (w' : ℕ) (after : List Float) → w' ≡ w + length rec → after ≡ take w now ++ (rec ++ drop (w + length rec) now) → Going img cfg corners out (i + 1) w' after
+    pub goes-on : (w' : ℕ) (after : List Float) → w' ≡ w + length rec → after ≡ take w now ++ (rec ++ drop (w + length rec) now) → Going spots corners out (i + 1) w' after
     goes-on w' after q r =
         record {
           count = q ∙ ap (λ (k : ℕ). k + length rec) (g .count) ∙ sym length-longer;
-          leaves = r
-              ∙ ap (λ (l : List Float). take w l ++ (rec ++ drop (w + length rec) l)) (g .leaves)
-              ∙ ap (λ (k : ℕ). take k (recs ++ drop (length recs) out) ++ (rec ++ drop (k + length rec) (recs ++ drop (length recs) out))) (g .count)
-              ∙ ap (λ (l : List Float). l ++ (rec ++ drop (length recs + length rec) (recs ++ drop (length recs) out))) (take-at recs (drop (length recs) out) (length recs) refl)
-              ∙ ap (λ (l : List Float). recs ++ (rec ++ l)) (drop-append-add recs (drop (length recs) out) (length rec) ∙ drop-drop (length rec) (length recs) out)
-              ∙ sym (append-assoc recs rec (drop (length recs + length rec) out))
-              ∙ ap (λ (l : List Float). l ++ drop (length recs + length rec) out) (longer i p e)
-              ∙ ap (λ (k : ℕ). recordsOf img cfg corners (i + 1) ++ drop k out) (sym length-longer);
+          leaves = front-more recs rec out now after w (g .count) (g .leaves) r ∙ ap (λ (l : List Float). l ++ drop (length l) out) (longer i p e);
           most = subst (λ (k : ℕ). k ≤ 3 * (i + 1)) (sym length-longer) (let m : length rec ≤ 3 = record-most p (entry corners (3 * i + 2)) in more (length recs) (length rec) i (g .most) m);
         }
       where
@@ -87,18 +99,11 @@ module _ (img : Image) (cfg : SaddlePointConfig) (corners out : List Float) wher
         more a b i h k = omega arith
 
   -- the output is as long as before, and has room for a record
-  pub as-long : (i w : ℕ) (now : List Float) → Going img cfg corners out i w now → 3 * i ≤ length out → length now ≡ length out
-  as-long i w now g h =
-      ap length (g .leaves)
-      ∙ length-append (recordsOf img cfg corners i) (drop (length (recordsOf img cfg corners i)) out)
-      ∙ ap (λ (k : ℕ). length (recordsOf img cfg corners i) + k) (length-drop (length (recordsOf img cfg corners i)) out)
-      ∙ whole (length (recordsOf img cfg corners i)) (length out) (le-trans (g .most) h)
-    where
-      whole : (a b : ℕ) → a ≤ b → a + (b - a) ≡ b
-      whole a b h = omega arith
+  pub as-long : (i w : ℕ) (now : List Float) → Going spots corners out i w now → 3 * i ≤ length out → length now ≡ length out
+  as-long i w now g h = front-long (recordsBy spots corners i) out now (g .leaves) (le-trans (g .most) h)
 
-  pub room : (i w : ℕ) (now : List Float) → Going img cfg corners out i w now → i < length corners / 3 → length corners ≤ length out → w + 3 ≤ length now
-  room i w now g h l = fits w (length (recordsOf img cfg corners i)) i (length corners) (length out) (length now) (g .count) (g .most) h l (as-long i w now g (below i (length corners) (length out) h l))
+  pub room : (i w : ℕ) (now : List Float) → Going spots corners out i w now → i < length corners / 3 → length corners ≤ length out → w + 3 ≤ length now
+  room i w now g h l = fits w (length (recordsBy spots corners i)) i (length corners) (length out) (length now) (g .count) (g .most) h l (as-long i w now g (below i (length corners) (length out) h l))
     where
       below : (i a b : ℕ) → i < a / 3 → a ≤ b → 3 * i ≤ b
       below i a b h l = omega arith
@@ -106,22 +111,24 @@ module _ (img : Image) (cfg : SaddlePointConfig) (corners out : List Float) wher
       fits : (w r i a b n : ℕ) → w ≡ r → r ≤ 3 * i → i < a / 3 → a ≤ b → n ≡ b → w + 3 ≤ n
       fits w r i a b n e m h l q = omega arith
 
-  pub ends : (i w : ℕ) (now : List Float) → Going img cfg corners out i w now → i ≡ length corners / 3 → AllWritten img cfg corners out w now
-  ends i w now g e = subst (λ (k : ℕ). Front (recordsOf img cfg corners k) out w now) e (record { count = g .count; leaves = g .leaves })
+  pub ends : (i w : ℕ) (now : List Float) → Going spots corners out i w now → i ≡ length corners / 3 → Front (recordsBy spots corners (length corners / 3)) out w now
+  ends i w now g e = subst (λ (k : ℕ). Front (recordsBy spots corners k) out w now) e (record { count = g .count; leaves = g .leaves })
 
   -- ---- none accepted
-  none : ((i : ℕ) → spotFor img cfg corners i ≡ Nowhere) → (n : ℕ) → recordsOf img cfg corners n ≡ []
-  unfolding recordsOf
+  none : ((i : ℕ) → spots i ≡ Nowhere) → (n : ℕ) → recordsBy spots corners n ≡ []
+  unfolding recordsBy
   none h zero = refl
-  none h (suc n) = ap (λ (p : Spot). recordsOf img cfg corners n ++ recordOf p (entry corners (3 * n + 2))) (h n) ∙ append-nil (recordsOf img cfg corners n) ∙ none h n
+  none h (suc n) = ap (λ (p : Spot). recordsBy spots corners n ++ recordOf p (entry corners (3 * n + 2))) (h n) ∙ append-nil (recordsBy spots corners n) ∙ none h n
 
-  pub empty : ((x y : Float) → spotOf (refineOf img cfg x y false) ≡ Nowhere) → AllWritten img cfg corners out 0 out
-  unfolding spotFor
-  empty h =
-      subst (λ (l : List Float). Front l out 0 out) (sym (none (λ i. h (entry corners (3 * i)) (entry corners (3 * i + 1))) (length corners / 3)))
-      (record { count = refl; leaves = refl })
+  pub empty : ((i : ℕ) → spots i ≡ Nowhere) → Front (recordsBy spots corners (length corners / 3)) out 0 out
+  empty h = subst (λ (l : List Float). Front l out 0 out) (sym (none h (length corners / 3))) (record { count = refl; leaves = refl })
 
 -- ---- a seed with the lent operator
 pub spot-is : (img : Image) (cfg : SaddlePointConfig) (columns corners : List Float) (i : ℕ) (p : Spot) → Usable cfg columns → Lands (λ overlap wanted. refineLent img cfg (entry corners (3 * i)) (entry corners (3 * i + 1)) wanted columns overlap) p → p ≡ spotFor img cfg corners i
 unfolding spotFor
 spot-is img cfg columns corners i p u l = l .is (u .overlap) false ∙ ap spotOf (u .same img (entry corners (3 * i)) (entry corners (3 * i + 1)) false)
+
+-- ---- without an operator
+pub nowhere : (img : Image) (cfg : SaddlePointConfig) (corners : List Float) → ((x y : Float) → spotOf (refineOf img cfg x y false) ≡ Nowhere) → (i : ℕ) → spotFor img cfg corners i ≡ Nowhere
+unfolding spotFor
+nowhere img cfg corners h i = h (entry corners (3 * i)) (entry corners (3 * i + 1))

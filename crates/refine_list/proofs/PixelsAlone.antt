@@ -17,7 +17,7 @@ use Rattle.refine_seed.specs.declared.Spot.{Spot}
 use Rattle.refine_seed.specs.Refine.{goodLimits}
 use Rattle.refine_seed.specs.Spot.{spotOf}
 use Rattle.refine_seed.proofs.PixelsAlone as seed
-use Rattle.refine_list.specs.Refining.{recordOf, spotFor, recordsOf, Way, refused, wrote, wayOf}
+use Rattle.refine_list.specs.Refining.{recordOf, spotFor, recordsBy, recordsOf, Way, refused, wrote, wayOf}
 use Rattle.refine_list.specs.Alone.{ByPixels, Unpadded}
 
 module _ (a b : Image) (s : SamePixels a b) (cfg : SaddlePointConfig) (corners : List Float) where
@@ -26,7 +26,7 @@ module _ (a b : Image) (s : SamePixels a b) (cfg : SaddlePointConfig) (corners :
   spot-same i = ap spotOf (seed.by-pixels a b s cfg (entry corners (3 * i)) (entry corners (3 * i + 1)) false)
 
   records-same : (n : ℕ) → recordsOf a cfg corners n ≡ recordsOf b cfg corners n
-  unfolding recordsOf
+  unfolding recordsBy
   records-same zero = refl
   records-same (suc n) =
       ap (λ (l : List Float). l ++ recordOf (spotFor a cfg corners n) (entry corners (3 * n + 2))) (records-same n)

@@ -36,11 +36,13 @@ unfoldable pub spotFor : Image → SaddlePointConfig → List Float → ℕ → 
 unfolding refineOf
 spotFor img cfg corners i = spotOf (refineOf img cfg (entry corners (3 * i)) (entry corners (3 * i + 1)) false)
 
--- the records of the first n seeds, in input order
-unfoldable pub recordsOf : Image → SaddlePointConfig → List Float → ℕ → List Float
-unfolding spotFor
-recordsOf img cfg corners zero = []
-recordsOf img cfg corners (suc n) = recordsOf img cfg corners n ++ recordOf (spotFor img cfg corners n) (entry corners (3 * n + 2))
+-- the records of the first n seeds, in input order, where seed i is refined to `spots i`
+unfoldable pub recordsBy : (ℕ → Spot) → List Float → ℕ → List Float
+recordsBy spots corners zero = []
+recordsBy spots corners (suc n) = recordsBy spots corners n ++ recordOf (spots n) (entry corners (3 * n + 2))
+
+abbrev pub recordsOf : Image → SaddlePointConfig → List Float → ℕ → List Float
+recordsOf img cfg corners = recordsBy (spotFor img cfg corners) corners
 
 pub data Way : Type 0 where
   refused : Refusal → Way
@@ -48,7 +50,7 @@ pub data Way : Type 0 where
 
 -- room is the output's length
 unfoldable pub wayOf : Image → SaddlePointConfig → List Float → ℕ → Way
-unfolding recordsOf
+unfolding recordsBy
 wayOf img cfg corners room =
     cond (not (isImage img)) (refused BadImage)
     (cond (not (leb (cfg .radius) 7)) (refused BadRadius)

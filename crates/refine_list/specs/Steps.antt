@@ -9,9 +9,10 @@ use Rattle.shapes.specs.Numbers.{entry}
 use Rattle.imageview.specs.Image.{Image}
 use Rattle.refine_formulas.specs.declared.SaddlePointConfig.{SaddlePointConfig}
 use Rattle.refine_fits.specs.StepsBases.{coefsIn}
+use Rattle.refine_seed.specs.declared.Spot.{Spot}
 use Rattle.refine_seed.specs.Refine.{refineLent, refineOf}
 use Rattle.refine_seed.specs.StepsSpot.{seedAlone, firstFor, Fitted}
-use Rattle.refine_list.specs.Refining.{recordsOf}
+use Rattle.refine_list.specs.Refining.{recordsBy, recordsOf}
 
 -- so many numbers, those of l, were written to the front
 pub record Front (l out : List Float) (n : ℕ) (out' : List Float) : Type 0 where
@@ -22,11 +23,11 @@ pub record Front (l out : List Float) (n : ℕ) (out' : List Float) : Type 0 whe
 abbrev pub AllWritten : Image → SaddlePointConfig → List Float → List Float → ℕ → List Float → Type 0
 AllWritten img cfg corners = Front (recordsOf img cfg corners (length corners / 3))
 
--- after i seeds, with w numbers written
-pub record Going (img : Image) (cfg : SaddlePointConfig) (corners out : List Float) (i w : ℕ) (now : List Float) : Type 0 where
-  pub count : w ≡ length (recordsOf img cfg corners i)
-  pub leaves : now ≡ recordsOf img cfg corners i ++ drop (length (recordsOf img cfg corners i)) out
-  pub most : length (recordsOf img cfg corners i) ≤ 3 * i
+-- after i seeds, each refined to its spot, with w numbers written
+pub record Going (spots : ℕ → Spot) (corners out : List Float) (i w : ℕ) (now : List Float) : Type 0 where
+  pub count : w ≡ length (recordsBy spots corners i)
+  pub leaves : now ≡ recordsBy spots corners i ++ drop (length (recordsBy spots corners i)) out
+  pub most : length (recordsBy spots corners i) ≤ 3 * i
 
 -- columns with which every seed is refined as by the operator of the settings' radius, whatever the overlaps
 pub record Usable (cfg : SaddlePointConfig) (columns : List Float) : Type 0 where

@@ -1,5 +1,5 @@
 // Refining a list of corners on an image, after `detect.rs`. Peaks are in the crate `peaks`.
-mod list;
+pub mod list;
 
 ghost use mathlib.Core.Path.{_≡_};
 ghost use Rattle.imageview.specs.Image.{imageOf};

@@ -72,7 +72,7 @@ fn refine_all(
 }
 
 // The first fits of the four seeds of a group, to the front of `flat`. Where no patch fits into the image no seed has one.
-fn first_fits(
+pub fn first_fits(
     img: &[u8],
     sizes: Sizes,
     cfg: SaddlePointConfig,
@@ -111,7 +111,7 @@ fn first_of(sizes: Sizes, radius: usize, corners: &[f32], i: usize) -> usize
 }
 
 // The record of a seed, after so many numbers.
-fn put(out: &mut [f32], written: usize, spot: Spot, strength: f32) -> usize
+pub fn put(out: &mut [f32], written: usize, spot: Spot, strength: f32) -> usize
     requires { ⌜ written + 3 ≤ length (now out) ⌝ }
     ensures { λ n. ⌜ n ≡ written + length (recordOf spot strength) ⌝ }
     ensures { λ _. ⌜ now (out .exit) ≡ take written (now (out .entry)) ++ (recordOf spot strength ++ drop (written + length (recordOf spot strength)) (now (out .entry))) ⌝ }

@@ -74,6 +74,6 @@ module _ (img : Image) (cfg : SaddlePointConfig) (corners : List Float) where
   written n h Nowhere e = none
 
   pub refined-records : (n : ℕ) → n ≤ length corners / 3 → Each (Moved img cfg corners) (L.recordsOf img cfg corners n)
-  unfolding L.recordsOf
+  unfolding L.recordsBy
   refined-records zero h = none
   refined-records (suc n) h = joined (refined-records n (omega arith)) (written n (omega arith) (L.spotFor img cfg corners n) refl)

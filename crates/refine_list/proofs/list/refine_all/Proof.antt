@@ -6,6 +6,7 @@ use native.Mathlib.Omega.{arith}
 use lib.ListN.{length}
 use Rattle.imageview.specs.Image.{imageOf}
 use Rattle.shapes.specs.Numbers.{entry}
+use Rattle.refine_list.specs.Refining.{spotFor}
 use Rattle.refine_list.specs.Steps.{Going, FirstFits}
 use Rattle.refine_seed.specs.StepsSpot.{Fitted}
 use Rattle.refine_list.proofs.ListLaws.{begins, room, goes-on, spot-is, as-long, ends}
@@ -15,7 +16,7 @@ use Rattle.refine_list.proofs.list.refine_all.Tie as tie
 
 abbrev Inv-loop : tie.InvT-loop
 Inv-loop img sizes cfg columns corners out₀ n flat₀ written₀ i₀ out flat written i =
-    Going (imageOf img sizes) cfg corners out₀ i written out × (i ≤ n) × (length flat ≡ 40) × ((i % 4 ≡ 0 → ⊥) → FirstFits (imageOf img sizes) cfg columns corners (i / 4) flat)
+    Going (spotFor (imageOf img sizes) cfg corners) corners out₀ i written out × (i ≤ n) × (length flat ≡ 40) × ((i % 4 ≡ 0 → ⊥) → FirstFits (imageOf img sizes) cfg columns corners (i / 4) flat)
 
 abbrev μ-loop : tie.MeasureT-loop
 μ-loop img sizes cfg columns corners out₀ n flat₀ written₀ i₀ out flat written i = n - i
@@ -23,7 +24,7 @@ abbrev μ-loop : tie.MeasureT-loop
 loop-holds : tie.Need-loop-holds Inv-loop μ-loop
 loop-holds c =
     let a = c .before .before .before .args in
-    (begins (imageOf (a .img .now) (a .sizes)) (a .cfg) (a .corners .now) (a .out .now), omega arith, refl, λ h. absurd (h refl))
+    (begins (spotFor (imageOf (a .img .now) (a .sizes)) (a .cfg) (a .corners .now)) (a .corners .now) (a .out .now), omega arith, refl, λ h. absurd (h refl))
 
 first-fits-requires : tie.Need-first-fits-requires Inv-loop μ-loop
 first-fits-requires c κs =
@@ -87,7 +88,7 @@ put-requires : tie.Need-put-requires Inv-loop μ-loop
 put-requires c κs =
     let a = c .before .before .before .before .before .before .before .before .before .before .before .before .before .args in
     let l = c .before .before .before .before .before .before .before .before .before .loop in
-    room (imageOf (a .img .now) (a .sizes)) (a .cfg) (a .corners .now) (a .out .now) (l .i) (l .written) (l .out) (l .inv .0) (c .before .before .before .before .before .before .before .before .loop-test .taken) (c .before .before .before .before .before .before .before .before .before .before .before .before .before .pre .0)
+    room (spotFor (imageOf (a .img .now) (a .sizes)) (a .cfg) (a .corners .now)) (a .corners .now) (a .out .now) (l .i) (l .written) (l .out) (l .inv .0) (c .before .before .before .before .before .before .before .before .loop-test .taken) (c .before .before .before .before .before .before .before .before .before .before .before .before .before .pre .0)
 
 add-i : tie.Need-add-i Inv-loop μ-loop
 add-i c = omega arith
@@ -103,19 +104,19 @@ loop-again c =
     let s = c .before .before .before .before .before .spot-with in
     let img = imageOf (a .img .now) (a .sizes) in
     let g = group (c .before .before .before .before .before .before .before .before .before .before) in
-    (goes-on img (a .cfg) (a .corners .now) (a .out .now) (l .i) (l .written) (l .out) (l .inv .0) (s .result) (spot-is img (a .cfg) (a .columns .now) (a .corners .now) (l .i) (s .result) (c .before .before .before .before .before .before .before .before .before .before .before .before .before .before .before .before .pre .1 .0) (s .ensures)) (p .result) (p .last .0) (p .ensures .0) (p .ensures .1), omega arith, g .long, λ h. same-group img (a .cfg) (a .columns .now) (a .corners .now) (l .i) (c .before .before .before .before .before .before .before .before .before .before .if1 .flat) g h)
+    (goes-on (spotFor img (a .cfg) (a .corners .now)) (a .corners .now) (a .out .now) (l .i) (l .written) (l .out) (l .inv .0) (s .result) (spot-is img (a .cfg) (a .columns .now) (a .corners .now) (l .i) (s .result) (c .before .before .before .before .before .before .before .before .before .before .before .before .before .before .before .before .pre .1 .0) (s .ensures)) (p .result) (p .last .0) (p .ensures .0) (p .ensures .1), omega arith, g .long, λ h. same-group img (a .cfg) (a .columns .now) (a .corners .now) (l .i) (c .before .before .before .before .before .before .before .before .before .before .if1 .flat) g h)
 
 same-length : tie.Need-same-length Inv-loop μ-loop
 same-length c =
     let a = c .before .before .before .before .before .args in
     let l = c .before .loop in
-    as-long (imageOf (a .img .now) (a .sizes)) (a .cfg) (a .corners .now) (a .out .now) (l .i) (l .written) (l .out) (l .inv .0) (omega (arith, c .before .before .before .before .before .pre .0))
+    as-long (spotFor (imageOf (a .img .now) (a .sizes)) (a .cfg) (a .corners .now)) (a .corners .now) (a .out .now) (l .i) (l .written) (l .out) (l .inv .0) (omega (arith, c .before .before .before .before .before .pre .0))
 
 returns : tie.Need-returns Inv-loop μ-loop
 returns c =
     let a = c .before .before .before .before .before .args in
     let l = c .before .loop in
-    ends (imageOf (a .img .now) (a .sizes)) (a .cfg) (a .corners .now) (a .out .now) (l .i) (l .written) (l .out) (l .inv .0) (omega arith)
+    ends (spotFor (imageOf (a .img .now) (a .sizes)) (a .cfg) (a .corners .now)) (a .corners .now) (a .out .now) (l .i) (l .written) (l .out) (l .inv .0) (omega arith)
 
 pub refine-all-spec : {M : Type 1} → statement M
 refine-all-spec =

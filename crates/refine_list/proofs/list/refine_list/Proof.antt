@@ -6,7 +6,8 @@ use Rattle.imageview.specs.Image.{imageOf}
 use Rattle.refine_operator.specs.Call.{wayOf, overlapAfter}
 use Rattle.refine_operator.proofs.CallLaws.{with-overlap}
 use Rattle.refine_seed.proofs.LentLaws.{lent-is-built, none-singular, none-refused}
-use Rattle.refine_list.proofs.ListLaws.{empty}
+use Rattle.refine_list.specs.Refining.{spotFor}
+use Rattle.refine_list.proofs.ListLaws.{empty, nowhere}
 use Rattle.refine_list.proofs.list.refine_list.Statement.{statement}
 use Rattle.refine_list.proofs.list.refine_list.Tie as tie
 
@@ -38,13 +39,13 @@ returns-2 : tie.Need-returns-2
 returns-2 c =
     let a = c .before .before .before .before .before .before .before .args in
     let img = imageOf (a .img .now) (a .sizes) in
-    empty img (a .cfg) (a .corners .now) (a .out .now) (λ x y. none-singular img (a .cfg) x y false _ [] _ _ _ (with-overlap (a .cfg .radius) _ [] _ _ (c .before .before .fit-columns .ensures)) (c .enum-told2 .given .1))
+    empty (spotFor img (a .cfg) (a .corners .now)) (a .corners .now) (a .out .now) (nowhere img (a .cfg) (a .corners .now) (λ x y. none-singular img (a .cfg) x y false _ [] _ _ _ (with-overlap (a .cfg .radius) _ [] _ _ (c .before .before .fit-columns .ensures)) (c .enum-told2 .given .1)))
 
 returns-3 : tie.Need-returns-3
 returns-3 c =
     let a = c .before .before .before .before .before .before .before .args in
     let img = imageOf (a .img .now) (a .sizes) in
-    empty img (a .cfg) (a .corners .now) (a .out .now) (λ x y. none-refused img (a .cfg) x y false _ [] _ _ _ (with-overlap (a .cfg .radius) _ [] _ _ (c .before .before .fit-columns .ensures)) _ (c .enum-told3 .given .1))
+    empty (spotFor img (a .cfg) (a .corners .now)) (a .corners .now) (a .out .now) (nowhere img (a .cfg) (a .corners .now) (λ x y. none-refused img (a .cfg) x y false _ [] _ _ _ (with-overlap (a .cfg .radius) _ [] _ _ (c .before .before .fit-columns .ensures)) _ (c .enum-told3 .given .1)))
 
 pub refine-list-spec : {M : Type 1} → statement M
 refine-list-spec = tie.close (tie.spec fit-columns-requires enum-told refine-all-requires enum-told-2 enum-told-3 same-length returns returns-2 returns-3)
