@@ -19,8 +19,9 @@
  * 8192. img_len: pitch times height, so that the last row has its padding too. A response has no pitch.
  *
  * Stack in bytes, on x86-64, as compiled for release, all that a call calls included (docs/SPEED.md): response 1,328,
- * peaks 5,808, fit_operator 2,336, refine 7,344, refine_with 2,816, refine_list 7,296, merge 240, tie 1,984, graymap 56,
- * salvage 56, coverage 56 to 88, gradient 240. No call recurses. Scratch: only the merge asks for any, heads and links.
+ * peaks 5,808, fit_operator 2,336, refine 7,360, refine_with 2,800, refine_list 7,424, refine_list_fallback_with 3,216,
+ * merge 240, tie 1,984, graymap 56, salvage 56, coverage 56 to 88, gradient 240; refine_list_fallback 12,288, more than
+ * any other, since it builds two operators. No call recurses. Scratch: only the merge asks for any, heads and links.
  *
  * Numbers:
  *    0 Accepted        1 Rejected: the first fit lies outside the box about the seed
@@ -36,8 +37,9 @@
  *   12 BadLimit: a float setting that is not finite or below zero (the peak threshold may be below zero)
  *   13 BadRing: a ring component beyond the ring radius; of the gradient, a ring or a cross that leaves the tile
  *   14 EmptyRoi: x0 >= x1 or y0 >= y1
- *   15 BadOut: a response buffer not of the clamped region's size; a refine output shorter than its input; an output of
- *      the salvage shorter than what goes into it; a grid without two numbers for each cell of a tile
+ *   15 BadOut: a response buffer not of the clamped region's size; a refine output shorter than its input, or fewer pass
+ *      bytes than corners; an output of the salvage shorter than what goes into it; a grid without two numbers for each
+ *      cell of a tile
  *   16 TooMany: over 4,096 corners or whole records, a corner added to 4,096, or more peaks than the output holds
  *   17 GridTooBig: more cells of the merge than heads
  *   18 BadScratch: fewer links than corners
@@ -152,6 +154,33 @@ uint32_t chess_corners_refine_list(const uint8_t *img, size_t img_len, size_t wi
                                    size_t radius, float det_margin, float max_offset, float min_abs_det,
                                    const float *corners, size_t corners_len,
                                    float *out, size_t out_len, size_t *count);
+
+/* Refines corners with a second try: one that the first settings do not accept starts again from its own place with the
+ * second ones (second_...). Those that either accepts are written as by chess_corners_refine_list, in input order with
+ * their own strength, the first's with the same bits, and a byte for each to the front of passes: 1 or 2, which settings it was.
+ * Elements past the last record and bytes past the last one stay. Both settings are tested before any corner is tried.
+ * With equal settings the records are those of chess_corners_refine_list. out_len: corners_len or more.
+ * passes_len: one a corner or more. count: how many.
+ * It builds the operators of both radii on the stack, and takes more of it than any other call (above): where there is
+ * less, lend them to chess_corners_refine_list_fallback_with.
+ * Returns 0, 10, 11 for either radius, 12 for either setting, 19, 16, 15. */
+uint32_t chess_corners_refine_list_fallback(const uint8_t *img, size_t img_len, size_t width, size_t height, size_t pitch,
+                                            size_t radius, float det_margin, float max_offset, float min_abs_det,
+                                            size_t second_radius, float second_det_margin, float second_max_offset,
+                                            float second_min_abs_det, const float *corners, size_t corners_len,
+                                            float *out, size_t out_len, uint8_t *passes, size_t passes_len,
+                                            size_t *count);
+
+/* The same with the columns of two operators that were built before (chess_corners_fit_operator; the overlaps are not
+ * needed). With those of the two radii, built with 0, the answer is that of chess_corners_refine_list_fallback; with other
+ * contents it is the answer for those. At radius 0 there is no operator, whatever is lent: these settings accept none. */
+uint32_t chess_corners_refine_list_fallback_with(const uint8_t *img, size_t img_len, size_t width, size_t height,
+                                                 size_t pitch, size_t radius, float det_margin, float max_offset,
+                                                 float min_abs_det, size_t second_radius, float second_det_margin,
+                                                 float second_max_offset, float second_min_abs_det,
+                                                 const float columns[1125], const float second_columns[1125],
+                                                 const float *corners, size_t corners_len, float *out, size_t out_len,
+                                                 uint8_t *passes, size_t passes_len, size_t *count);
 
 /* Merges corners, x, y and strength of each, that lie within the radius of each other, in place: the kept ones
  * stand at the front and the rest of the list is +0.0. heads: one a cell of the grid (16,384 serve 640 by 480 at

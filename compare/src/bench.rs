@@ -4,6 +4,7 @@
 
 mod board;
 mod coverage;
+mod fallback;
 mod gradient;
 mod graymap;
 mod peaks;
@@ -270,6 +271,7 @@ const TABLES: [Table; 9] = [
     ("peaks", peaks::table),
     ("merge", merges),
     ("refine", refine::tables),
+    ("fallback", fallback::table),
     ("board", board::table),
     ("graymap", graymap::table),
     ("salvage", salvage::table),

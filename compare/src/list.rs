@@ -14,11 +14,11 @@ use std::rc::Rc;
 
 #[derive(Clone)]
 pub struct List {
-    scene: Scene,
+    pub scene: Scene,
     /// The padding of each call.
-    paint: u64,
-    floats: Vec<f32>,
-    out: usize,
+    pub paint: u64,
+    pub floats: Vec<f32>,
+    pub out: usize,
 }
 
 /// All that a call leaves.
@@ -57,7 +57,7 @@ impl Answer {
     }
 }
 
-fn class_of(number: u32, seeds: usize, kept: usize) -> &'static str {
+pub fn class_of(number: u32, seeds: usize, kept: usize) -> &'static str {
     match number {
         0 if seeds == 0 => "empty list",
         0 if kept == 0 => "none kept",
@@ -224,7 +224,7 @@ fn any_seeds(random: &mut Random, count: usize) -> (Scene, Vec<Triple>) {
 }
 
 /// No seed on an image, with the Rust's own settings.
-fn usual(image: Image) -> List {
+pub fn usual(image: Image) -> List {
     let s = Settings::default();
     List {
         scene: Scene {

@@ -5,6 +5,7 @@
 mod bench;
 mod board;
 mod coverage;
+mod fallback;
 mod gradient;
 mod graymap;
 mod list;
@@ -37,6 +38,10 @@ const LONG: u64 = 60;
 const SEEDS: usize = 32;
 const PER_LIST: usize = 4;
 
+/// A list with a second try is called with its own operators and with lent ones:
+/// one for so many merges and responses.
+const PER_FALLBACK: usize = 8;
+
 /// A row of calls on a list of corners has all of the list compared after each:
 /// one for so many merges and responses.
 const PER_ROW: usize = 4;
@@ -52,6 +57,7 @@ fn faults_noticed() -> Result<(), String> {
     operator::faults_noticed()?;
     refine::faults_noticed()?;
     list::faults_noticed()?;
+    fallback::faults_noticed()?;
     number::faults_noticed()?;
     board::faults_noticed()?;
     graymap::faults_noticed()?;
@@ -69,6 +75,7 @@ struct Tallies {
     operators: Tally,
     seeds: Tally,
     lists: Tally,
+    fallbacks: Tally,
     numbers: Tally,
     boards: Tally,
     graymaps: Tally,
@@ -88,6 +95,8 @@ impl Tallies {
             && refine::pitches(&mut self.seeds, random)
             && list::longest(&mut self.lists, random)
             && list::pitches(&mut self.lists, random)
+            && fallback::longest(&mut self.fallbacks, random)
+            && fallback::pitches(&mut self.fallbacks, random)
             && board::longest(&mut self.boards, random)
             && board::short(&mut self.boards)
             && graymap::longest(&mut self.graymaps)
@@ -120,6 +129,7 @@ impl Tallies {
                 .tried(&response::any(random, &mut kept.rings))
             && (0..SCANS).all(|_| self.peaks.tried(&peaks::any(random)))
             && (!random.once_in(PER_LIST) || self.lists.tried(&list::any(random)))
+            && (!random.once_in(PER_FALLBACK) || self.fallbacks.tried(&fallback::any(random)))
             && (0..SEEDS).all(|_| self.seeds.tried(&kept.scenes.any(random)))
     }
 
@@ -130,13 +140,14 @@ impl Tallies {
         let operators = self.operators.told::<operator::Operator>(to_the_end);
         let seeds = self.seeds.told::<refine::Refine>(to_the_end);
         let lists = self.lists.told::<list::List>(to_the_end);
+        let fallbacks = self.fallbacks.told::<fallback::Fallback>(to_the_end);
         let numbers = self.numbers.told::<number::Number>(to_the_end);
         let boards = self.boards.told::<board::Board>(to_the_end);
         let graymaps = self.graymaps.told::<graymap::Graymap>(to_the_end);
         let salvages = self.salvages.told::<salvage::Salvage>(to_the_end);
         let covers = self.covers.told::<coverage::Coverage>(to_the_end);
         let gradients = self.gradients.told::<gradient::Gradient>(to_the_end);
-        let images = responses && operators && seeds && lists && gradients;
+        let images = responses && operators && seeds && lists && fallbacks && gradients;
         images && merges && peaks && numbers && boards && graymaps && salvages && covers
     }
 }

@@ -127,6 +127,80 @@ pub fn refine_list(
     }
 }
 
+/// What a list with a second try is written to: the records, a pass byte for
+/// each, and how many there are.
+pub struct Retried<'a> {
+    pub out: &'a mut [f32],
+    pub passes: &'a mut [u8],
+    pub count: &'a mut usize,
+}
+
+/// Document 01's number.
+pub fn fallback(image: Image<'_>, [s, t]: [Settings; 2], corners: &[f32], to: Retried<'_>) -> u32 {
+    // SAFETY: as for the response below.
+    unsafe {
+        raw::chess_corners_refine_list_fallback(
+            image.bytes.as_ptr(),
+            image.bytes.len(),
+            image.width,
+            image.height,
+            image.pitch,
+            s.radius,
+            s.det_margin,
+            s.max_offset,
+            s.min_abs_det,
+            t.radius,
+            t.det_margin,
+            t.max_offset,
+            t.min_abs_det,
+            corners.as_ptr(),
+            corners.len(),
+            to.out.as_mut_ptr(),
+            to.out.len(),
+            to.passes.as_mut_ptr(),
+            to.passes.len(),
+            to.count,
+        )
+    }
+}
+
+/// The same with lent columns.
+pub fn fallback_with(
+    image: Image<'_>,
+    [s, t]: [Settings; 2],
+    columns: [&[f32; COLUMNS]; 2],
+    corners: &[f32],
+    to: Retried<'_>,
+) -> u32 {
+    // SAFETY: as for the response below.
+    unsafe {
+        raw::chess_corners_refine_list_fallback_with(
+            image.bytes.as_ptr(),
+            image.bytes.len(),
+            image.width,
+            image.height,
+            image.pitch,
+            s.radius,
+            s.det_margin,
+            s.max_offset,
+            s.min_abs_det,
+            t.radius,
+            t.det_margin,
+            t.max_offset,
+            t.min_abs_det,
+            columns[0].as_ptr(),
+            columns[1].as_ptr(),
+            corners.as_ptr(),
+            corners.len(),
+            to.out.as_mut_ptr(),
+            to.out.len(),
+            to.passes.as_mut_ptr(),
+            to.passes.len(),
+            to.count,
+        )
+    }
+}
+
 /// The ring as it crosses: dx, dy, sixteen times.
 pub fn flat(ring: &Ring) -> [i32; 32] {
     core::array::from_fn(|k| {

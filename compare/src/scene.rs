@@ -16,20 +16,23 @@ pub struct Scene {
     pub settings: port::Settings,
 }
 
+/// As the oracle takes them: all radii above the limit are refused.
+pub fn for_oracle(s: port::Settings) -> Settings {
+    Settings {
+        radius: i32::try_from(s.radius).unwrap_or(i32::MAX),
+        det_margin: s.det_margin,
+        max_offset: s.max_offset,
+        min_abs_det: s.min_abs_det,
+    }
+}
+
 impl Scene {
     pub fn view(&self) -> View<'_> {
         View::from(&*self.image)
     }
 
-    /// As the oracle takes them: all radii above the limit are refused.
     pub fn for_oracle(&self) -> Settings {
-        let s = self.settings;
-        Settings {
-            radius: i32::try_from(s.radius).unwrap_or(i32::MAX),
-            det_margin: s.det_margin,
-            max_offset: s.max_offset,
-            min_abs_det: s.min_abs_det,
-        }
+        for_oracle(self.settings)
     }
 
     pub fn size(&self) -> u64 {

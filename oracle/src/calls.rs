@@ -338,6 +338,59 @@ fn first_pass(image: View<'_>, passes: [&Settings; 2], seed: [f32; 2]) -> Option
     })
 }
 
+/// `fallback` with kept refiners: the number, the corners and their passes.
+pub fn fallback_kept(
+    image: View<'_>,
+    [one, two]: [&Settings; 2],
+    floats: &[f32],
+    out: usize,
+    passes: usize,
+) -> (u32, Vec<Triple>, Vec<u8>) {
+    if let Some(number) = rules::fallback_refusal(image, one, two, floats.len(), out, passes) {
+        return (number, Vec::new(), Vec::new());
+    }
+    let corners = triples(floats);
+    without_padding(image, |whole| {
+        let spots =
+            [one, two].map(|s| with_kept(s, false, |kept| spots_by(kept, whole, s, &corners)));
+        let (mut answer, mut gave) = (Vec::new(), Vec::new());
+        for (k, c) in corners.iter().enumerate() {
+            let found = (1..)
+                .zip(&spots)
+                .find_map(|(pass, all)| Some((pass, all[k]?)));
+            answer.extend(found.map(|(_, [x, y])| [x, y, c[2]]));
+            gave.extend(found.map(|(pass, _)| pass));
+        }
+        let mut second = plain::Refiner::new(two, false);
+        let mut first = plain::Refiner::new(one, false);
+        // The Rust panics on some seeds that leave the image.
+        if let Some(all) = run(|| first.refine_list_with_fallback(&mut second, whole, &corners)) {
+            hold(
+                same_triples(&all, &answer),
+                "a list with a second try is not its seeds",
+            );
+        }
+        (0, answer, gave)
+    })
+}
+
+/// Where each seed is refined to, if it is accepted.
+fn spots_by(
+    kept: &mut plain::Counted,
+    whole: View<'_>,
+    s: &Settings,
+    corners: &[Triple],
+) -> Vec<Option<[f32; 2]>> {
+    let spot = |c: &Triple| {
+        if rules::bad_seed([c[0], c[1]]) {
+            return None;
+        }
+        let (a, _, _) = seed_by(kept, whole, s, [c[0], c[1]]);
+        (a.status == 0).then_some([a.x, a.y])
+    };
+    corners.iter().map(spot).collect()
+}
+
 /// Whether the Rust's merge may be run: its grid asks for little memory, or
 /// for so much that the library panics instead of asking.
 fn merge_may_run(list: &[Triple], radius: f32) -> bool {

@@ -103,6 +103,52 @@ pub mod raw {
             out_len: usize,
             count: *mut usize,
         ) -> u32;
+        pub fn chess_corners_refine_list_fallback(
+            img: *const u8,
+            img_len: usize,
+            width: usize,
+            height: usize,
+            pitch: usize,
+            radius: usize,
+            det_margin: f32,
+            max_offset: f32,
+            min_abs_det: f32,
+            second_radius: usize,
+            second_det_margin: f32,
+            second_max_offset: f32,
+            second_min_abs_det: f32,
+            corners: *const f32,
+            corners_len: usize,
+            out: *mut f32,
+            out_len: usize,
+            passes: *mut u8,
+            passes_len: usize,
+            count: *mut usize,
+        ) -> u32;
+        pub fn chess_corners_refine_list_fallback_with(
+            img: *const u8,
+            img_len: usize,
+            width: usize,
+            height: usize,
+            pitch: usize,
+            radius: usize,
+            det_margin: f32,
+            max_offset: f32,
+            min_abs_det: f32,
+            second_radius: usize,
+            second_det_margin: f32,
+            second_max_offset: f32,
+            second_min_abs_det: f32,
+            columns: *const f32,
+            second_columns: *const f32,
+            corners: *const f32,
+            corners_len: usize,
+            out: *mut f32,
+            out_len: usize,
+            passes: *mut u8,
+            passes_len: usize,
+            count: *mut usize,
+        ) -> u32;
         pub fn chess_corners_merge(
             corners: *mut f32,
             corners_len: usize,
@@ -730,6 +776,86 @@ pub fn refine_list(
     done(number, count)
 }
 
+/// Refines corners with the first settings, and those that these do not accept
+/// from their own places with the second ones: how many are accepted. A byte for
+/// each says which settings it was, 1 or 2.
+pub fn refine_list_fallback(
+    image: Image<'_>,
+    [first, second]: [SaddlePointConfig; 2],
+    corners: &[f32],
+    out: &mut [f32],
+    passes: &mut [u8],
+) -> Result<usize, Refusal> {
+    let mut count = 0;
+    // SAFETY: as above.
+    let number = unsafe {
+        raw::chess_corners_refine_list_fallback(
+            image.bytes.as_ptr(),
+            image.bytes.len(),
+            image.width,
+            image.height,
+            image.pitch,
+            first.radius,
+            first.det_margin,
+            first.max_offset,
+            first.min_abs_det,
+            second.radius,
+            second.det_margin,
+            second.max_offset,
+            second.min_abs_det,
+            corners.as_ptr(),
+            corners.len(),
+            out.as_mut_ptr(),
+            out.len(),
+            passes.as_mut_ptr(),
+            passes.len(),
+            &mut count,
+        )
+    };
+    done(number, count)
+}
+
+/// The same with operators that were built before; their radii take the place
+/// of the settings' own.
+pub fn refine_list_fallback_with(
+    image: Image<'_>,
+    [first, second]: [SaddlePointConfig; 2],
+    operators: [&Operator; 2],
+    corners: &[f32],
+    out: &mut [f32],
+    passes: &mut [u8],
+) -> Result<usize, Refusal> {
+    let mut count = 0;
+    // SAFETY: as above.
+    let number = unsafe {
+        raw::chess_corners_refine_list_fallback_with(
+            image.bytes.as_ptr(),
+            image.bytes.len(),
+            image.width,
+            image.height,
+            image.pitch,
+            operators[0].radius,
+            first.det_margin,
+            first.max_offset,
+            first.min_abs_det,
+            operators[1].radius,
+            second.det_margin,
+            second.max_offset,
+            second.min_abs_det,
+            operators[0].columns.as_ptr(),
+            operators[1].columns.as_ptr(),
+            corners.as_ptr(),
+            corners.len(),
+            out.as_mut_ptr(),
+            out.len(),
+            passes.as_mut_ptr(),
+            passes.len(),
+            &mut count,
+        )
+    };
+    done(number, count)
+}
+
 /// Merges corners in place: how many are kept.
 pub fn merge(
     corners: &mut [f32],
@@ -1118,6 +1244,32 @@ mod tests {
         }
         let by_width = seen(&saddle(13, 1)[..81], 9);
         assert_ne!(by_width, whole);
+    }
+
+    /// Through the library: a corner too near the rim for the first radius is
+    /// the second's, with its own and with lent operators; one that neither
+    /// accepts leaves no record and no byte.
+    #[test]
+    fn the_library_tries_again() {
+        let bytes = saddle(9, 0);
+        let image = Image::new(&bytes, 9, 9);
+        let both = [config(4), config(2)];
+        let operators = [4, 2].map(|radius| Operator::new(radius).unwrap());
+        let corners = [5.0, 3.0, 1.0, 4.1, 4.0, 2.0, 0.0, 0.0, 3.0];
+        let (mut out, mut passes) = ([7.0; 9], [9; 3]);
+        let count = refine_list_fallback(image, both, &corners, &mut out, &mut passes);
+        let (mut lent, mut marks) = ([7.0; 9], [9; 3]);
+        let [first, second] = &operators;
+        let with = [first, second];
+        let again = refine_list_fallback_with(image, both, with, &corners, &mut lent, &mut marks);
+        assert_eq!((count, passes), (Ok(2), [2, 1, 9]));
+        assert_eq!((again, marks, lent), (count, passes, out));
+        assert_eq!((out[2], out[5], &out[6..]), (1.0, 2.0, &[7.0; 3][..]));
+        let mut alone = [7.0; 9];
+        assert_eq!(refine_list(image, both[0], &corners, &mut alone), Ok(1));
+        assert_eq!(out[3..6], alone[..3]);
+        let few = refine_list_fallback(image, both, &corners, &mut out, &mut passes[..2]);
+        assert_eq!(few, Err(Refusal::BadOut));
     }
 
     /// Through the library: each wrong pitch and count.

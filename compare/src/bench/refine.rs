@@ -9,14 +9,14 @@ use oracle::types::{Settings, Triple, View};
 use oracle::{calls, pictures, plain};
 
 const SIZE: [usize; 2] = [640, 480];
-const SEEDS: usize = 4096;
+pub const SEEDS: usize = 4096;
 
 /// Lists of each row, called one after the other.
-const LISTS: usize = 8;
+pub const LISTS: usize = 8;
 
 /// A board, turned so that its corners lie anywhere between pixels, blurred
 /// over two pixels and with a little noise.
-struct Board {
+pub struct Board {
     image: oracle::types::Image,
     corners: Vec<[f32; 2]>,
 }
@@ -49,7 +49,7 @@ pub fn board(seed: u64, levels: i64) -> oracle::types::Image {
 }
 
 impl Board {
-    fn new() -> Self {
+    pub fn new() -> Self {
         let [w, h] = SIZE;
         let image = board(1, 3);
         let mut corners = Vec::new();
@@ -66,7 +66,7 @@ impl Board {
     }
 
     /// Seeds within 0.8 pixels of a corner on each axis, or anywhere.
-    fn seeds(&self, random: &mut Random, near: bool) -> Vec<Triple> {
+    pub fn seeds(&self, random: &mut Random, near: bool) -> Vec<Triple> {
         (0..SEEDS)
             .map(|_| {
                 let corner = random.pick(&self.corners);
@@ -79,21 +79,21 @@ impl Board {
             .collect()
     }
 
-    fn lent(&self) -> port::Image<'_> {
+    pub fn lent(&self) -> port::Image<'_> {
         picture::lent(&self.image)
     }
 
-    fn rust(&self) -> rust::ImageView<'_> {
+    pub fn rust(&self) -> rust::ImageView<'_> {
         rust::ImageView::from_u8_slice(SIZE[0], SIZE[1], &self.image.bytes).expect("a whole image")
     }
 
-    fn view(&self) -> View<'_> {
+    pub fn view(&self) -> View<'_> {
         View::from(&self.image)
     }
 }
 
 /// The Rust's default settings at a radius, for both sides.
-fn settings(radius: i32) -> (Settings, port::Settings, rust::SaddlePointConfig) {
+pub fn settings(radius: i32) -> (Settings, port::Settings, rust::SaddlePointConfig) {
     let mut config = rust::SaddlePointConfig::default();
     config.radius = radius;
     let s = Settings {

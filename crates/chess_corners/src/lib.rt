@@ -2,6 +2,7 @@
 // done. Further answers are written where the number is 0; one seed's place and score with 1 to 7 too, the place at fault with 33 and 34, and the pixel above
 // its maximum with 24.
 mod beside;
+mod fallback;
 mod seed;
 
 pub use beside::chess_corners_coverage;
@@ -11,6 +12,8 @@ pub use beside::chess_corners_coverage_replace;
 pub use beside::chess_corners_gradient;
 pub use beside::chess_corners_salvage;
 use board::Tie;
+pub use fallback::chess_corners_refine_list_fallback;
+pub use fallback::chess_corners_refine_list_fallback_with;
 use graymap::Graymap;
 use imageview::Sizes;
 use merge::Merge;

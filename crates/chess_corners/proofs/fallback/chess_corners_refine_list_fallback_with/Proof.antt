@@ -1,0 +1,23 @@
+-- `chess_corners::chess_corners_refine_list_fallback_with` meets its contract: what is told of the answer, and what the wrapped call leaves.
+use borrow.Author.Needs.{needs}
+use Rattle.chess_corners.proofs.FallbackLaws.{retrying}
+use Rattle.chess_corners.proofs.fallback.chess_corners_refine_list_fallback_with.Statement.{statement}
+use Rattle.chess_corners.proofs.fallback.chess_corners_refine_list_fallback_with.Tie as tie
+
+refine-corners-with-columns-requires : tie.Need-refine-corners-with-columns-requires
+refine-corners-with-columns-requires c κs = search needs
+
+tell-requires : tie.Need-tell-requires
+tell-requires c κs = search needs
+
+same-length : tie.Need-same-length
+same-length c = search needs
+
+same-length-2 : tie.Need-same-length-2
+same-length-2 c = search needs
+
+returns : tie.Need-returns
+returns c = retrying (c .before .before .before .before .before .before .refine-corners-with-columns .ensures) (c .tell .ensures)
+
+pub chess-corners-refine-list-fallback-with-spec : {M : Type 1} → statement M
+chess-corners-refine-list-fallback-with-spec = tie.close (tie.spec refine-corners-with-columns-requires tell-requires same-length same-length-2 returns)
