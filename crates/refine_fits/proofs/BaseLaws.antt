@@ -13,7 +13,7 @@ use Rattle.shapes.specs.Numbers.{entry}
 use Rattle.imageview.specs.Image.{Image}
 use Rattle.imageview.proofs.ImageLaws.{index}
 use Rattle.refine_formulas.specs.declared.Corners.{Corners}
-use Rattle.refine_patch.specs.From.{coefficientFrom, fourWritten}
+use Rattle.refine_patch.specs.StepsFrom.{coefficientFrom, fourWritten}
 use Rattle.refine_patch.specs.declared.Firsts.{Firsts}
 use Rattle.refine_patch.specs.StepsFour.{laneOf, sumIn, PatchesInside}
 use Rattle.refine_patch.proofs.FourLaws.{written-length, written-before, written-here}

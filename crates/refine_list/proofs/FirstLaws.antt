@@ -16,7 +16,7 @@ use Rattle.shapes.proofs.TestLaws.{either}
 use Rattle.imageview.specs.Image.{Image}
 use Rattle.refine_formulas.specs.declared.SaddlePointConfig.{SaddlePointConfig}
 use Rattle.refine_patch.specs.declared.Firsts.{Firsts}
-use Rattle.refine_patch.specs.From.{coefficientFrom, fourWritten}
+use Rattle.refine_patch.specs.StepsFrom.{coefficientFrom, fourWritten}
 use Rattle.refine_patch.specs.StepsFour.{laneOf, PatchesInside}
 use Rattle.refine_patch.proofs.FourLaws.{written-length}
 use Rattle.refine_fits.specs.StepsAdding.{PatchWithin}

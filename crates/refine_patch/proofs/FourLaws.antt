@@ -15,7 +15,7 @@ use Rattle.shapes.specs.Numbers.{entry}
 use Rattle.shapes.proofs.ListLaws.{length-tabulated, getD-tabulated, tabulated-by, tabulated-cong}
 use Rattle.refine_patch.specs.declared.Firsts.{Firsts}
 use Rattle.refine_patch.specs.declared.Sums.{Sums}
-use Rattle.refine_patch.specs.From.{fourWritten}
+use Rattle.refine_patch.specs.StepsFrom.{fourWritten}
 use Rattle.refine_patch.specs.StepsFour.{fourOf, laneOf, laneIn, sumIn, fourSet, blocks, Gathered}
 
 -- ---- four entries side by side

@@ -13,7 +13,7 @@ use Rattle.shapes.proofs.TurnLaws.{turns-cong}
 use Rattle.imageview.specs.Image.{Image, pixel}
 use Rattle.refine_operator.specs.Basis.{side, samples}
 use Rattle.refine_formulas.specs.Numbers.{_⊕_, _⊖_, _⊗_}
-use Rattle.refine_patch.specs.From.{sampleFrom, coefficientFrom}
+use Rattle.refine_patch.specs.StepsFrom.{sampleFrom, coefficientFrom}
 
 -- the first place of the patch about (x, y)
 abbrev pub firstOf : Image → ℕ → ℕ → ℕ → ℕ

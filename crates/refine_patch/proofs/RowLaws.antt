@@ -15,7 +15,7 @@ use Rattle.refine_formulas.specs.Numbers.{_⊖_}
 use Rattle.refine_patch.specs.declared.Firsts.{Firsts}
 use Rattle.refine_patch.specs.declared.Quad.{Quad}
 use Rattle.refine_patch.specs.declared.Sums.{Sums}
-use Rattle.refine_patch.specs.From.{sampleFrom, coefficientFrom}
+use Rattle.refine_patch.specs.StepsFrom.{sampleFrom, coefficientFrom}
 use Rattle.refine_patch.specs.StepsFour.{laneOf, laneIn, sumIn, quadBy, sumsBy, movedBy, floatOf, levelOf, added, rowAdded, blocks, FourReach, PatchesInside, Gathered}
 use Rattle.refine_patch.specs.StepsRows.{centresOf, sumsAfter}
 

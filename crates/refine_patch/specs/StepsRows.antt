@@ -10,7 +10,7 @@ use Rattle.refine_formulas.specs.Numbers.{_⊕_, _⊖_, _⊗_}
 use Rattle.refine_patch.specs.declared.Firsts.{Firsts}
 use Rattle.refine_patch.specs.declared.Quad.{Quad}
 use Rattle.refine_patch.specs.declared.Sums.{Sums}
-use Rattle.refine_patch.specs.From.{sampleFrom}
+use Rattle.refine_patch.specs.StepsFrom.{sampleFrom}
 use Rattle.refine_patch.specs.StepsFour.{laneOf, quadBy, sumsBy, floatOf}
 
 -- the samples that lie `by` past the first ones

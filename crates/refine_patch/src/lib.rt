@@ -5,7 +5,7 @@ ghost use Prim.Native.Nat.{_+_, _*_, _≤_, _<_};
 ghost use lib.ListN.{length};
 ghost use Rattle.shapes.specs.Numbers.{plusZero};
 ghost use Rattle.refine_operator.specs.Basis.{samples};
-ghost use Rattle.refine_patch.specs.From.{coefficientFrom, fourWritten};
+ghost use Rattle.refine_patch.specs.StepsFrom.{coefficientFrom, fourWritten};
 ghost use Rattle.refine_patch.specs.StepsFour.{laneOf, sumIn, fourOf, fourSet, quadBy, sumsBy, movedBy, floatOf, levelOf, added, rowAdded, FourReach, PatchesInside, Gathered};
 ghost use Rattle.refine_patch.specs.StepsRows.{centresOf, sumsAfter};
 

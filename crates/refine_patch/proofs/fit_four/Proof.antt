@@ -1,7 +1,7 @@
 -- `refine_patch::fit_four` meets its contract.
 use mathlib.Core.Path.{_∙_}
 use borrow.Author.Needs.{needs}
-use Rattle.refine_patch.specs.From.{coefficientFrom}
+use Rattle.refine_patch.specs.StepsFrom.{coefficientFrom}
 use Rattle.refine_patch.specs.StepsFour.{laneOf}
 use Rattle.refine_patch.proofs.FourLaws.{blocks-written}
 use Rattle.refine_patch.proofs.RowLaws.{blocks-done}

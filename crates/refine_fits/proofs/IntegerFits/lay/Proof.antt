@@ -2,7 +2,7 @@
 use mathlib.Core.Path.{_∙_, ap}
 use Rattle.imageview.specs.Image.{imageOf}
 use Rattle.refine_patch.specs.declared.Sums.{Sums}
-use Rattle.refine_patch.specs.From.{fourWritten}
+use Rattle.refine_patch.specs.StepsFrom.{fourWritten}
 use Rattle.refine_patch.specs.StepsFour.{sumIn}
 use Rattle.refine_fits.proofs.BaseLaws.{laid-kept}
 use borrow.Author.Needs.{needs}
