@@ -146,10 +146,13 @@ _fit_operator = _call("fit_operator", _size, _ptr, _ptr)
 _refine = _call("refine", *_IMAGE, *_CONFIG, _f32, _f32, _u32, _ptr, _ptr, _ptr)
 _refine_with = _call("refine_with", *_IMAGE, *_CONFIG, _f32, _f32, _u32, _ptr, _ptr, _ptr, _ptr, _ptr)
 _refine_list = _call("refine_list", *_IMAGE, *_CONFIG, _ptr, _size, _ptr, _size, _ptr)
+_fallback = _call("refine_list_fallback", *_IMAGE, *_CONFIG, *_CONFIG, _ptr, _size, _ptr, _size, _ptr, _size, _ptr)
+_fallback_with = _call("refine_list_fallback_with", *_IMAGE, *_CONFIG, *_CONFIG, _ptr, _ptr, _ptr, _size, _ptr, _size, _ptr, _size, _ptr)
 _merge = _call("merge", _ptr, _size, _f32, _ptr, _size, _ptr, _size, _ptr)
 _tie = _call("tie", _size, _size, _ptr, _size, _f32, _ptr, _size, _ptr, _size, _ptr)
 _graymap = _call("graymap", _ptr, _size, _ptr, _ptr, _ptr, _ptr, _ptr)
 _salvage = _call("salvage", _ptr, _size, _size, _size, _ptr, _size, _ptr, _size, _ptr, _ptr)
+_gradient = _call("gradient", _ptr, _size, _size, _ptr, _size, _size, _f32, _f32, _ptr, _size)
 _coverage = _call("coverage", _size, _size, _ptr, _size, _ptr)
 _coverage_add = _call("coverage_add", _size, _size, _ptr, _ptr, _ptr, _f32, _f32, _f32)
 _coverage_replace = _call("coverage_replace", _size, _size, _ptr, _size, _ptr, _size, _f32, _f32, _f32)
@@ -254,6 +257,21 @@ def refine_list(image, corners, settings=Settings()):
     return out[: 3 * count.value]
 
 
+def refine_list_with_fallback(image, corners, first=Settings(), second=Settings(radius=1), operators=None):
+    """The corners that the first settings accept, and else the second ones, in input order; and a byte each, 1 or 2, that says which it was.
+    With a pair of operators that were built before it takes less stack and time."""
+    lent = () if operators is None else tuple(operator.columns for operator in operators)
+    with _Lent(image.samples, "u8") as img, _Lent(corners, "f32") as list_:
+        out, passes, count = _floats(list_.len), array.array("B", bytes(list_.len // 3)), _size()
+        with _Lent(out, "f32", True) as to, _Lent(passes, "u8", True) as marks:
+            call = _fallback if operators is None else _fallback_with
+            number = call(
+                img.at, img.len, *_sizes(image), *first, *second, *lent, list_.at, list_.len, to.at, to.len, marks.at, marks.len, ctypes.byref(count))
+    if number:
+        raise Refused("refine_list_with_fallback", number)
+    return out[: 3 * count.value], passes[: count.value]
+
+
 def _cells(values, radius):
     """At least as many cells as the merge's grid has along an axis; one more than it needs where a quotient rounds."""
     numbers = [v for v in values if math.isfinite(v)]
@@ -301,6 +319,14 @@ def salvage(file, width, height):
     if number:
         raise Refused("salvage", number)
     return Salvaged(out[: 12 * kept.value].tobytes(), [(faults[2 * i], faults[2 * i + 1]) for i in range(dropped.value)])
+
+
+def add_gradient(tile, side, x, y, grid, scale=(1.0, 1.0), ring=RING5):
+    """Adds to the grid, two floats a cell, scale times how the response at the cell (x, y) of a tile moves with each of its side by side samples."""
+    with _Lent(tile, "u8") as cells, _Lent(grid, "f32", True) as to:
+        number = _gradient(cells.at, cells.len, _number(side), _ring(ring), _number(x), _number(y), *scale, to.at, to.len)
+    if number:
+        raise Refused("gradient", number)
 
 
 class Coverage:

@@ -59,6 +59,20 @@ class Road(unittest.TestCase):
             self.assertEqual(cc.refine(board(), x, y, covariance=True, operator=operator), cc.refine(board(), x, y, covariance=True))
 
 
+    def test_a_second_try(self):
+        # The picture from three columns before its first corner on: there a patch of radius 6 does not fit.
+        x0 = int(cc.find_corners(board(), threshold=200.0)[0]) - 3
+        cut = cc.Image(read("board.gray")[x0 : x0 + 128 * 95], 128 - x0, 95, 128)
+        seeds = array.array("f", [v for x, y, s in cc.triples(cc.find_corners(board(), threshold=200.0)) if x > x0 for v in (x - x0, y, s)])
+        wide, small = cc.Settings(radius=6), cc.Settings(radius=1)
+        found, passes = cc.refine_list_with_fallback(cut, seeds, wide, small)
+        self.assertEqual(set(passes), {1, 2})
+        firsts = [v for i, p in enumerate(passes) if p == 1 for v in found[3 * i : 3 * i + 3]]
+        self.assertEqual(firsts, list(cc.refine_list(cut, seeds, wide)))
+        self.assertEqual(cc.refine_list_with_fallback(cut, seeds, wide, small, [cc.Operator(6), cc.Operator(1)]), (found, passes))
+        self.assertEqual(cc.refine_list_with_fallback(cut, seeds, wide, wide)[0], cc.refine_list(cut, seeds, wide))
+
+
 class Refusals(unittest.TestCase):
     def refused(self, number, name, call, *words, at=None, **more):
         with self.assertRaises(cc.Refused) as caught:
@@ -120,6 +134,15 @@ class Beside(unittest.TestCase):
     def test_salvage(self):
         good, bad = struct.pack("<3f", 1, 2, 3), struct.pack("<3f", math.nan, 2, 3)
         self.assertEqual(cc.salvage(good + bad + good + b"cut", 640, 480), cc.Salvaged(good + good, [(1, 2), (3, 1)]))
+
+    def test_gradients(self):
+        tile, grid = bytes((x * 37 + y * 91) % 256 for y in range(11) for x in range(11)), array.array("f", bytes(8 * 121))
+        cc.add_gradient(tile, 11, 5, 5, grid, (1.0, -2.0))
+        self.assertEqual([v * -2.0 for v in grid[0::2]], list(grid[1::2]))
+        self.assertTrue(any(grid))
+        with self.assertRaises(cc.Refused) as caught:
+            cc.add_gradient(tile, 11, 4, 5, grid)
+        self.assertEqual(caught.exception.number, 13)
 
     def test_coverage(self):
         covered = cc.Coverage(80, 80, [5, 5, 1])
