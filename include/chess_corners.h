@@ -63,6 +63,45 @@
 #include <stddef.h>
 #include <stdint.h>
 
+/* ---- version */
+#define CHESS_CORNERS_VERSION_MAJOR 0
+#define CHESS_CORNERS_VERSION_MINOR 9
+#define CHESS_CORNERS_VERSION_PATCH 0
+#define CHESS_CORNERS_VERSION "0.9.0"
+
+/* ---- limits and sizes of arrays, in elements */
+#define CHESS_CORNERS_MOST_SIZE 4096     /* width or height of an image */
+#define CHESS_CORNERS_MOST_PITCH 8192    /* bytes from row to row */
+#define CHESS_CORNERS_MOST_CORNERS 4096  /* of a list; three floats each */
+#define CHESS_CORNERS_MOST_LIST 12288    /* floats of the longest list */
+#define CHESS_CORNERS_MOST_RADIUS 7      /* of the refiner */
+#define CHESS_CORNERS_MOST_RING_RADIUS 10
+#define CHESS_CORNERS_MOST_WINDOW_RADIUS 8
+#define CHESS_CORNERS_RING_LEN 32        /* sixteen pairs dx, dy */
+#define CHESS_CORNERS_COLUMNS_LEN 1125   /* of an operator */
+#define CHESS_CORNERS_OVERLAP_LEN 225
+#define CHESS_CORNERS_MOST_SQUARES 32    /* rows or columns of a board */
+#define CHESS_CORNERS_MOST_PLACES 961    /* inner corners of the largest board */
+#define CHESS_CORNERS_COVERAGE_LEN 65    /* 64 tiles, then those in none */
+#define CHESS_CORNERS_RECORD_LEN 12      /* bytes of a record of a corner file */
+#define CHESS_CORNERS_MOST_FAULTS 8194   /* numbers that serve every salvage */
+
+/* ---- the rings of radius 5 and 10, clockwise from the top: const int32_t ring[32] = CHESS_CORNERS_RING5; */
+#define CHESS_CORNERS_RING5 \
+    {0, -5, 2, -5, 3, -3, 5, -2, 5, 0, 5, 2, 3, 3, 2, 5, 0, 5, -2, 5, -3, 3, -5, 2, -5, 0, -5, -2, -3, -3, -2, -5}
+#define CHESS_CORNERS_RING10 \
+    {0, -10, 4, -10, 6, -6, 10, -4, 10, 0, 10, 4, 6, 6, 4, 10, \
+     0, 10, -4, 10, -6, 6, -10, 4, -10, 0, -10, -4, -6, -6, -4, -10}
+
+/* A number that nobody looks at is a warning. */
+#if defined(__cplusplus) && __cplusplus >= 201703L
+#define CHESS_CORNERS_MUST_USE [[nodiscard]]
+#elif defined(__GNUC__) || defined(__clang__)
+#define CHESS_CORNERS_MUST_USE __attribute__((warn_unused_result))
+#else
+#define CHESS_CORNERS_MUST_USE
+#endif
+
 #ifdef __cplusplus
 extern "C" {
 #endif
@@ -101,12 +140,14 @@ enum chess_corners_number {
 };
 
 /* The number for a reader that knows 3 alone for every refused fit: 3 for 5, 6 and 7, every other number itself. */
+CHESS_CORNERS_MUST_USE
 uint32_t chess_corners_old_number(uint32_t number);
 
 /* The ChESS response of the region (x0, y0) up to but without (x1, y1), clamped to the image, row after row.
  * ring: sixteen pairs dx, dy. out: exactly the clamped region's elements, all of which are written, +0.0 where
  * the ring does not fit. out_width, out_height: the clamped size; both 0, with an empty out, where nothing of the
  * region lies in the image. Returns 0, 10, 11, 13, 14, 15. */
+CHESS_CORNERS_MUST_USE
 uint32_t chess_corners_response(const uint8_t *img, size_t img_len, size_t width, size_t height, size_t pitch,
                                 const int32_t ring[32], size_t radius,
                                 size_t x0, size_t y0, size_t x1, size_t y1,
@@ -117,6 +158,7 @@ uint32_t chess_corners_response(const uint8_t *img, size_t img_len, size_t width
  * least equal to every later one, so of equal neighbours the first; a NaN is none and leaves none beside it.
  * refine_radius widens the border by the refiner's patch.
  * Returns 0, 10 (the response takes the image's place), 11, 12, 19 (out_len is no multiple of 3), 16. */
+CHESS_CORNERS_MUST_USE
 uint32_t chess_corners_peaks(const float *response, size_t response_len, size_t width, size_t height,
                              size_t ring_radius, size_t window_radius, size_t refine_radius,
                              float threshold, uint32_t min_cluster_size,
@@ -125,6 +167,7 @@ uint32_t chess_corners_peaks(const float *response, size_t response_len, size_t 
 /* The operator of a refiner radius, for chess_corners_refine_with. columns: the first 5 times (2 radius + 1)^2 are
  * written and the rest stays; overlap: all. Returns 0, 3 where there is none (radius 0), 11; on 3 and 11 nothing
  * is written. */
+CHESS_CORNERS_MUST_USE
 uint32_t chess_corners_fit_operator(size_t radius, float columns[1125], float overlap[225]);
 
 /* Refines one seed. wanted: 0, or not 0 for a covariance.
@@ -132,6 +175,7 @@ uint32_t chess_corners_fit_operator(size_t radius, float columns[1125], float ov
  * 1, 5, 6 and 7 the determinant of the first fit). 0 alone writes state: converged (0 or 1), tries (0 to 64), and whether there
  * is a covariance (0 or 1), and where there is one covariance: xx, xy and yy for unit noise.
  * Returns 0, 10, 11, 12, 4, 2, 3, 5, 6, 7, 1. */
+CHESS_CORNERS_MUST_USE
 uint32_t chess_corners_refine(const uint8_t *img, size_t img_len, size_t width, size_t height, size_t pitch,
                               size_t radius, float det_margin, float max_offset, float min_abs_det,
                               float x, float y, uint32_t wanted,
@@ -140,6 +184,7 @@ uint32_t chess_corners_refine(const uint8_t *img, size_t img_len, size_t width, 
 /* The same with an operator that was built before, so that many seeds share it. With the operator of the same
  * radius, built with 0, the answer is that of chess_corners_refine; with other contents it is the answer for
  * those. At radius 0 there is no operator, whatever is lent: 3, with the score 0.0, where 4 and 2 are not given. */
+CHESS_CORNERS_MUST_USE
 uint32_t chess_corners_refine_with(const uint8_t *img, size_t img_len, size_t width, size_t height, size_t pitch,
                                    size_t radius, float det_margin, float max_offset, float min_abs_det,
                                    float x, float y, uint32_t wanted,
@@ -150,6 +195,7 @@ uint32_t chess_corners_refine_with(const uint8_t *img, size_t img_len, size_t wi
  * strength, to the front of out; its other elements stay. A corner that one seed's call answers with 1 to 7 is left out.
  * out_len: corners_len or more. count: how many.
  * Returns 0, 10, 11, 12, 19, 16, 15. */
+CHESS_CORNERS_MUST_USE
 uint32_t chess_corners_refine_list(const uint8_t *img, size_t img_len, size_t width, size_t height, size_t pitch,
                                    size_t radius, float det_margin, float max_offset, float min_abs_det,
                                    const float *corners, size_t corners_len,
@@ -164,6 +210,7 @@ uint32_t chess_corners_refine_list(const uint8_t *img, size_t img_len, size_t wi
  * It builds the operators of both radii on the stack, and takes more of it than any other call (above): where there is
  * less, lend them to chess_corners_refine_list_fallback_with.
  * Returns 0, 10, 11 for either radius, 12 for either setting, 19, 16, 15. */
+CHESS_CORNERS_MUST_USE
 uint32_t chess_corners_refine_list_fallback(const uint8_t *img, size_t img_len, size_t width, size_t height, size_t pitch,
                                             size_t radius, float det_margin, float max_offset, float min_abs_det,
                                             size_t second_radius, float second_det_margin, float second_max_offset,
@@ -174,6 +221,7 @@ uint32_t chess_corners_refine_list_fallback(const uint8_t *img, size_t img_len, 
 /* The same with the columns of two operators that were built before (chess_corners_fit_operator; the overlaps are not
  * needed). With those of the two radii, built with 0, the answer is that of chess_corners_refine_list_fallback; with other
  * contents it is the answer for those. At radius 0 there is no operator, whatever is lent: these settings accept none. */
+CHESS_CORNERS_MUST_USE
 uint32_t chess_corners_refine_list_fallback_with(const uint8_t *img, size_t img_len, size_t width, size_t height,
                                                  size_t pitch, size_t radius, float det_margin, float max_offset,
                                                  float min_abs_det, size_t second_radius, float second_det_margin,
@@ -184,9 +232,12 @@ uint32_t chess_corners_refine_list_fallback_with(const uint8_t *img, size_t img_
 
 /* Merges corners, x, y and strength of each, that lie within the radius of each other, in place: the kept ones
  * stand at the front and the rest of the list is +0.0. heads: one a cell of the grid (16,384 serve 640 by 480 at
- * radius 5 and up); links: one a corner. After a merge on the grid heads and links are all zero, on the other ways
- * (nothing to merge; a place that is not finite) they are as they were. count: how many are kept.
+ * radius 5 and up); links: one a corner. A merge on the grid leaves heads and links all zero, whatever they held; that is
+ * every merge of one corner or more with finite places, and a NaN place stays on the grid too. They are as they were with
+ * an empty list, with a radius that merges nothing (NaN, infinite, 0 or less), and where a place is infinite or no place has a number
+ * along an axis, which is scanned without a grid. count: how many are kept.
  * Returns 0, 19, 16, 18, 17. */
+CHESS_CORNERS_MUST_USE
 uint32_t chess_corners_merge(float *corners, size_t corners_len, float radius,
                              uint16_t *heads, size_t heads_len, uint16_t *links, size_t links_len,
                              size_t *count);
@@ -198,6 +249,7 @@ uint32_t chess_corners_merge(float *corners, size_t corners_len, float radius,
  * of each place's corner from 0, and no two are the same. place: 33 and 34 write it, the number of the first place at
  * fault, by row from 0: row place / (columns - 1), column place % (columns - 1).
  * Returns 0, 30, 31, 32, then place by place 33, 34. */
+CHESS_CORNERS_MUST_USE
 uint32_t chess_corners_tie(size_t rows, size_t columns, const float *places, size_t places_len, float limit,
                            const float *corners, size_t corners_len,
                            uint16_t *answers, size_t answers_len, size_t *place);
@@ -208,6 +260,7 @@ uint32_t chess_corners_tie(size_t rows, size_t columns, const float *places, siz
  * maximum, and start, how far into the file the pixels begin: file + start is an image of width times height bytes with
  * pitch width. 24 writes pixel alone, the number of the first pixel above the maximum, by row from 0.
  * Returns 0, 20, 21, 22, 23, 24, 25. */
+CHESS_CORNERS_MUST_USE
 uint32_t chess_corners_graymap(const uint8_t *file, size_t file_len, size_t *width, size_t *height, size_t *maximum,
                                size_t *start, size_t *pixel);
 
@@ -220,6 +273,7 @@ uint32_t chess_corners_graymap(const uint8_t *file, size_t file_len, size_t *wid
  * together they are all records, the cut one too. out_len: 12 kept or more; faults_len: 2 dropped or more. file_len and
  * 2 (file_len / 12 + 1) always serve, as do 49,152 and 8,194.
  * Returns 0, 10 (the sizes alone), 16 (over 4,096 whole records), 15. */
+CHESS_CORNERS_MUST_USE
 uint32_t chess_corners_salvage(const uint8_t *file, size_t file_len, size_t width, size_t height,
                                uint8_t *out, size_t out_len, uint16_t *faults, size_t faults_len,
                                size_t *kept, size_t *dropped);
@@ -231,6 +285,7 @@ uint32_t chess_corners_salvage(const uint8_t *file, size_t file_len, size_t widt
  * floor(x) 8 / width and row floor(y) 8 / height, both in whole numbers. The strength may be anything.
  *
  * Afresh: 0 writes all 65 counts, whatever they held. Returns 0, 10 (the sizes alone), 16 (count over 4,096). */
+CHESS_CORNERS_MUST_USE
 uint32_t chess_corners_coverage(size_t width, size_t height, const float list[12288], size_t count,
                                 uint16_t counts[65]);
 
@@ -240,16 +295,19 @@ uint32_t chess_corners_coverage(size_t width, size_t height, const float list[12
  *
  * One corner more: 0 writes it behind the others, and to count one more than it held. Returns 0, 10, 16 (count 4,096 or
  * more). */
+CHESS_CORNERS_MUST_USE
 uint32_t chess_corners_coverage_add(size_t width, size_t height, float list[12288], size_t *count, uint16_t counts[65],
                                     float x, float y, float strength);
 
 /* Another corner in the place of corner number, from 0. Returns 0, 10, 16 (count over 4,096), 35 (number not below
  * count). */
+CHESS_CORNERS_MUST_USE
 uint32_t chess_corners_coverage_replace(size_t width, size_t height, float list[12288], size_t count,
                                         uint16_t counts[65], size_t number, float x, float y, float strength);
 
 /* Corner number left out: the later ones move down by one, the record that is freed is +0.0, and count is one less.
  * Returns 0, 10, 16 (count over 4,096), 35 (number not below count). */
+CHESS_CORNERS_MUST_USE
 uint32_t chess_corners_coverage_drop(size_t width, size_t height, float list[12288], size_t *count,
                                      uint16_t counts[65], size_t number);
 
@@ -259,6 +317,7 @@ uint32_t chess_corners_coverage_drop(size_t width, size_t height, float list[122
  * coefficients; a product and a sum are rounded, one after the other, ring places in their order and then the cross's. A
  * cell that is no place stays as it was. An infinite scale makes a NaN where a coefficient is zero.
  * 0; 10, 13, 15. */
+CHESS_CORNERS_MUST_USE
 uint32_t chess_corners_gradient(const uint8_t *tile, size_t tile_len, size_t side, const int32_t ring[32], size_t x, size_t y,
                                 float scale_x, float scale_y, float *grid, size_t grid_len);
 

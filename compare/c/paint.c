@@ -49,7 +49,7 @@ static void operators(void) {
 
 static void one_seed(int lent) {
     for (size_t radius = 1; radius <= 7; radius++) {
-        if (lent) chess_corners_fit_operator(radius, columns, overlap);
+        if (lent) told = chess_corners_fit_operator(radius, columns, overlap);
         for (size_t i = 0; i < MOST; i += lent ? 1 : 61) {
             float x = list[3 * i], y = list[3 * i + 1];
             told = lent ? chess_corners_refine_with(img, AREA, WIDTH, HEIGHT, WIDTH, radius, 1e-3f, 1.5f, 1e-4f, x, y, 1,
