@@ -266,7 +266,7 @@ fn merges() -> bool {
 /// A table by its name.
 type Table = (&'static str, fn() -> bool);
 
-const TABLES: [Table; 9] = [
+const TABLES: [Table; 10] = [
     ("response", responses),
     ("peaks", peaks::table),
     ("merge", merges),
