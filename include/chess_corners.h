@@ -41,7 +41,7 @@
  *      bytes than corners; an output of the salvage shorter than what goes into it; a grid without two numbers for each
  *      cell of a tile
  *   16 TooMany: over 4,096 corners or whole records, a corner added to 4,096, or more peaks than the output holds
- *   17 GridTooBig: more cells of the merge than heads
+ *   17 GridTooBig: more cells of the merge than heads, or than 64 bits count
  *   18 BadScratch: fewer links than corners
  *   19 BadLength: a list of corners that is not made of whole triples
  *   20 NoMagic: a file that does not begin with P5 and a whitespace byte
@@ -231,8 +231,8 @@ uint32_t chess_corners_refine_list_fallback_with(const uint8_t *img, size_t img_
                                                  uint8_t *passes, size_t passes_len, size_t *count);
 
 /* Merges corners, x, y and strength of each, that lie within the radius of each other, in place: the kept ones
- * stand at the front and the rest of the list is +0.0. heads: one a cell of the grid (16,384 serve 640 by 480 at
- * radius 5 and up); links: one a corner. A merge on the grid leaves heads and links all zero, whatever they held; that is
+ * stand at the front and the rest of the list is +0.0. heads: one a cell of the grid, which has (floor(w / radius) + 1) times
+ * (floor(h / radius) + 1) of them for corners in a box of w by h; chess_corners_merge_heads counts them. links: one a corner. A merge on the grid leaves heads and links all zero, whatever they held; that is
  * every merge of one corner or more with finite places, and a NaN place stays on the grid too. They are as they were with
  * an empty list, with a radius that merges nothing (NaN, infinite, 0 or less), and where a place is infinite or no place has a number
  * along an axis, which is scanned without a grid. count: how many are kept.
@@ -241,6 +241,12 @@ CHESS_CORNERS_MUST_USE
 uint32_t chess_corners_merge(float *corners, size_t corners_len, float radius,
                              uint16_t *heads, size_t heads_len, uint16_t *links, size_t links_len,
                              size_t *count);
+
+/* How many heads chess_corners_merge wants for these corners at this radius: with fewer it returns 17, with as many or more it does not. 0
+ * where it has no grid: an empty list, a radius that merges nothing, a box that is not finite. heads: how many.
+ * Returns 0, 19, 16, 17 (more cells than 64 bits count). */
+CHESS_CORNERS_MUST_USE
+uint32_t chess_corners_merge_heads(const float *corners, size_t corners_len, float radius, size_t *heads);
 
 /* Ties to each inner corner of a board of rows by columns squares, 2 to 32 each, the corner that is nearest to its
  * place. places: x and y predicted for each inner corner, (rows - 1) times (columns - 1) of them, by row. limit: on the

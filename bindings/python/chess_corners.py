@@ -15,7 +15,6 @@ The shared object is looked for where the environment's CHESS_CORNERS_SO says, e
 import array
 import collections
 import ctypes
-import math
 import os
 
 MOST_CORNERS = 4096
@@ -149,6 +148,7 @@ _refine_list = _call("refine_list", *_IMAGE, *_CONFIG, _ptr, _size, _ptr, _size,
 _fallback = _call("refine_list_fallback", *_IMAGE, *_CONFIG, *_CONFIG, _ptr, _size, _ptr, _size, _ptr, _size, _ptr)
 _fallback_with = _call("refine_list_fallback_with", *_IMAGE, *_CONFIG, *_CONFIG, _ptr, _ptr, _ptr, _size, _ptr, _size, _ptr, _size, _ptr)
 _merge = _call("merge", _ptr, _size, _f32, _ptr, _size, _ptr, _size, _ptr)
+_merge_heads = _call("merge_heads", _ptr, _size, _f32, _ptr)
 _tie = _call("tie", _size, _size, _ptr, _size, _f32, _ptr, _size, _ptr, _size, _ptr)
 _graymap = _call("graymap", _ptr, _size, _ptr, _ptr, _ptr, _ptr, _ptr)
 _salvage = _call("salvage", _ptr, _size, _size, _size, _ptr, _size, _ptr, _size, _ptr, _ptr)
@@ -272,24 +272,21 @@ def refine_list_with_fallback(image, corners, first=Settings(), second=Settings(
     return out[: 3 * count.value], passes[: count.value]
 
 
-def _cells(values, radius):
-    """At least as many cells as the merge's grid has along an axis; one more than it needs where a quotient rounds."""
-    numbers = [v for v in values if math.isfinite(v)]
-    return int((max(numbers) - min(numbers)) / radius) + 2 if numbers else 1
-
-
-def heads_for(corners, radius):
-    """How many heads serve the merge of these corners at this radius: one a cell of the grid, and some to spare."""
-    if not (math.isfinite(radius) and radius > 0):
-        return 0
-    return _cells(corners[0::3], radius) * _cells(corners[1::3], radius)
+def merge_heads(corners, radius=2.0):
+    """How many heads the merge of these corners at this radius wants."""
+    heads = _size()
+    with _Lent(corners, "f32") as list_:
+        number = _merge_heads(list_.at, list_.len, radius, ctypes.byref(heads))
+    if number:
+        raise Refused("merge_heads", number)
+    return heads.value
 
 
 def merge(corners, radius=2.0, heads=None):
-    """The corners with those merged that lie within the radius; the list that goes in stays. As many heads are lent as the grid needs, up to
-    16,777,216; GridTooBig where it has more cells than heads."""
+    """The corners with those merged that lie within the radius; the list that goes in stays. As many heads are lent as it wants, up to
+    16,777,216; GridTooBig where it wants more than are lent."""
     out = array.array("f", memoryview(corners).cast("B").tobytes())
-    grid = _words(min(heads_for(out, radius), 1 << 24) if heads is None else heads)
+    grid = _words(min(merge_heads(out, radius), 1 << 24) if heads is None else heads)
     links, count = _words(len(out) // 3), _size()
     with _Lent(out, "f32", True) as list_, _Lent(grid, "u16", True) as cells, _Lent(links, "u16", True) as chain:
         number = _merge(list_.at, list_.len, radius, cells.at, cells.len, chain.at, chain.len, ctypes.byref(count))

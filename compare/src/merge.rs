@@ -26,6 +26,8 @@ pub struct Left {
     corners: Lent<f32>,
     heads: Lent<u16>,
     links: Lent<u16>,
+    /// What is said of the heads before.
+    wanted: (u32, usize),
 }
 
 fn class_of(way: Way) -> &'static str {
@@ -77,7 +79,10 @@ impl Trial for Merge {
             corners: Lent::holding(&self.floats, PAINT_F),
             heads: Lent::painted(self.heads, PAINT_U16),
             links: Lent::painted(self.links, PAINT_U16),
+            wanted: (0, PAINT),
         };
+        let heads = &mut left.wanted.1;
+        left.wanted.0 = port::merge_heads(&self.floats, self.radius, heads);
         left.number = port::merge(
             left.corners.part(),
             self.radius,
@@ -108,6 +113,11 @@ impl Trial for Merge {
                 (0, kept.len())
             }
         };
+        let wanted = match rules::heads_wanted(self.floats.len(), &list, self.radius) {
+            Ok(heads) => (0, heads),
+            Err(number) => (number, PAINT),
+        };
+        trial::held("heads wanted", left.wanted, wanted)?;
         trial::held("number", left.number, number)?;
         trial::held("count", left.count, count)?;
         let written = matches!(way, Way::Plain | Way::Grid);
@@ -335,6 +345,7 @@ pub fn faults_noticed() -> Result<(), String> {
         &[grid, refused],
         &[
             ("number", |l| l.number ^= 1),
+            ("heads wanted", |l| l.wanted.1 ^= 1),
             ("count", |l| l.count ^= 1),
             ("a value", |l| l.corners.part()[0] = 7.0),
             ("the sign of a zero", |l| l.corners.part()[8] = -0.0),

@@ -296,6 +296,12 @@ pub fn merge(
     }
 }
 
+/// The rules' number; `heads` takes how many a merge wants.
+pub fn merge_heads(corners: &[f32], radius: f32, heads: &mut usize) -> u32 {
+    // SAFETY: as above.
+    unsafe { raw::chess_corners_merge_heads(corners.as_ptr(), corners.len(), radius, heads) }
+}
+
 /// Document 01's number; `place` takes the place at fault of 33 and 34.
 pub fn tie(board: Board<'_>, corners: &[f32], answers: &mut [u16], place: &mut usize) -> u32 {
     // SAFETY: as above.

@@ -413,6 +413,15 @@ pub fn cells(list: &[Triple], radius: f32) -> [u128; 2] {
     [0, 1].map(|k| ((high[k] - low[k]) * inv).floor() as usize as u128 + 1)
 }
 
+/// How many heads a merge wants, by asking it with as many as can be counted.
+pub fn heads_wanted(length: usize, list: &[Triple], radius: f32) -> Result<usize, u32> {
+    match merge_way(length, list, radius, usize::MAX, usize::MAX) {
+        Way::Refused(number) => Err(number),
+        Way::Grid => Ok(cells(list, radius).iter().product::<u128>() as usize),
+        _ => Ok(0),
+    }
+}
+
 /// 19, 16, 18, then what needs no merging, then the box, then 17. `length`
 /// counts floats; the list has the corners of it.
 pub fn merge_way(length: usize, list: &[Triple], radius: f32, heads: usize, links: usize) -> Way {

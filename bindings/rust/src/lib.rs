@@ -159,6 +159,12 @@ pub mod raw {
             links_len: usize,
             count: *mut usize,
         ) -> u32;
+        pub fn chess_corners_merge_heads(
+            corners: *const f32,
+            corners_len: usize,
+            radius: f32,
+            heads: *mut usize,
+        ) -> u32;
         pub fn chess_corners_tie(
             rows: usize,
             columns: usize,
@@ -878,6 +884,16 @@ pub fn merge(
         )
     };
     done(number, count)
+}
+
+/// How many heads the merge of these corners at this radius wants.
+pub fn merge_heads(corners: &[f32], radius: f32) -> Result<usize, Refusal> {
+    let mut heads = 0;
+    // SAFETY: as above.
+    let number = unsafe {
+        raw::chess_corners_merge_heads(corners.as_ptr(), corners.len(), radius, &mut heads)
+    };
+    done(number, heads)
 }
 
 /// What the number of a tie says; only 33 and 34 have written the place.

@@ -13,6 +13,7 @@ use Rattle.response.specs.declared.Response.{Response}
 use Rattle.response.specs.Region.{Region}
 use Rattle.response.specs.Call as R
 use Rattle.merge.specs.declared.Merge.{Merge}
+use Rattle.merge.specs.declared.Heads.{Heads}
 use Rattle.merge.specs.Call as M
 use Rattle.refine_formulas.specs.declared.SaddlePointConfig.{SaddlePointConfig}
 use Rattle.refine_list.specs.declared.Refinements.{Refinements}
@@ -30,7 +31,7 @@ use Rattle.coverage.specs.declared.Coverage.{Coverage}
 use Rattle.coverage.specs.Call as C
 use Rattle.gradient.specs.declared.Gradient.{Gradient}
 use Rattle.gradient.specs.Call as D
-use Rattle.chess_corners.specs.Face.{Responded, Merging, Refining, Scanning, Tying, Reading, Salvaging, Covering, Grading, Facts, widthAfter, heightAfter, countAfter, recordsAfter, peaksAfter, placeAfter, factsAfter, keptAfter, droppedAfter, heldAfter}
+use Rattle.chess_corners.specs.Face.{Responded, Merging, Wanting, Refining, Scanning, Tying, Reading, Salvaging, Covering, Grading, Facts, widthAfter, heightAfter, countAfter, headsAfter, recordsAfter, peaksAfter, placeAfter, factsAfter, keptAfter, droppedAfter, heldAfter}
 
 pub responded : {img : Image} {ring : List ℤ} {radius : ℕ} {r : Region} {out : List Float} {answer : Response} {out' : List Float} (w h : ℕ) (known : Response) (n : ℕ)
     → n ≡ R.numberOf known → answer ≡ known → R.Done img ring radius r out answer out' → Responded img ring radius r out w h n out' (widthAfter w known) (heightAfter h known)
@@ -49,6 +50,12 @@ merging count known n q e d = record {
   leaves-heads = d .leaves-heads;
   leaves-links = d .leaves-links;
   counts = ap (countAfter count) (sym e ∙ d .answers);
+}
+
+pub wanting : {list : List Float} {radius : Float} {answer : Heads} (heads : ℕ) (known : Heads) (n : ℕ) → n ≡ M.headsNumberOf known → answer ≡ known → answer ≡ M.headsOf list radius → Wanting list radius heads n (headsAfter heads known)
+wanting heads known n q e d = record {
+  says = q ∙ ap M.headsNumberOf (sym e ∙ d);
+  tells = ap (headsAfter heads) (sym e ∙ d);
 }
 
 pub refining : {img : Image} {cfg : SaddlePointConfig} {corners out : List Float} {answer : Refinements} {out' : List Float} (count : ℕ) (known : Refinements) (n : ℕ)

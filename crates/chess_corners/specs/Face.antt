@@ -15,6 +15,9 @@ use Rattle.response.specs.Call as R
 use Rattle.merge.specs.declared.Merge.{Merge}
 use Rattle.merge.specs.declared.Merge.the-variants as Merge
 use Rattle.merge.specs.declared.Merge.the-variants.{Merged}
+use Rattle.merge.specs.declared.Heads.{Heads}
+use Rattle.merge.specs.declared.Heads.the-variants as Heads
+use Rattle.merge.specs.declared.Heads.the-variants.{Wanted}
 use Rattle.merge.specs.Call as M
 use Rattle.refine_formulas.specs.declared.SaddlePointConfig.{SaddlePointConfig}
 use Rattle.refine_list.specs.declared.Refinements.{Refinements}
@@ -70,6 +73,15 @@ pub record Merging (list : List Float) (radius : Float) (heads links : List ℕ)
   pub leaves-heads : heads' ≡ M.scratchAfter heads (M.wayOf list radius (length heads) (length links))
   pub leaves-links : links' ≡ M.scratchAfter links (M.wayOf list radius (length heads) (length links))
   pub counts : count' ≡ countAfter count (M.answerOf list (M.wayOf list radius (length heads) (length links)))
+
+-- ---- the heads that a merge wants
+abbrev pub headsAfter : ℕ → Heads → ℕ
+headsAfter old (Wanted n) = n
+headsAfter old (Heads.Refused r) = old
+
+pub record Wanting (list : List Float) (radius : Float) (heads : ℕ) (number : ℕ) (heads' : ℕ) : Type 0 where
+  pub says : number ≡ M.headsNumberOf (M.headsOf list radius)
+  pub tells : heads' ≡ headsAfter heads (M.headsOf list radius)
 
 -- ---- refining a list: the count of records written
 abbrev pub recordsAfter : ℕ → Refinements → ℕ

@@ -16,6 +16,7 @@ pub use fallback::chess_corners_refine_list_fallback;
 pub use fallback::chess_corners_refine_list_fallback_with;
 use graymap::Graymap;
 use imageview::Sizes;
+use merge::Heads;
 use merge::Merge;
 use peaks::Peaks;
 use refine_formulas::SaddlePointConfig;
@@ -28,7 +29,7 @@ pub use seed::chess_corners_refine;
 pub use seed::chess_corners_refine_with;
 ghost use Rattle.imageview.specs.Image.{imageOf, sizesOf};
 ghost use Rattle.response.specs.Call.{regionOf};
-ghost use Rattle.chess_corners.specs.Face.{Responded, Merging, Refining, Scanning, Tying, Reading};
+ghost use Rattle.chess_corners.specs.Face.{Responded, Merging, Wanting, Refining, Scanning, Tying, Reading};
 ghost use Rattle.chess_corners.specs.Seed.{settings};
 
 // The ChESS response of the region (x0, y0) to (x1, y1), clamped to the image; 0, 10, 11, 13, 14 or 15.
@@ -126,6 +127,21 @@ pub extern "C" fn chess_corners_merge(
             0
         }
         Merge::Refused(refusal) => refusals::number(refusal),
+    }
+}
+
+// How many heads a merge of these corners wants; 0, 19, 16 or 17.
+#[no_mangle]
+pub extern "C" fn chess_corners_merge_heads(corners: &[f32], radius: f32, heads: &mut usize) -> u32
+    ensures { λ r. ⌜ Wanting (now (corners .entry)) radius (now (heads .entry)) r (now (heads .exit)) ⌝ }
+{
+    let answer = merge::heads_wanted(corners, radius);
+    match answer {
+        Heads::Wanted(wanted) => {
+            *heads = wanted;
+            0
+        }
+        Heads::Refused(refusal) => refusals::number(refusal),
     }
 }
 

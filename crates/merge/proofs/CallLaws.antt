@@ -24,6 +24,68 @@ use Rattle.merge.specs.Fold.{merged}
 use Rattle.merge.specs.Call.{Way, refused, unmerged, scanned, gridded, idle, mergingWay, wayOf, Done}
 use Rattle.merge.specs.Steps.{asBox, columnIn, rowIn, total, meetsIn, Roomy, Packed, Left}
 
+-- ---- the tests of a call one after the other, whatever it answers
+module _ {A : Type 0} (list : List Float) (bad many rest : A) where
+  abbrev listed : A
+  listed = cond (not (whole (length list))) bad (cond (tooMany (length list)) many rest)
+
+  pub list-bad : whole (length list) ≡ false → listed ≡ bad
+  list-bad h = ap (λ (b : Bool). cond (not b) bad (cond (tooMany (length list)) many rest)) h
+
+  module _ (h : whole (length list) ≡ true) where
+    list-whole : listed ≡ cond (tooMany (length list)) many rest
+    list-whole = ap (λ (b : Bool). cond (not b) bad (cond (tooMany (length list)) many rest)) h
+
+    pub list-many : tooMany (length list) ≡ true → listed ≡ many
+    list-many m = list-whole ∙ ap (λ (b : Bool). cond b many rest) m
+
+    pub list-few : tooMany (length list) ≡ false → listed ≡ rest
+    list-few m = list-whole ∙ ap (λ (b : Bool). cond b many rest) m
+
+module _ {A : Type 0} (list : List Float) (radius : Float) (still moving : A) where
+  abbrev resting : A
+  resting = cond (eqb (length list) 0 || idle radius) still moving
+
+  pub rest-empty : length list ≡ 0 → resting ≡ still
+  rest-empty e = ap (λ (b : Bool). cond (b || idle radius) still moving) (eq-eqb (length list) 0 e)
+
+  module _ (e : length list ≡ 0 → ⊥) where
+    full : resting ≡ cond (idle radius) still moving
+    full = ap (λ (b : Bool). cond (b || idle radius) still moving) (ne-eqb (length list) 0 e)
+
+    pub rest-infinite : finite radius ≡ false → resting ≡ still
+    rest-infinite f = full ∙ ap (λ (b : Bool). cond (not b || le radius plusZero) still moving) f
+
+    module _ (f : finite radius ≡ true) where
+      measured : resting ≡ cond (le radius plusZero) still moving
+      measured = full ∙ ap (λ (b : Bool). cond (not b || le radius plusZero) still moving) f
+
+      pub rest-idle : le radius plusZero ≡ true → resting ≡ still
+      rest-idle g = measured ∙ ap (λ (b : Bool). cond b still moving) g
+
+      pub rest-moving : le radius plusZero ≡ false → resting ≡ moving
+      rest-moving g = measured ∙ ap (λ (b : Bool). cond b still moving) g
+
+abbrev pub cells : List Corner → Float → ℕ
+cells l radius = cellsAcross (gridOf radius l) * cellsDown (gridOf radius l)
+
+module _ {A : Type 0} (l : List Corner) (radius : Float) (most : ℕ) (plain big grid : A) where
+  abbrev boxed : A
+  boxed = cond (not (finiteBox (boxOf l))) plain (cond (ltb most (cells l radius)) big grid)
+
+  pub box-plain : finiteBox (boxOf l) ≡ false → boxed ≡ plain
+  box-plain e = ap (λ (b : Bool). cond (not b) plain (cond (ltb most (cells l radius)) big grid)) e
+
+  module _ (e : finiteBox (boxOf l) ≡ true) where
+    bounded : boxed ≡ cond (ltb most (cells l radius)) big grid
+    bounded = ap (λ (b : Bool). cond (not b) plain (cond (ltb most (cells l radius)) big grid)) e
+
+    pub box-big : ltb most (cells l radius) ≡ true → boxed ≡ big
+    box-big f = bounded ∙ ap (λ (b : Bool). cond b big grid) f
+
+    pub box-grid : ltb most (cells l radius) ≡ false → boxed ≡ grid
+    box-grid f = bounded ∙ ap (λ (b : Bool). cond b big grid) f
+
 -- ---- the merge itself
 module _ (l : List Corner) (radius : Float) (heads : ℕ) where
   abbrev grid : Way
@@ -32,25 +94,22 @@ module _ (l : List Corner) (radius : Float) (heads : ℕ) where
   abbrev plain : Way
   plain = scanned (merged (plainMeets (mul binary32 radius radius)) l)
 
-  abbrev cells : ℕ
-  cells = cellsAcross (gridOf radius l) * cellsDown (gridOf radius l)
-
   pub way-plain : finiteBox (boxOf l) ≡ false → mergingWay l radius heads ≡ plain
   unfolding mergingWay
-  way-plain e = ap (λ (b : Bool). cond (not b) plain (cond (ltb heads cells) (refused GridTooBig) grid)) e
+  way-plain = box-plain l radius heads plain (refused GridTooBig) grid
 
-  pub way-big : finiteBox (boxOf l) ≡ true → ltb heads cells ≡ true → mergingWay l radius heads ≡ refused GridTooBig
+  pub way-big : finiteBox (boxOf l) ≡ true → ltb heads (cells l radius) ≡ true → mergingWay l radius heads ≡ refused GridTooBig
   unfolding mergingWay
-  way-big e f = ap (λ (b : Bool). cond (not b) plain (cond (ltb heads cells) (refused GridTooBig) grid)) e ∙ ap (λ (b : Bool). cond b (refused GridTooBig) grid) f
+  way-big = box-big l radius heads plain (refused GridTooBig) grid
 
-  pub way-grid : finiteBox (boxOf l) ≡ true → ltb heads cells ≡ false → mergingWay l radius heads ≡ grid
+  pub way-grid : finiteBox (boxOf l) ≡ true → ltb heads (cells l radius) ≡ false → mergingWay l radius heads ≡ grid
   unfolding mergingWay
-  way-grid e f = ap (λ (b : Bool). cond (not b) plain (cond (ltb heads cells) (refused GridTooBig) grid)) e ∙ ap (λ (b : Bool). cond b (refused GridTooBig) grid) f
+  way-grid = box-grid l radius heads plain (refused GridTooBig) grid
 
 -- the cells that the code works with are those of the grid
 module _ (radius : Float) (l : List Corner) (e : Extent) (across down : ℕ)
     (same : asBox e ≡ boxOf l) (wide : across ≡ along (inverse radius) (e .left) (e .right)) (high : down ≡ along (inverse radius) (e .top) (e .bottom)) where
-  pub cells-count : cellsAcross (gridOf radius l) * cellsDown (gridOf radius l) ≡ across * down
+  pub cells-count : cells l radius ≡ across * down
   cells-count =
       ap (λ (b : Box). along (inverse radius) (b .minX) (b .maxX) * along (inverse radius) (b .minY) (b .maxY)) (sym same)
       ∙ ap (λ (m : ℕ). m * along (inverse radius) (e .top) (e .bottom)) (sym wide)
@@ -110,52 +169,44 @@ module _ (list : List Float) (radius : Float) (heads links : ℕ) where
   abbrev merging : Way
   merging = mergingWay (cornersOf list) radius heads
 
-  abbrev resting : Way
-  resting = cond (eqb (length list) 0 || idle radius) unmerged merging
+  abbrev rested : Way
+  rested = cond (eqb (length list) 0 || idle radius) unmerged merging
 
   abbrev linked : Way
-  linked = cond (ltb links (length list / 3)) (refused BadScratch) resting
-
-  abbrev counted : Way
-  counted = cond (tooMany (length list)) (refused TooMany) linked
+  linked = cond (ltb links (length list / 3)) (refused BadScratch) rested
 
   pub way-length : whole (length list) ≡ false → wayOf list radius heads links ≡ refused BadLength
   unfolding wayOf
-  way-length h = ap (λ (b : Bool). cond (not b) (refused BadLength) counted) h
+  way-length = list-bad list (refused BadLength) (refused TooMany) linked
 
   module _ (h : whole (length list) ≡ true) where
-    records : wayOf list radius heads links ≡ counted
-    unfolding wayOf
-    records = ap (λ (b : Bool). cond (not b) (refused BadLength) counted) h
-
     pub way-many : tooMany (length list) ≡ true → wayOf list radius heads links ≡ refused TooMany
-    way-many m = records ∙ ap (λ (b : Bool). cond b (refused TooMany) linked) m
+    unfolding wayOf
+    way-many = list-many list (refused BadLength) (refused TooMany) linked h
 
     module _ (m : tooMany (length list) ≡ false) where
       few : wayOf list radius heads links ≡ linked
-      few = records ∙ ap (λ (b : Bool). cond b (refused TooMany) linked) m
+      unfolding wayOf
+      few = list-few list (refused BadLength) (refused TooMany) linked h m
 
       pub way-scratch : links < length list / 3 → wayOf list radius heads links ≡ refused BadScratch
-      way-scratch s = few ∙ ap (λ (b : Bool). cond b (refused BadScratch) resting) (lt-ltb links (length list / 3) s)
+      way-scratch s = few ∙ ap (λ (b : Bool). cond b (refused BadScratch) rested) (lt-ltb links (length list / 3) s)
 
   module _ (h : whole (length list) ≡ true) (m : tooMany (length list) ≡ false) (s : length list / 3 ≤ links) where
-    roomy : wayOf list radius heads links ≡ resting
-    roomy = few h m ∙ ap (λ (b : Bool). cond b (refused BadScratch) resting) (le-ltb links (length list / 3) s)
+    roomy : wayOf list radius heads links ≡ rested
+    roomy = few h m ∙ ap (λ (b : Bool). cond b (refused BadScratch) rested) (le-ltb links (length list / 3) s)
 
     pub way-empty : length list ≡ 0 → wayOf list radius heads links ≡ unmerged
-    way-empty e = roomy ∙ ap (λ (b : Bool). cond (b || idle radius) unmerged merging) (eq-eqb (length list) 0 e)
-
-    full : (length list ≡ 0 → ⊥) → wayOf list radius heads links ≡ cond (idle radius) unmerged merging
-    full e = roomy ∙ ap (λ (b : Bool). cond (b || idle radius) unmerged merging) (ne-eqb (length list) 0 e)
+    way-empty e = roomy ∙ rest-empty list radius unmerged merging e
 
     pub way-infinite : (length list ≡ 0 → ⊥) → finite radius ≡ false → wayOf list radius heads links ≡ unmerged
-    way-infinite e f = full e ∙ ap (λ (b : Bool). cond (not b || le radius plusZero) unmerged merging) f
+    way-infinite e f = roomy ∙ rest-infinite list radius unmerged merging e f
 
     pub way-idle : (length list ≡ 0 → ⊥) → finite radius ≡ true → le radius plusZero ≡ true → wayOf list radius heads links ≡ unmerged
-    way-idle e f g = full e ∙ ap (λ (b : Bool). cond (not b || le radius plusZero) unmerged merging) f ∙ ap (λ (b : Bool). cond b unmerged merging) g
+    way-idle e f g = roomy ∙ rest-idle list radius unmerged merging e f g
 
     pub way-merging : (length list ≡ 0 → ⊥) → finite radius ≡ true → le radius plusZero ≡ false → wayOf list radius heads links ≡ merging
-    way-merging e f g = full e ∙ ap (λ (b : Bool). cond (not b || le radius plusZero) unmerged merging) f ∙ ap (λ (b : Bool). cond b unmerged merging) g
+    way-merging e f g = roomy ∙ rest-moving list radius unmerged merging e f g
 
 pub done-by :
     {way : Way} {list : List Float} {radius : Float} {heads links : List ℕ} {r : Merge} {list' : List Float} {heads' links' : List ℕ}

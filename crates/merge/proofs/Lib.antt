@@ -8,3 +8,4 @@ pub mod StepLaws
 pub mod GridLaws
 pub mod NoteLaws
 pub mod CallLaws
+pub mod HeadsLaws

@@ -1,5 +1,5 @@
 -- The public call: the tests of docs/RULES.md in their order (`wayOf`), what each way answers, and what it leaves in the three lent buffers.
--- No refusal writes. The plain scan and a list or radius that needs no merging leave heads and links as they were; a grid merge leaves both all zero.
+-- No refusal writes. Last how many heads a merge wants (`headsOf`). The plain scan and a list or radius that needs no merging leave heads and links as they were; a grid merge leaves both all zero.
 use mathlib.Core.Path.{_≡_}
 use mathlib.Core.Bool.{Bool, not, _||_, cond}
 use mathlib.Core.List.{List, _++_}
@@ -16,6 +16,9 @@ use Rattle.refusals.specs.declared.Refusal.the-variants.{BadLength, TooMany, Ba
 use Rattle.refusals.specs.Numbers as Refusals
 use Rattle.merge.specs.declared.Merge.{Merge}
 use Rattle.merge.specs.declared.Merge.the-variants.{Merged, Refused}
+use Rattle.merge.specs.declared.Heads.{Heads}
+use Rattle.merge.specs.declared.Heads.the-variants as Heads
+use Rattle.merge.specs.declared.Heads.the-variants.{Wanted}
 use Rattle.merge.specs.Meets.{boxOf, finiteBox, gridOf, cellsAcross, cellsDown, plainMeets, gridMeets}
 use Rattle.merge.specs.Fold.{merged}
 
@@ -79,3 +82,27 @@ pub record Done (list : List Float) (radius : Float) (heads links : List ℕ) (a
   pub leaves-list : list' ≡ listAfter list (wayOf list radius (length heads) (length links))
   pub leaves-heads : heads' ≡ scratchAfter heads (wayOf list radius (length heads) (length links))
   pub leaves-links : links' ≡ scratchAfter links (wayOf list radius (length heads) (length links))
+
+-- ---- how many heads a merge wants: one a cell of its grid, none where it has no grid
+abbrev pub headsNumberOf : Heads → ℕ
+headsNumberOf (Wanted n) = 0
+headsNumberOf (Heads.Refused r) = Refusals.numberOf r
+
+-- the greatest count of 64 bits
+abbrev pub mostHeads : ℕ
+mostHeads = 18446744073709551615
+
+unfoldable pub gridHeads : List Corner → Float → Heads
+gridHeads l radius =
+    let g = gridOf radius l in
+    cond (not (finiteBox (boxOf l))) (Wanted 0)
+    (cond (ltb mostHeads (cellsAcross g * cellsDown g)) (Heads.Refused GridTooBig)
+    (Wanted (cellsAcross g * cellsDown g)))
+
+unfoldable pub headsOf : List Float → Float → Heads
+unfolding gridHeads
+headsOf list radius =
+    cond (not (whole (length list))) (Heads.Refused BadLength)
+    (cond (tooMany (length list)) (Heads.Refused TooMany)
+    (cond (eqb (length list) 0 || idle radius) (Wanted 0)
+    (gridHeads (cornersOf list) radius)))

@@ -4,11 +4,15 @@ use mathlib.Core.Path.{_≡_}
 use mathlib.Core.Logic.{_⊎_}
 use mathlib.Core.Bool.{Bool, true, false}
 use mathlib.Core.List.{List}
-use Prim.Native.Nat.{ℕ, _<_}
+use Prim.Native.Nat.{ℕ, _/_, _≤_, _<_}
 use lib.ListN.{length, getD}
-use lib.Ieee.{lt}
+use lib.Ieee.{Float, lt}
 use Rattle.corners.specs.Corners.{cornerAt}
 use Rattle.corners.specs.declared.Corner.{Corner}
+use Rattle.refusals.specs.declared.Refusal.{Refusal}
+use Rattle.refusals.specs.declared.Refusal.the-variants.{GridTooBig}
+use Rattle.merge.specs.declared.Heads.the-variants.{Wanted}
+use Rattle.merge.specs.Call.{refused, wayOf, headsOf}
 use Rattle.merge.specs.Fold.{merged, places}
 
 abbrev pub placeAt : (Corner → Corner → Bool) → List Corner → ℕ → ℕ
@@ -61,3 +65,9 @@ StrongHeld meets l = (i : ℕ) → i < length l → Guarded meets l (merged meet
 -- One rule stands in for another on a list where they say the same of every two corners.
 abbrev pub Alike : (Corner → Corner → Bool) → (Corner → Corner → Bool) → List Corner → Type 0
 Alike meets meets' l = (i j : ℕ) → i < length l → j < length l → meets (cornerAt l i) (cornerAt l j) ≡ meets' (cornerAt l i) (cornerAt l j)
+
+-- As many heads as are wanted serve, and fewer do not, where there are links enough.
+abbrev pub HeadsServe : Type 0
+HeadsServe =
+    (list : List Float) (radius : Float) (n heads links : ℕ) → headsOf list radius ≡ Wanted n → length list / 3 ≤ links
+    → (n ≤ heads → (r : Refusal) → wayOf list radius heads links ≡ refused r → ⊥) × (heads < n → wayOf list radius heads links ≡ refused GridTooBig)

@@ -13,12 +13,18 @@ ghost use lib.Dec.{ltb};
 ghost use Prim.Native.Nat.{_+_, _*_, _<_};
 ghost use lib.ListN.{length};
 ghost use Rattle.corners.specs.Corners.{cornersOf};
-ghost use Rattle.merge.specs.Call.{Done, mergingWay};
+ghost use Rattle.merge.specs.Call.{Done, mergingWay, gridHeads, headsOf};
 ghost use Rattle.merge.specs.Steps.{Few, Left};
 
 // How the call ended.
 pub enum Merge {
     Merged(usize),
+    Refused(Refusal),
+}
+
+// How many heads a merge wants.
+pub enum Heads {
+    Wanted(usize),
     Refused(Refusal),
 }
 
@@ -76,6 +82,46 @@ pub fn merge_corners_simple(
         return Merge::Merged(n);
     }
     merge_within(corners, radius, heads, links)
+}
+
+// How many heads a merge of these corners at this radius wants: with fewer it is refused with 17, with as many or more it is not.
+pub fn heads_wanted(corners: &[f32], radius: f32) -> Heads
+    ensures { λ r. ⌜ r ≡ headsOf (now (corners .entry)) radius ⌝ }
+{
+    let len = corners.len();
+    if !corners::is_whole(len) {
+        return Heads::Refused(Refusal::BadLength);
+    }
+    if corners::too_many(len) {
+        return Heads::Refused(Refusal::TooMany);
+    }
+    if len == 0 {
+        return Heads::Wanted(0);
+    }
+    if !floats::is_finite_f32(radius) {
+        return Heads::Wanted(0);
+    }
+    if radius <= 0.0 {
+        return Heads::Wanted(0);
+    }
+    grid_heads(corners, radius)
+}
+
+// The cells of the grid, counted.
+fn grid_heads(corners: &[f32], radius: f32) -> Heads
+    ensures { λ r. ⌜ r ≡ gridHeads (cornersOf (now (corners .entry))) radius ⌝ }
+{
+    let e = bounds::of(corners);
+    if !bounds::is_finite(e) {
+        return Heads::Wanted(0);
+    }
+    let inv = 1.0 / radius;
+    let across = bounds::last_cell(inv, e.left, e.right);
+    let down = bounds::last_cell(inv, e.top, e.bottom);
+    if too_many(across, down, 18446744073709551615) {
+        return Heads::Refused(Refusal::GridTooBig);
+    }
+    Heads::Wanted((across + 1) * (down + 1))
 }
 
 // The merge itself: few enough corners, and a radius that merges.

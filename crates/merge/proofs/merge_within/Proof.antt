@@ -8,12 +8,11 @@ use lib.Ieee.{binary32, mul, ofBits}
 use borrow.Author.Tests.{not-true, not-false}
 use Rattle.corners.specs.Corners.{cornersOf}
 use Rattle.corners.specs.declared.Corner.{Corner}
-use Rattle.merge.specs.Meets.{boxOf, finiteBox, gridOf, cellsAcross, cellsDown}
+use Rattle.merge.specs.Meets.{boxOf, finiteBox}
 use Rattle.merge.specs.Steps.{Packed}
-use Rattle.merge.proofs.CallLaws.{way-plain, way-big, way-grid, cells-count, grid-rule, few-cells, left-by, left-plain, left-grid}
+use Rattle.merge.proofs.CallLaws.{way-plain, way-big, way-grid, cells, cells-count, grid-rule, few-cells, left-by, left-plain, left-grid}
 use native.Mathlib.Omega.{arith}
 use borrow.Author.Needs.{needs}
-use native.Mathlib.Omega.{arith}
 use Rattle.merge.proofs.merge_within.Statement.{statement}
 use Rattle.merge.proofs.merge_within.Tie as tie
 
@@ -21,7 +20,7 @@ boxed : (c : tie.After-is-finite) → finiteBox (boxOf (cornersOf (c .before .be
 boxed c = ap finiteBox (sym (c .before .of .ensures)) ∙ sym (c .is-finite .ensures)
 
 -- the grid's cells against the heads, as the code works them out
-many : (c : tie.After-too-many) → let a = c .before .before .before .before .before .before .before .before .before .before .args in let g = gridOf (a .radius) (cornersOf (a .corners .now)) in ltb (length (a .heads .now)) (cellsAcross g * cellsDown g) ≡ c .too-many .result
+many : (c : tie.After-too-many) → let a = c .before .before .before .before .before .before .before .before .before .before .args in ltb (length (a .heads .now)) (cells (cornersOf (a .corners .now)) (a .radius)) ≡ c .too-many .result
 unfolding ofBits
 many c =
     let d = c .before .before in
