@@ -16,7 +16,8 @@
  *
  * An image is bytes, the pixel (x, y) at y * pitch + x: each row begins pitch bytes after the one before it, and what
  * stands behind its width pixels is padding, on which no answer depends. pitch: width where the rows have none, at most
- * 8192. img_len: pitch times height, so that the last row has its padding too. A response has no pitch.
+ * 8192. img_len: pitch times height, so that the last row has its padding too. A response has no pitch. The calls that end
+ * in _u16 take an image of words instead, each a sample of twelve bits; its pitch and img_len count samples.
  *
  * Stack in bytes, on x86-64, as compiled for release, all that a call calls included (docs/SPEED.md): response 1,328,
  * peaks 5,808, fit_operator 2,336, refine 7,360, refine_with 2,800, refine_list 7,424, refine_list_fallback_with 3,216,
@@ -46,10 +47,13 @@
  *   19 BadLength: a list of corners that is not made of whole triples
  *   20 NoMagic: a file that does not begin with P5 and a whitespace byte
  *   21 BadHeader: a header number missing, not decimal digits or not followed by whitespace, or a maximum outside 1..255
+ *      (of a deep graymap: outside 256..4095)
  *   22 BadGraymapSize: width or height of a graymap outside 1..4096, however many digits it has
  *   23 TooShort: fewer bytes behind the header than pixels
  *   24 AboveMaximum: a sample above the maximum
  *   25 LeftOver: bytes after the last pixel
+ *   26 BadSample: a sample of an image of words above 4095, whatever the padding holds; straight after 10
+ *   27 BadBuffer: samples of a deep graymap to a buffer that is not exactly width times height
  *   30 BadBoard: rows or columns outside 2..32, or places or answers that are not one an inner corner
  *   31 BadPlaces: a limit or a place that is not finite, or a limit below zero
  *   32 BadList: corners to be tied that are not whole triples, or over 4,096 of them
@@ -71,7 +75,8 @@
 
 /* ---- limits and sizes of arrays, in elements */
 #define CHESS_CORNERS_MOST_SIZE 4096     /* width or height of an image */
-#define CHESS_CORNERS_MOST_PITCH 8192    /* bytes from row to row */
+#define CHESS_CORNERS_MOST_PITCH 8192    /* samples from row to row */
+#define CHESS_CORNERS_MOST_SAMPLE 4095   /* of an image of words */
 #define CHESS_CORNERS_MOST_CORNERS 4096  /* of a list; three floats each */
 #define CHESS_CORNERS_MOST_LIST 12288    /* floats of the longest list */
 #define CHESS_CORNERS_MOST_RADIUS 7      /* of the refiner */
@@ -131,6 +136,8 @@ enum chess_corners_number {
     CHESS_CORNERS_TOO_SHORT = 23,
     CHESS_CORNERS_ABOVE_MAXIMUM = 24,
     CHESS_CORNERS_LEFT_OVER = 25,
+    CHESS_CORNERS_BAD_SAMPLE = 26,
+    CHESS_CORNERS_BAD_BUFFER = 27,
     CHESS_CORNERS_BAD_BOARD = 30,
     CHESS_CORNERS_BAD_PLACES = 31,
     CHESS_CORNERS_BAD_LIST = 32,
@@ -326,6 +333,59 @@ uint32_t chess_corners_coverage_drop(size_t width, size_t height, float list[122
 CHESS_CORNERS_MUST_USE
 uint32_t chess_corners_gradient(const uint8_t *tile, size_t tile_len, size_t side, const int32_t ring[32], size_t x, size_t y,
                                 float scale_x, float scale_y, float *grid, size_t grid_len);
+
+/* ---- twelve bits: the same calls on an image of words, each sample 0 to 4095. They answer as the calls above do, by the
+ * same rules, and one number more: 26 straight after 10. With samples up to 255 every answer has the bits of the call on
+ * bytes. Each looks at all pixels of the image for 26 before it does anything else, also for one seed: where seeds are
+ * refined one by one on a large image, that look takes most of the time, and a list is the call to make. */
+CHESS_CORNERS_MUST_USE
+uint32_t chess_corners_response_u16(const uint16_t *img, size_t img_len, size_t width, size_t height, size_t pitch,
+                                    const int32_t ring[32], size_t radius,
+                                    size_t x0, size_t y0, size_t x1, size_t y1,
+                                    float *out, size_t out_len, size_t *out_width, size_t *out_height);
+
+CHESS_CORNERS_MUST_USE
+uint32_t chess_corners_refine_u16(const uint16_t *img, size_t img_len, size_t width, size_t height, size_t pitch,
+                                  size_t radius, float det_margin, float max_offset, float min_abs_det,
+                                  float x, float y, uint32_t wanted,
+                                  float place[3], uint32_t state[3], float covariance[3]);
+
+CHESS_CORNERS_MUST_USE
+uint32_t chess_corners_refine_with_u16(const uint16_t *img, size_t img_len, size_t width, size_t height, size_t pitch,
+                                       size_t radius, float det_margin, float max_offset, float min_abs_det,
+                                       float x, float y, uint32_t wanted,
+                                       const float columns[1125], const float overlap[225],
+                                       float place[3], uint32_t state[3], float covariance[3]);
+
+CHESS_CORNERS_MUST_USE
+uint32_t chess_corners_refine_list_u16(const uint16_t *img, size_t img_len, size_t width, size_t height, size_t pitch,
+                                       size_t radius, float det_margin, float max_offset, float min_abs_det,
+                                       const float *corners, size_t corners_len,
+                                       float *out, size_t out_len, size_t *count);
+
+CHESS_CORNERS_MUST_USE
+uint32_t chess_corners_refine_list_fallback_u16(const uint16_t *img, size_t img_len, size_t width, size_t height, size_t pitch,
+                                                size_t radius, float det_margin, float max_offset, float min_abs_det,
+                                                size_t second_radius, float second_det_margin, float second_max_offset,
+                                                float second_min_abs_det, const float *corners, size_t corners_len,
+                                                float *out, size_t out_len, uint8_t *passes, size_t passes_len,
+                                                size_t *count);
+
+CHESS_CORNERS_MUST_USE
+uint32_t chess_corners_refine_list_fallback_with_u16(const uint16_t *img, size_t img_len, size_t width, size_t height,
+                                                     size_t pitch, size_t radius, float det_margin, float max_offset,
+                                                     float min_abs_det, size_t second_radius, float second_det_margin,
+                                                     float second_max_offset, float second_min_abs_det,
+                                                     const float columns[1125], const float second_columns[1125],
+                                                     const float *corners, size_t corners_len, float *out, size_t out_len,
+                                                     uint8_t *passes, size_t passes_len, size_t *count);
+
+/* Reads a binary graymap with a maximum of 256 to 4095: as chess_corners_graymap, but that a pixel is two bytes, high
+ * first. 0 writes its samples to out, which must have exactly width times height elements; else out stays as it was, and
+ * 27 is the last refusal. Returns 0, 20, 21, 22, 23, 24, 25, 27. */
+CHESS_CORNERS_MUST_USE
+uint32_t chess_corners_graymap_u16(const uint8_t *file, size_t file_len, uint16_t *out, size_t out_len, size_t *width,
+                                   size_t *height, size_t *maximum, size_t *start, size_t *pixel);
 
 #ifdef __cplusplus
 }

@@ -16,6 +16,7 @@ import array
 import collections
 import ctypes
 import os
+import re
 
 MOST_CORNERS = 4096
 COLUMNS = 1125
@@ -30,6 +31,7 @@ NAMES = {
     1: "Rejected", 2: "OutOfBounds", 3: "IllConditioned", 4: "BadSeed", 5: "AboveMargin", 6: "TooSmall", 7: "NotFinite",
     10: "BadImage", 11: "BadRadius", 12: "BadLimit", 13: "BadRing", 14: "EmptyRoi", 15: "BadOut", 16: "TooMany", 17: "GridTooBig",
     18: "BadScratch", 19: "BadLength", 20: "NoMagic", 21: "BadHeader", 22: "BadGraymapSize", 23: "TooShort", 24: "AboveMaximum", 25: "LeftOver",
+    26: "BadSample", 27: "BadBuffer",
     30: "BadBoard", 31: "BadPlaces", 32: "BadList", 33: "NoCorner", 34: "UsedTwice", 35: "NoSuchCorner",
 }
 
@@ -51,7 +53,8 @@ Salvaged.__doc__ = "The bytes of the kept records, and (record number, reason) f
 
 
 class Image:
-    """Bytes with width, height and pitch: the pixel (x, y) is at y * pitch + x. Without a pitch the rows have no padding."""
+    """Samples with width, height and pitch: the pixel (x, y) is at y * pitch + x. Without a pitch the rows have no padding. Samples of two bytes
+    ('H', uint16) are of twelve bits, 0 to 4095: every call takes both."""
 
     def __init__(self, samples, width, height, pitch=None):
         self.samples, self.width, self.height = samples, width, height
@@ -96,6 +99,9 @@ class _Lent:
         self.view = _View()
         _get(what, ctypes.byref(self.view), _FORMAT | (_WRITABLE if writable else 0))
         letters = (self.view.format or b"B").decode().lstrip("@=<")
+        if kind == "samples":
+            kind = "u16" if letters in _LETTERS["u16"] else "u8"
+        self.deep = kind == "u16"
         if self.view.itemsize != _SIZES[kind] or letters not in _LETTERS[kind]:
             _release(ctypes.byref(self.view))
             raise TypeError(f"a buffer of {kind} is wanted, not of {letters!r}")
@@ -128,6 +134,7 @@ def _loaded():
 
 _library = _loaded()
 _size, _ptr, _f32, _u32 = ctypes.c_size_t, ctypes.c_void_p, ctypes.c_float, ctypes.c_uint32
+_IMAGE = (_ptr, _size, _size, _size, _size)
 
 
 def _call(name, *types):
@@ -136,21 +143,27 @@ def _call(name, *types):
     return function
 
 
-_IMAGE = (_ptr, _size, _size, _size, _size)
+def _on_image(name, *types):
+    """The call on an image of bytes and that on one of words: the samples that are lent say which."""
+    both = [_call(name + depth, *_IMAGE, *types) for depth in ("", "_u16")]
+    return lambda lent, *rest: both[lent.deep](lent.at, lent.len, *rest)
+
+
 _CONFIG = (_size, _f32, _f32, _f32)
 _old_number = _call("old_number", _u32)
-_response = _call("response", *_IMAGE, _ptr, _size, _size, _size, _size, _size, _ptr, _size, _ptr, _ptr)
+_response = _on_image("response", _ptr, _size, _size, _size, _size, _size, _ptr, _size, _ptr, _ptr)
 _peaks = _call("peaks", _ptr, _size, _size, _size, _size, _size, _size, _f32, _u32, _ptr, _size, _ptr)
 _fit_operator = _call("fit_operator", _size, _ptr, _ptr)
-_refine = _call("refine", *_IMAGE, *_CONFIG, _f32, _f32, _u32, _ptr, _ptr, _ptr)
-_refine_with = _call("refine_with", *_IMAGE, *_CONFIG, _f32, _f32, _u32, _ptr, _ptr, _ptr, _ptr, _ptr)
-_refine_list = _call("refine_list", *_IMAGE, *_CONFIG, _ptr, _size, _ptr, _size, _ptr)
-_fallback = _call("refine_list_fallback", *_IMAGE, *_CONFIG, *_CONFIG, _ptr, _size, _ptr, _size, _ptr, _size, _ptr)
-_fallback_with = _call("refine_list_fallback_with", *_IMAGE, *_CONFIG, *_CONFIG, _ptr, _ptr, _ptr, _size, _ptr, _size, _ptr, _size, _ptr)
+_refine = _on_image("refine", *_CONFIG, _f32, _f32, _u32, _ptr, _ptr, _ptr)
+_refine_with = _on_image("refine_with", *_CONFIG, _f32, _f32, _u32, _ptr, _ptr, _ptr, _ptr, _ptr)
+_refine_list = _on_image("refine_list", *_CONFIG, _ptr, _size, _ptr, _size, _ptr)
+_fallback = _on_image("refine_list_fallback", *_CONFIG, *_CONFIG, _ptr, _size, _ptr, _size, _ptr, _size, _ptr)
+_fallback_with = _on_image("refine_list_fallback_with", *_CONFIG, *_CONFIG, _ptr, _ptr, _ptr, _size, _ptr, _size, _ptr, _size, _ptr)
 _merge = _call("merge", _ptr, _size, _f32, _ptr, _size, _ptr, _size, _ptr)
 _merge_heads = _call("merge_heads", _ptr, _size, _f32, _ptr)
 _tie = _call("tie", _size, _size, _ptr, _size, _f32, _ptr, _size, _ptr, _size, _ptr)
 _graymap = _call("graymap", _ptr, _size, _ptr, _ptr, _ptr, _ptr, _ptr)
+_graymap_u16 = _call("graymap_u16", _ptr, _size, _ptr, _size, _ptr, _ptr, _ptr, _ptr, _ptr)
 _salvage = _call("salvage", _ptr, _size, _size, _size, _ptr, _size, _ptr, _size, _ptr, _ptr)
 _gradient = _call("gradient", _ptr, _size, _size, _ptr, _size, _size, _f32, _f32, _ptr, _size)
 _coverage = _call("coverage", _size, _size, _ptr, _size, _ptr)
@@ -186,14 +199,26 @@ def old_number(number):
     return _old_number(number)
 
 
+_GAP = rb"(?:[ \t\n\r]|#[^\n\r]*[\n\r])*"
+_HEADER = re.compile(rb"P5[ \t\n\r]" + _GAP + rb"([0-9]{1,9})[ \t\n\r]" + _GAP + rb"([0-9]{1,9})[ \t\n\r]" + _GAP + rb"([0-9]{1,9})[ \t\n\r]")
+
+
 def graymap(file):
-    """The image of a binary graymap (P5) with samples of one byte. Its samples are a part of the file's own bytes."""
+    """The image of a binary graymap (P5). With a maximum up to 255 its samples are a part of the file's own bytes; with one of 256 to 4095 they are two bytes
+    each in the file and go to an array.array('H')."""
+    header = _HEADER.match(file)
+    deep = header and int(header[3]) > 255
+    size = min(int(header[1]) * int(header[2]), 1 << 24) if deep else 0
     width, height, maximum, start, pixel = refs = _refs(5)
-    with _Lent(file, "u8") as lent:
-        number = _graymap(lent.at, lent.len, *map(ctypes.byref, refs))
+    samples = _words(size)
+    with _Lent(file, "u8") as lent, _Lent(samples, "u16", True) as to:
+        if deep:
+            number = _graymap_u16(lent.at, lent.len, to.at, to.len, *map(ctypes.byref, refs))
+        else:
+            number = _graymap(lent.at, lent.len, *map(ctypes.byref, refs))
     if number:
         raise Refused("graymap", number, pixel.value if number == 24 else None)
-    return Image(memoryview(file).cast("B")[start.value :], width.value, height.value)
+    return Image(samples if deep else memoryview(file).cast("B")[start.value :], width.value, height.value)
 
 
 def response(image, ring=RING5, radius=5, roi=None):
@@ -203,8 +228,8 @@ def response(image, ring=RING5, radius=5, roi=None):
     down = max(0, min(y1, image.height) - min(y0, image.height))
     out = _floats(across * down)
     width, height = refs = _refs(2)
-    with _Lent(image.samples, "u8") as img, _Lent(out, "f32", True) as to:
-        number = _response(img.at, img.len, *_sizes(image), _ring(ring), _number(radius), *map(_number, (x0, y0, x1, y1)), to.at, to.len, *map(ctypes.byref, refs))
+    with _Lent(image.samples, "samples") as img, _Lent(out, "f32", True) as to:
+        number = _response(img, *_sizes(image), _ring(ring), _number(radius), *map(_number, (x0, y0, x1, y1)), to.at, to.len, *map(ctypes.byref, refs))
     if number:
         raise Refused("response", number)
     return Response(out, width.value, height.value)
@@ -236,9 +261,9 @@ def refine(image, x, y, settings=Settings(), covariance=False, operator=None):
     """One seed. A status from 1 to 7 is an answer, not an error; with an operator that was built before it is quicker."""
     place, state, spread = (ctypes.c_float * 3)(), (_u32 * 3)(), (ctypes.c_float * 3)()
     lent = () if operator is None else (operator.columns, operator.overlap)
-    with _Lent(image.samples, "u8") as img:
+    with _Lent(image.samples, "samples") as img:
         call = _refine if operator is None else _refine_with
-        number = call(img.at, img.len, *_sizes(image), *settings, x, y, int(covariance), *lent, place, state, spread)
+        number = call(img, *_sizes(image), *settings, x, y, int(covariance), *lent, place, state, spread)
     if number >= 10:
         raise Refused("refine", number)
     if number:
@@ -248,10 +273,10 @@ def refine(image, x, y, settings=Settings(), covariance=False, operator=None):
 
 def refine_list(image, corners, settings=Settings()):
     """The corners that are accepted, in input order with their own strength."""
-    with _Lent(image.samples, "u8") as img, _Lent(corners, "f32") as list_:
+    with _Lent(image.samples, "samples") as img, _Lent(corners, "f32") as list_:
         out, count = _floats(list_.len), _size()
         with _Lent(out, "f32", True) as to:
-            number = _refine_list(img.at, img.len, *_sizes(image), *settings, list_.at, list_.len, to.at, to.len, ctypes.byref(count))
+            number = _refine_list(img, *_sizes(image), *settings, list_.at, list_.len, to.at, to.len, ctypes.byref(count))
     if number:
         raise Refused("refine_list", number)
     return out[: 3 * count.value]
@@ -261,12 +286,12 @@ def refine_list_with_fallback(image, corners, first=Settings(), second=Settings(
     """The corners that the first settings accept, and else the second ones, in input order; and a byte each, 1 or 2, that says which it was.
     With a pair of operators that were built before it takes less stack and time."""
     lent = () if operators is None else tuple(operator.columns for operator in operators)
-    with _Lent(image.samples, "u8") as img, _Lent(corners, "f32") as list_:
+    with _Lent(image.samples, "samples") as img, _Lent(corners, "f32") as list_:
         out, passes, count = _floats(list_.len), array.array("B", bytes(list_.len // 3)), _size()
         with _Lent(out, "f32", True) as to, _Lent(passes, "u8", True) as marks:
             call = _fallback if operators is None else _fallback_with
             number = call(
-                img.at, img.len, *_sizes(image), *first, *second, *lent, list_.at, list_.len, to.at, to.len, marks.at, marks.len, ctypes.byref(count))
+                img, *_sizes(image), *first, *second, *lent, list_.at, list_.len, to.at, to.len, marks.at, marks.len, ctypes.byref(count))
     if number:
         raise Refused("refine_list_with_fallback", number)
     return out[: 3 * count.value], passes[: count.value]

@@ -73,6 +73,60 @@ class Road(unittest.TestCase):
         self.assertEqual(cc.refine_list_with_fallback(cut, seeds, wide, wide)[0], cc.refine_list(cut, seeds, wide))
 
 
+class TwelveBits(unittest.TestCase):
+    stored = Road.stored
+
+    @staticmethod
+    def words(times=1):
+        return array.array("H", (times * b for b in read("board.gray")))
+
+    @staticmethod
+    def file(maximum, samples):
+        return b"P5\n# deep\n128 96 %d\n" % maximum + b"".join(struct.pack(">H", v) for v in samples)
+
+    def test_bytes_in_words_answer_alike(self):
+        self.assertEqual(lines(cc.find_corners(cc.Image(self.words(), 128, 96), threshold=200.0)), self.stored)
+
+    def test_sixteen_times_the_bytes_are_found_at_the_same_places(self):
+        byte, word = cc.find_corners(board(), threshold=200.0), cc.find_corners(cc.Image(self.words(16), 128, 96), threshold=3200.0)
+        for one, two in zip(cc.triples(byte), cc.triples(word)):
+            self.assertAlmostEqual(one[0], two[0], 3)
+            self.assertAlmostEqual(one[1], two[1], 3)
+            self.assertEqual(16 * one[2], two[2])
+
+    def test_a_sample_above_4095_is_refused_and_padding_is_not_looked_at(self):
+        samples = array.array("H")
+        for y in range(96):
+            samples += self.words()[128 * y : 128 * y + 128] + array.array("H", [65535] * 8)
+        image = cc.Image(samples, 128, 96, 136)
+        self.assertEqual(lines(cc.find_corners(image, threshold=200.0)), self.stored)
+        samples[136 * 95 + 127] = 4096
+        for call in (lambda: cc.response(image), lambda: cc.refine(image, 9, 9), lambda: cc.refine_list(image, array.array("f"))):
+            with self.assertRaises(cc.Refused) as refused:
+                call()
+            self.assertEqual((refused.exception.number, refused.exception.name), (26, "BadSample"))
+
+    def test_a_deep_graymap(self):
+        image = cc.graymap(self.file(4095, self.words(16)))
+        self.assertEqual((image.width, image.height, image.samples), (128, 96, self.words(16)))
+        with self.assertRaises(cc.Refused) as refused:
+            cc.graymap(self.file(4096, self.words()))
+        self.assertEqual(refused.exception.number, 21)
+        above = self.words()
+        above[7] = 257
+        with self.assertRaises(cc.Refused) as refused:
+            cc.graymap(self.file(256, above))
+        self.assertEqual((refused.exception.number, refused.exception.at), (24, 7))
+
+    def test_numpy_words_go_in(self):
+        try:
+            import numpy
+        except ImportError:
+            self.skipTest("numpy is not there")
+        samples = numpy.array(self.words(), numpy.uint16).reshape(96, 128)
+        self.assertEqual(lines(cc.find_corners(cc.Image(samples, 128, 96), threshold=200.0)), self.stored)
+
+
 class Refusals(unittest.TestCase):
     def refused(self, number, name, call, *words, at=None, **more):
         with self.assertRaises(cc.Refused) as caught:

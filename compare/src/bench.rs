@@ -4,6 +4,7 @@
 
 mod board;
 mod coverage;
+mod depth;
 mod fallback;
 mod gradient;
 mod graymap;
@@ -266,7 +267,7 @@ fn merges() -> bool {
 /// A table by its name.
 type Table = (&'static str, fn() -> bool);
 
-const TABLES: [Table; 10] = [
+const TABLES: [Table; 11] = [
     ("response", responses),
     ("peaks", peaks::table),
     ("merge", merges),
@@ -277,6 +278,7 @@ const TABLES: [Table; 10] = [
     ("salvage", salvage::table),
     ("coverage", coverage::table),
     ("gradient", gradient::table),
+    ("depth", depth::table),
 ];
 
 /// Prints the tables, or one of them by its name. `false` where the two sides

@@ -200,6 +200,7 @@ impl Trial for Fallback {
         "some kept",
         "all kept",
         "10",
+        "26",
         "11",
         "12",
         "15",
@@ -218,7 +219,7 @@ impl Trial for Fallback {
         "12 of the second",
         "fewer bytes than seeds",
     ];
-    const SHARED: &'static [&'static str] = &padding::KINDS;
+    const SHARED: &'static [&'static str] = &picture::KINDS;
     type Left = Twice<Both>;
 
     fn by_port(&self) -> Self::Left {
@@ -243,7 +244,7 @@ impl Trial for Fallback {
         let seeds = self.list.floats.len() / 3;
         let parts = if want.number == 0 { seeds as u64 } else { 0 };
         let met = Met::of(list::class_of(want.number, seeds, want.kept.len())).with_parts(parts);
-        let met = met.and(padding::kind(self.list.scene.view()));
+        let met = picture::met(met, self.list.scene.view());
         Ok(self.classes(&want).into_iter().fold(met, Met::and))
     }
 

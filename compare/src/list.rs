@@ -64,6 +64,7 @@ pub fn class_of(number: u32, seeds: usize, kept: usize) -> &'static str {
         0 if kept == seeds => "all kept",
         0 => "some kept",
         rules::BAD_IMAGE => "10",
+        rules::BAD_SAMPLE => "26",
         rules::BAD_RADIUS => "11",
         rules::BAD_LIMIT => "12",
         rules::BAD_OUT => "15",
@@ -88,6 +89,7 @@ impl Trial for List {
         "some kept",
         "all kept",
         "10",
+        "26",
         "11",
         "12",
         "15",
@@ -97,7 +99,7 @@ impl Trial for List {
         "longer output",
         "a seed that is no number",
     ];
-    const SHARED: &'static [&'static str] = &padding::KINDS;
+    const SHARED: &'static [&'static str] = &picture::KINDS;
     type Left = Twice<Answer>;
 
     fn by_port(&self) -> Self::Left {
@@ -128,7 +130,7 @@ impl Trial for List {
             0 => seeds as u64,
             _ => 0,
         });
-        met = met.and(padding::kind(self.scene.view()));
+        met = picture::met(met, self.scene.view());
         if number == 0 && seeds == rules::MOST {
             met = met.and("4,096 seeds");
         }
@@ -213,7 +215,7 @@ fn any_seeds(random: &mut Random, count: usize) -> (Scene, Vec<Triple>) {
         return (scene, seeds);
     }
     let (board, corners) = known::board(random);
-    scene.image = Rc::new(picture::any_pitch(random, board));
+    scene.image = Rc::new(picture::any(random, board));
     let near = |random: &mut Random, at: f32| at + random.unit() - 0.5;
     let seeds = (0..count).map(|k| match corners.get(k % corners.len().max(1)) {
         Some(c) => [near(random, c[0]), near(random, c[1]), c[2]],

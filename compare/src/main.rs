@@ -5,6 +5,7 @@
 mod bench;
 mod board;
 mod coverage;
+mod deep_graymap;
 mod fallback;
 mod gradient;
 mod graymap;
@@ -61,6 +62,7 @@ fn faults_noticed() -> Result<(), String> {
     number::faults_noticed()?;
     board::faults_noticed()?;
     graymap::faults_noticed()?;
+    deep_graymap::faults_noticed()?;
     salvage::faults_noticed()?;
     coverage::faults_noticed()?;
     gradient::faults_noticed()
@@ -79,6 +81,7 @@ struct Tallies {
     numbers: Tally,
     boards: Tally,
     graymaps: Tally,
+    deep_graymaps: Tally,
     salvages: Tally,
     covers: Tally,
     gradients: Tally,
@@ -101,6 +104,8 @@ impl Tallies {
             && board::short(&mut self.boards)
             && graymap::longest(&mut self.graymaps)
             && graymap::short(&mut self.graymaps)
+            && deep_graymap::longest(&mut self.deep_graymaps)
+            && deep_graymap::short(&mut self.deep_graymaps)
             && salvage::longest(&mut self.salvages, random)
             && salvage::short(&mut self.salvages)
             && coverage::longest(&mut self.covers, random)
@@ -121,6 +126,7 @@ impl Tallies {
             && self.boards.tried(&board::any(random))
             && self.numbers.tried(&number::any(random))
             && self.graymaps.tried(&graymap::any(random))
+            && self.deep_graymaps.tried(&deep_graymap::any(random))
             && self.salvages.tried(&salvage::any(random))
             && self.gradients.tried(&gradient::any(random))
             && (!random.once_in(PER_ROW) || self.covers.tried(&coverage::any(random)))
@@ -144,11 +150,14 @@ impl Tallies {
         let numbers = self.numbers.told::<number::Number>(to_the_end);
         let boards = self.boards.told::<board::Board>(to_the_end);
         let graymaps = self.graymaps.told::<graymap::Graymap>(to_the_end);
+        let deep = self
+            .deep_graymaps
+            .told::<deep_graymap::DeepGraymap>(to_the_end);
         let salvages = self.salvages.told::<salvage::Salvage>(to_the_end);
         let covers = self.covers.told::<coverage::Coverage>(to_the_end);
         let gradients = self.gradients.told::<gradient::Gradient>(to_the_end);
         let images = responses && operators && seeds && lists && fallbacks && gradients;
-        images && merges && peaks && numbers && boards && graymaps && salvages && covers
+        images && merges && peaks && numbers && boards && graymaps && deep && salvages && covers
     }
 }
 

@@ -2,21 +2,91 @@
 //! may not depend on it.
 
 use crate::port;
-use crate::trial::{self, crops, Tally, Trial};
+use crate::trial::{self, crops, Met, Tally, Trial};
 use oracle::padding;
 use oracle::random::Random;
 use oracle::rules;
-use oracle::types::Image;
+use oracle::types::{Deepened, Image, View, Words};
 use std::fmt::{self, Formatter};
 
-/// As it crosses.
+/// An image of bytes as it crosses.
 pub fn lent(image: &Image) -> port::Image<'_> {
     port::Image {
         bytes: &image.bytes,
+        words: None,
         width: image.width as usize,
         height: image.height as usize,
         pitch: image.pitch as usize,
     }
+}
+
+/// A call on the image as it crosses: its words where it is deep.
+fn crossed<A>(image: &Image, call: impl Fn(port::Image<'_>) -> A) -> A {
+    let words = image.deep.map(|_| View::from(image).samples());
+    call(port::Image {
+        words: words.as_deref(),
+        ..lent(image)
+    })
+}
+
+/// Now and then the image as a deep one.
+fn any_depth(random: &mut Random, mut image: Image) -> Image {
+    if random.once_in(3) {
+        let kinds = [
+            Words::Bytes,
+            Words::Full,
+            Words::Full,
+            Words::Full,
+            Words::Full,
+            Words::Above,
+        ];
+        image.deep = Some(Deepened {
+            mix: random.word64(),
+            kind: random.pick(&kinds),
+        });
+    }
+    image
+}
+
+/// What of the depth a run must reach.
+const DEPTHS: [&str; 5] = [
+    "bytes",
+    "words, bytes in them",
+    "words, above 4095 in the padding",
+    "words, twelve bits",
+    "words, above 4095 in the image",
+];
+
+/// The kinds of padding and of depth.
+pub const KINDS: [&str; 18] = {
+    let mut all = [""; 18];
+    let mut k = 0;
+    while k < 18 {
+        all[k] = if k < 13 {
+            padding::KINDS[k]
+        } else {
+            DEPTHS[k - 13]
+        };
+        k += 1;
+    }
+    all
+};
+
+/// A case of this image, by its padding and its depth.
+pub fn met(met: Met, image: View<'_>) -> Met {
+    met.and(padding::kind(image)).and(depth(image))
+}
+
+/// Which of them an image is.
+fn depth(image: View<'_>) -> &'static str {
+    let padded = image.pitch != image.width && !rules::bad_image(image);
+    DEPTHS[match image.deep.map(|deep| deep.kind) {
+        None => 0,
+        _ if rules::bad_sample(image) => 4,
+        _ if padded => 2,
+        Some(Words::Bytes) => 1,
+        Some(_) => 3,
+    }]
 }
 
 /// Whether there is padding that can be painted.
@@ -27,11 +97,11 @@ fn has_padding(image: &Image) -> bool {
 /// A call that is lent the image with padding by a number.
 pub fn painted<A>(image: &Image, paint: u64, call: impl Fn(port::Image<'_>) -> A) -> A {
     if !has_padding(image) {
-        return call(lent(image));
+        return crossed(image, call);
     }
     let mut other = image.clone();
     padding::paint(&mut Random::of(paint, "paint"), &mut other);
-    call(lent(&other))
+    crossed(&other, call)
 }
 
 /// What a call leaves, and what it leaves where the padding alone is another.
@@ -104,8 +174,13 @@ pub fn faults_noticed<T: OfImage>(call: &T, spoilt_again: fn(&mut T::Left)) -> R
 /// The most bytes of a padded image: they are painted for every call.
 const MOST: u64 = 1 << 16;
 
-/// The image at any pitch, or now and then one with a wrong one.
-pub fn any_pitch(random: &mut Random, image: Image) -> Image {
+/// The image at any pitch and depth, or now and then one with a wrong pitch.
+pub fn any(random: &mut Random, image: Image) -> Image {
+    let pitched = any_pitch(random, image);
+    any_depth(random, pitched)
+}
+
+fn any_pitch(random: &mut Random, image: Image) -> Image {
     if random.once_in(32) {
         let kind = random.below(padding::WRONG);
         return padding::wrong(random, kind);
@@ -164,11 +239,12 @@ pub fn simpler(image: &Image) -> Vec<(Image, [usize; 2])> {
 /// The sizes.
 pub fn sizes(image: &Image) -> String {
     format!(
-        "width {}, height {}, pitch {}, {} bytes",
+        "width {}, height {}, pitch {}, {} bytes, deepened {:?}",
         image.width,
         image.height,
         image.pitch,
-        image.bytes.len()
+        image.bytes.len(),
+        image.deep
     )
 }
 

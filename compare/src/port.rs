@@ -3,8 +3,44 @@
 //! a pointer.
 
 use chess_corners::raw;
-pub use chess_corners::{Image, PeakSettings, SaddlePointConfig as Settings};
+pub use chess_corners::{PeakSettings, SaddlePointConfig as Settings};
 use oracle::types::{Asked, Board, Region, Ring};
+
+/// An image as it is lent: words where it is deep, else bytes.
+#[derive(Clone, Copy)]
+pub struct Image<'a> {
+    pub bytes: &'a [u8],
+    pub words: Option<&'a [u16]>,
+    pub width: usize,
+    pub height: usize,
+    pub pitch: usize,
+}
+
+impl<'a> Image<'a> {
+    /// Bytes, in rows without padding.
+    pub fn new(bytes: &'a [u8], width: usize, height: usize) -> Self {
+        Image {
+            bytes,
+            words: None,
+            width,
+            height,
+            pitch: width,
+        }
+    }
+}
+
+/// The call of the image's depth.
+macro_rules! by_depth {
+    ($image:ident, $bytes:ident, $words:ident, $($rest:expr),* $(,)?) => {{
+        let Image { bytes, words, width, height, pitch } = $image;
+        match words {
+            None => raw::$bytes(bytes.as_ptr(), bytes.len(), width, height, pitch, $($rest),*),
+            Some(words) => {
+                raw::$words(words.as_ptr(), words.len(), width, height, pitch, $($rest),*)
+            }
+        }
+    }};
+}
 
 /// Floats of the operator: five a sample of radius 7, and nine overlaps of 5
 /// by 5.
@@ -29,12 +65,10 @@ pub fn refine(
 ) -> u32 {
     // SAFETY: as for the response below.
     unsafe {
-        raw::chess_corners_refine(
-            image.bytes.as_ptr(),
-            image.bytes.len(),
-            image.width,
-            image.height,
-            image.pitch,
+        by_depth!(
+            image,
+            chess_corners_refine,
+            chess_corners_refine_u16,
             s.radius,
             s.det_margin,
             s.max_offset,
@@ -61,12 +95,10 @@ pub fn refine_with(
 ) -> u32 {
     // SAFETY: as for the response below.
     unsafe {
-        raw::chess_corners_refine_with(
-            image.bytes.as_ptr(),
-            image.bytes.len(),
-            image.width,
-            image.height,
-            image.pitch,
+        by_depth!(
+            image,
+            chess_corners_refine_with,
+            chess_corners_refine_with_u16,
             s.radius,
             s.det_margin,
             s.max_offset,
@@ -108,12 +140,10 @@ pub fn refine_list(
 ) -> u32 {
     // SAFETY: as for the response below.
     unsafe {
-        raw::chess_corners_refine_list(
-            image.bytes.as_ptr(),
-            image.bytes.len(),
-            image.width,
-            image.height,
-            image.pitch,
+        by_depth!(
+            image,
+            chess_corners_refine_list,
+            chess_corners_refine_list_u16,
             s.radius,
             s.det_margin,
             s.max_offset,
@@ -139,12 +169,10 @@ pub struct Retried<'a> {
 pub fn fallback(image: Image<'_>, [s, t]: [Settings; 2], corners: &[f32], to: Retried<'_>) -> u32 {
     // SAFETY: as for the response below.
     unsafe {
-        raw::chess_corners_refine_list_fallback(
-            image.bytes.as_ptr(),
-            image.bytes.len(),
-            image.width,
-            image.height,
-            image.pitch,
+        by_depth!(
+            image,
+            chess_corners_refine_list_fallback,
+            chess_corners_refine_list_fallback_u16,
             s.radius,
             s.det_margin,
             s.max_offset,
@@ -174,12 +202,10 @@ pub fn fallback_with(
 ) -> u32 {
     // SAFETY: as for the response below.
     unsafe {
-        raw::chess_corners_refine_list_fallback_with(
-            image.bytes.as_ptr(),
-            image.bytes.len(),
-            image.width,
-            image.height,
-            image.pitch,
+        by_depth!(
+            image,
+            chess_corners_refine_list_fallback_with,
+            chess_corners_refine_list_fallback_with_u16,
             s.radius,
             s.det_margin,
             s.max_offset,
@@ -226,12 +252,10 @@ pub fn response(
     // SAFETY: each pointer and length come from one live slice or reference,
     // and no two of those that are written overlap.
     unsafe {
-        raw::chess_corners_response(
-            image.bytes.as_ptr(),
-            image.bytes.len(),
-            image.width,
-            image.height,
-            image.pitch,
+        by_depth!(
+            image,
+            chess_corners_response,
+            chess_corners_response_u16,
             ring.as_ptr(),
             radius,
             region.x0 as usize,
@@ -350,6 +374,24 @@ pub fn graymap(file: &[u8], given: &mut Given) -> u32 {
         raw::chess_corners_graymap(
             file.as_ptr(),
             file.len(),
+            &mut given.width,
+            &mut given.height,
+            &mut given.maximum,
+            &mut given.start,
+            &mut given.pixel,
+        )
+    }
+}
+
+/// The same of a deep one, whose samples go to `out`.
+pub fn graymap_u16(file: &[u8], out: &mut [u16], given: &mut Given) -> u32 {
+    // SAFETY: as above.
+    unsafe {
+        raw::chess_corners_graymap_u16(
+            file.as_ptr(),
+            file.len(),
+            out.as_mut_ptr(),
+            out.len(),
             &mut given.width,
             &mut given.height,
             &mut given.maximum,

@@ -158,10 +158,11 @@ impl Refine {
             (rules::TOO_SMALL, _) => "6",
             (rules::NOT_FINITE, _) => "7",
             (10, _) => "10",
+            (26, _) => "26",
             (11, _) => "11",
             _ => "12",
         });
-        let met = met.and(padding::kind(self.scene.view()));
+        let met = picture::met(met, self.scene.view());
         let met = match self.seed_class() {
             Some(class) => met.and(class),
             None => met,
@@ -280,6 +281,7 @@ impl Trial for Refine {
         "6",
         "7",
         "10",
+        "26",
         "11",
         "12",
         "seed NaN",
@@ -309,7 +311,7 @@ impl Trial for Refine {
         "slope by fresh fits",
         "more than nine fits",
     ];
-    const SHARED: &'static [&'static str] = &padding::KINDS;
+    const SHARED: &'static [&'static str] = &picture::KINDS;
     type Left = Left;
 
     fn by_port(&self) -> Left {

@@ -86,12 +86,13 @@ impl Trial for Response {
         "done, zeros",
         "done, empty region",
         "10",
+        "26",
         "11",
         "13",
         "14",
         "15",
     ];
-    const SHARED: &'static [&'static str] = &padding::KINDS;
+    const SHARED: &'static [&'static str] = &picture::KINDS;
 
     type Left = Twice<Answer>;
 
@@ -142,12 +143,13 @@ impl Trial for Response {
             0 if want.iter().any(|v| v.to_bits() != 0) => "done",
             0 => "done, zeros",
             rules::BAD_IMAGE => "10",
+            rules::BAD_SAMPLE => "26",
             rules::BAD_RADIUS => "11",
             rules::BAD_RING => "13",
             rules::EMPTY_ROI => "14",
             _ => "15",
         });
-        Ok(met.and(padding::kind(self.view())))
+        Ok(picture::met(met, self.view()))
     }
 
     fn size(&self) -> u64 {
@@ -405,7 +407,7 @@ fn any_image(random: &mut Random, radius: u64) -> Image {
         2 if width * height < 1000 => pictures::any(random, w, h),
         _ => pictures::few_levels(random, w, h, &[0, 1, 127, 254, 255]),
     };
-    picture::any_pitch(random, image)
+    picture::any(random, image)
 }
 
 fn any_region(random: &mut Random, radius: u64, [width, height]: [u64; 2]) -> Region {

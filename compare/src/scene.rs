@@ -173,7 +173,7 @@ fn any_lent(random: &mut Random, radius: usize) -> Image {
         let (w, h) = random.pick(&[(4096, 1), (1, 4096), (4097, 1), (1, 4097)]);
         image = pictures::flat(w, h, 9);
     }
-    let mut image = picture::any_pitch(random, image);
+    let mut image = picture::any(random, image);
     match random.below(100) {
         0 => image.bytes.push(7),
         1 => drop(image.bytes.pop()),

@@ -64,6 +64,15 @@ pub fn without_padding<T>(image: View<'_>, f: impl FnOnce(View<'_>) -> T) -> T {
     })
 }
 
+/// Runs the Rust on a whole image of bytes; `None` where it panics, or where the
+/// image is deep: its lists take bytes alone.
+fn by_rust<T>(image: View<'_>, f: impl FnOnce() -> T) -> Option<T> {
+    match image.deep {
+        None => run(f),
+        Some(_) => None,
+    }
+}
+
 /// Whether `ImageView::from_u8_slice` says no as well as document 01.
 fn view_refused(image: View<'_>) -> bool {
     image.width.checked_mul(image.height) != Some(image.bytes.len() as u64)
@@ -91,6 +100,7 @@ pub fn response(
         (*rw as u64, *rh as u64) == (w, h) && same_floats(rv, &values)
     };
     let decided = asked(image, |whole| match refused {
+        _ if image.deep.is_some() => Decided::NotRun,
         // `Roi::new` says no as well.
         Some(rules::EMPTY_ROI) => Decided::ByRust,
         Some(_) => refusal(|| by_plain(whole), || by_checked(whole)),
@@ -234,7 +244,7 @@ pub fn refine_list_kept(
             })
             .collect();
         // The Rust panics on some seeds that leave the image.
-        if let Some(all) = run(|| kept.refine_list(whole, &corners)) {
+        if let Some(all) = by_rust(whole, || kept.refine_list(whole, &corners)) {
             hold(same_triples(&all, &one_by_one), "a list is not its seeds");
         }
         (0, one_by_one)
@@ -364,7 +374,8 @@ pub fn fallback_kept(
         let mut second = plain::Refiner::new(two, false);
         let mut first = plain::Refiner::new(one, false);
         // The Rust panics on some seeds that leave the image.
-        if let Some(all) = run(|| first.refine_list_with_fallback(&mut second, whole, &corners)) {
+        let both = || first.refine_list_with_fallback(&mut second, whole, &corners);
+        if let Some(all) = by_rust(whole, both) {
             hold(
                 same_triples(&all, &answer),
                 "a list with a second try is not its seeds",

@@ -1,7 +1,8 @@
 // The Rust behind plain functions over slices. This text stands in a module
 // that names one build of docs/src `rust`; lib.rs has three such modules.
 // Nothing is checked here: a bad input panics, wraps or answers as the Rust
-// does. None of these functions is a mirror but `refine_counted`.
+// does. None of these functions is a mirror but `refine_counted`. A deep image
+// goes to the Rust's own estimator, which is generic over the pixels.
 
 use crate::types::*;
 use rust::estimate_noise_sigma_u8 as probe;
@@ -19,6 +20,14 @@ fn settings(s: &Settings) -> rust::SaddlePointConfig {
 fn view(image: View<'_>) -> rust::ImageView<'_> {
     rust::ImageView::from_u8_slice(image.width as usize, image.height as usize, image.bytes)
         .expect("the byte count is width times height")
+}
+
+fn words<'a>(image: View<'_>, samples: &'a [u16]) -> probe::saddle_point::Words<'a> {
+    probe::saddle_point::Words {
+        width: image.width as usize,
+        height: image.height as usize,
+        words: samples,
+    }
 }
 
 fn status(s: rust::RefineStatus) -> u32 {
@@ -104,12 +113,15 @@ impl Refiner {
         Refiner(probe::saddle_point::refiner(settings(s), covariance))
     }
 
-    /// `SaddlePointRefiner::refine` on one seed.
+    /// `SaddlePointRefiner::refine` on one seed; its estimator on a deep image.
     pub fn refine<'a>(&mut self, image: impl Into<View<'a>>, seed: [f32; 2]) -> Refined {
-        let answer = self.0.refine(
-            seed,
-            rust::RefineContext::new(Some(view(image.into())), None),
-        );
+        let image = image.into();
+        if image.deep.is_some() {
+            return self.refine_samples(image, seed);
+        }
+        let answer = self
+            .0
+            .refine(seed, rust::RefineContext::new(Some(view(image)), None));
         Refined {
             status: status(answer.status),
             x: answer.x,
@@ -119,6 +131,29 @@ impl Refiner {
             covariance: answer
                 .noise_covariance_per_unit_variance()
                 .map(|c| [c.xx, c.xy, c.yy]),
+        }
+    }
+
+    /// The same by the samples as words, whatever the depth.
+    pub fn refine_samples(&mut self, image: View<'_>, seed: [f32; 2]) -> Refined {
+        let samples = image.samples();
+        let found = probe::saddle_point::refine_words(&mut self.0, &words(image, &samples), seed);
+        match found {
+            Ok(([x, y], score, converged, covariance)) => Refined {
+                status: 0,
+                x,
+                y,
+                score,
+                converged,
+                covariance,
+            },
+            Err((score, refused)) => Refined {
+                status: status(refused),
+                x: seed[0],
+                y: seed[1],
+                score,
+                ..Refined::default()
+            },
         }
     }
 
@@ -203,6 +238,7 @@ impl Counted {
     /// As `refine_counted`.
     pub fn refine(&mut self, image: View<'_>, seed: [f32; 2]) -> (Refined, Option<Run>) {
         let answer = self.refiner.refine(image, seed);
+        self.held_by_words(image, seed, &answer);
         if answer.status == 2 {
             return (answer, None);
         }
@@ -212,7 +248,11 @@ impl Counted {
                 crate::rust_or_rule::broken(what);
             }
         };
-        match self.mirror.run(&view(image), seed) {
+        let mirrored = match image.deep {
+            None => self.mirror.run(&view(image), seed),
+            Some(_) => self.mirror.run_words(&words(image, &image.samples()), seed),
+        };
+        match mirrored {
             Err((score, refused)) => {
                 hold(
                     status(refused) == answer.status && same(score, answer.score),
@@ -250,6 +290,25 @@ impl Counted {
                 };
                 (answer, Some(run))
             }
+        }
+    }
+}
+
+impl Counted {
+    /// On bytes the estimator over words gives what the original gives, bit for
+    /// bit: so it may judge the deep images. Ends the program where it does not.
+    fn held_by_words(&mut self, image: View<'_>, seed: [f32; 2], answer: &Refined) {
+        if image.deep.is_some() {
+            return;
+        }
+        let again = self.refiner.refine_samples(image, seed);
+        let bits = |a: &Refined| {
+            let covariance = a.covariance.map(|c| c.map(crate::words::bits32));
+            let floats = [a.x, a.y, a.score].map(crate::words::bits32);
+            (a.status, floats, a.converged, covariance)
+        };
+        if bits(&again) != bits(answer) {
+            crate::rust_or_rule::broken("words of bytes are refined otherwise than bytes");
         }
     }
 }

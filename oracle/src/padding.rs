@@ -92,6 +92,7 @@ pub fn wrong(random: &mut Random, kind: usize) -> Image {
         height,
         pitch,
         bytes: (0..count).map(|_| random.byte()).collect(),
+        deep: None,
     }
 }
 

@@ -4,6 +4,7 @@
 //! Written from the document, slow and readable, and used by no code of the port.
 
 use crate::types::*;
+use std::ops::RangeInclusive;
 
 pub const ILL_CONDITIONED: u32 = 3;
 pub const BAD_SEED: u32 = 4;
@@ -26,6 +27,8 @@ pub const BAD_GRAYMAP_SIZE: u32 = 22;
 pub const TOO_SHORT: u32 = 23;
 pub const ABOVE_MAXIMUM: u32 = 24;
 pub const LEFT_OVER: u32 = 25;
+pub const BAD_SAMPLE: u32 = 26;
+pub const BAD_BUFFER: u32 = 27;
 pub const BAD_BOARD: u32 = 30;
 pub const BAD_PLACE: u32 = 31;
 pub const BAD_LIST: u32 = 32;
@@ -49,6 +52,14 @@ pub fn bad_image(image: View<'_>) -> bool {
     bad_sides(image.width, image.height)
         || !(image.width..=8192).contains(&image.pitch)
         || image.pitch * image.height != image.bytes.len() as u64
+}
+
+/// W-212: a sample above 4095 in a deep image, whatever its padding holds. Asked
+/// of an image that 10 does not refuse.
+pub fn bad_sample(image: View<'_>) -> bool {
+    let (width, pitch) = (image.width as usize, image.pitch as usize);
+    let above = |k: usize| k % pitch < width && image.sample(k) > 4095;
+    image.deep.is_some() && !bad_image(image) && (0..image.bytes.len()).any(above)
 }
 
 /// The same of a response, which has no pitch.
@@ -88,7 +99,7 @@ pub fn clamped(image: View<'_>, region: Region) -> (u64, u64, u64, u64) {
     (x0, y0, x1 - x0, y1 - y0)
 }
 
-/// 10, 11, 13, 14, 15.
+/// 10, 26, 11, 13, 14, 15.
 pub fn response_refusal(
     image: View<'_>,
     ring_radius: i32,
@@ -100,6 +111,7 @@ pub fn response_refusal(
     let (_, _, w, h) = clamped(image, region);
     first(&[
         (bad_image(image), BAD_IMAGE),
+        (bad_sample(image), BAD_SAMPLE),
         (!(1..=10).contains(&ring_radius), BAD_RADIUS),
         (ring.iter().any(|&(dx, dy)| far(dx) || far(dy)), BAD_RING),
         (region.x0 >= region.x1 || region.y0 >= region.y1, EMPTY_ROI),
@@ -111,7 +123,7 @@ pub fn response_refusal(
 fn samples(image: View<'_>, ring: &Ring, x: i64, y: i64) -> ([i32; 16], [i32; 5]) {
     let at = |dx: i32, dy: i32| {
         let place = (y + i64::from(dy)) * image.pitch as i64 + x + i64::from(dx);
-        i32::from(image.bytes[place as usize])
+        i32::from(image.sample(place as usize))
     };
     (
         ring.map(|(dx, dy)| at(dx, dy)),
@@ -176,10 +188,11 @@ pub fn response(
 
 // --- refine -----------------------------------------------------------------
 
-/// 10, 11, 12: what refuses every seed.
+/// 10, 26, 11, 12: what refuses every seed.
 pub fn refine_refusal(image: View<'_>, s: &Settings) -> Option<u32> {
     first(&[
         (bad_image(image), BAD_IMAGE),
+        (bad_sample(image), BAD_SAMPLE),
         (bad_refiner_radius(s), BAD_RADIUS),
         (bad_settings(s), BAD_LIMIT),
     ])
@@ -190,7 +203,7 @@ pub fn bad_seed(seed: [f32; 2]) -> bool {
     !seed.iter().all(|v| v.is_finite())
 }
 
-/// 10, 11, 12, 4: what refuses a seed before the image is looked at.
+/// 10, 26, 11, 12, 4: what refuses a seed before the image is looked at.
 pub fn seed_refusal(image: View<'_>, s: &Settings, seed: [f32; 2]) -> Option<u32> {
     refine_refusal(image, s).or_else(|| bad_seed(seed).then_some(BAD_SEED))
 }
@@ -233,6 +246,7 @@ pub fn fallback_refusal(
 ) -> Option<u32> {
     first(&[
         (bad_image(image), BAD_IMAGE),
+        (bad_sample(image), BAD_SAMPLE),
         (
             bad_refiner_radius(one) || bad_refiner_radius(two),
             BAD_RADIUS,
@@ -668,35 +682,60 @@ pub fn header(left: &[u8]) -> Option<([u64; 3], &[u8])> {
     Some(([width, height, maximum], left))
 }
 
+/// What is refused, with the pixel of 24.
+pub type Unread = (u32, Option<usize>);
+
 /// 20 to 25 in this order; 24 with the number of the first pixel above the
-/// maximum.
-pub fn graymap(file: &[u8]) -> Result<Graymap, (u32, Option<usize>)> {
+/// maximum. Files of such maxima with `each` bytes a sample, high first.
+fn read(
+    file: &[u8],
+    maxima: RangeInclusive<u64>,
+    each: usize,
+) -> Result<(Graymap, Vec<u16>), Unread> {
     let Some(left) = behind_magic(file) else {
         return Err((NO_MAGIC, None));
     };
     let (width, height, maximum, left) = match header(left) {
-        Some(([w, h, m], left)) if (1..=255).contains(&m) => (w, h, m as u8, left),
+        Some(([w, h, m], left)) if maxima.contains(&m) => (w, h, m as u16, left),
         _ => return Err((BAD_HEADER, None)),
     };
     if bad_sides(width, height) {
         return Err((BAD_GRAYMAP_SIZE, None));
     }
-    let count = (width * height) as usize;
+    let count = (width * height) as usize * each;
     if left.len() < count {
         return Err((TOO_SHORT, None));
     }
-    if let Some(pixel) = left[..count].iter().position(|s| *s > maximum) {
+    let sample = |bytes: &[u8]| bytes.iter().fold(0, |v, b| v * 256 + u16::from(*b));
+    let samples: Vec<u16> = left[..count].chunks(each).map(sample).collect();
+    if let Some(pixel) = samples.iter().position(|s| *s > maximum) {
         return Err((ABOVE_MAXIMUM, Some(pixel)));
     }
     if left.len() > count {
         return Err((LEFT_OVER, None));
     }
-    Ok(Graymap {
+    let read = Graymap {
         width: width as usize,
         height: height as usize,
         maximum,
         start: file.len() - count,
-    })
+    };
+    Ok((read, samples))
+}
+
+/// W-202: one byte a sample.
+pub fn graymap(file: &[u8]) -> Result<Graymap, Unread> {
+    read(file, 1..=255, 1).map(|(read, _)| read)
+}
+
+/// W-212: two bytes a sample, and last 27 for a buffer that has not as many
+/// elements.
+pub fn deep_graymap(file: &[u8], room: usize) -> Result<(Graymap, Vec<u16>), Unread> {
+    let (read, samples) = read(file, 256..=4095, 2)?;
+    match samples.len() == room {
+        true => Ok((read, samples)),
+        false => Err((BAD_BUFFER, None)),
+    }
 }
 
 // --- salvage (W-214) --------------------------------------------------------

@@ -1,5 +1,7 @@
 //! The plain records that go in and out of the oracle.
 
+use crate::random::Random;
+
 /// Sixteen (dx, dy) pairs.
 pub type Ring = [(i32, i32); 16];
 
@@ -18,14 +20,51 @@ pub fn paper_ring(scale: i32) -> Ring {
     ring
 }
 
+/// How a deep image's words come from bytes (W-212): of a pixel by its byte and
+/// its place, so that the padding may change; padding is any word.
+#[derive(Clone, Copy, Debug, PartialEq, Eq)]
+pub struct Deepened {
+    pub mix: u64,
+    pub kind: Words,
+}
+
+/// What the words are.
+#[derive(Clone, Copy, Debug, PartialEq, Eq)]
+pub enum Words {
+    /// The bytes themselves.
+    Bytes,
+    /// Sixteen times the byte and a number below 16; 255 is 4095.
+    Full,
+    /// The same, and here and there a sample above 4095.
+    Above,
+}
+
+impl Deepened {
+    /// The word of the byte in column x of row y; `inside`: it is no padding.
+    pub fn word(self, byte: u8, x: u64, y: u64, inside: bool) -> u16 {
+        let mixed = Random::of(self.mix ^ (y << 20 | x), "deep").word();
+        let full = match byte {
+            255 => 4095,
+            _ => u16::from(byte) << 4 | (mixed & 15) as u16,
+        };
+        match self.kind {
+            _ if !inside => u16::from(byte) << 8 | (mixed & 255) as u16,
+            Words::Bytes => u16::from(byte),
+            Words::Above if mixed >> 8 & 63 == 0 => [4096, 4097, 8191, 65535][(mixed & 3) as usize],
+            _ => full,
+        }
+    }
+}
+
 /// An image as it is handed in: nothing is checked yet. The pitch is how far a
-/// row begins from the one before it.
+/// row begins from the one before it. Where it is deep its words are lent.
 #[derive(Clone, Debug)]
 pub struct Image {
     pub width: u64,
     pub height: u64,
     pub pitch: u64,
     pub bytes: Vec<u8>,
+    pub deep: Option<Deepened>,
 }
 
 impl Image {
@@ -36,6 +75,7 @@ impl Image {
             height: height as u64,
             pitch: width as u64,
             bytes,
+            deep: None,
         }
     }
 }
@@ -47,6 +87,7 @@ pub struct View<'a> {
     pub height: u64,
     pub pitch: u64,
     pub bytes: &'a [u8],
+    pub deep: Option<Deepened>,
 }
 
 impl<'a> View<'a> {
@@ -57,7 +98,24 @@ impl<'a> View<'a> {
             height: height as u64,
             pitch: width as u64,
             bytes,
+            deep: None,
         }
+    }
+
+    /// The sample at a place counted from the first one.
+    pub fn sample(&self, place: usize) -> u16 {
+        let byte = self.bytes[place];
+        let pitch = self.pitch.max(1);
+        let (x, y) = (place as u64 % pitch, place as u64 / pitch);
+        match self.deep {
+            None => u16::from(byte),
+            Some(deep) => deep.word(byte, x, y, x < self.width),
+        }
+    }
+
+    /// All samples.
+    pub fn samples(&self) -> Vec<u16> {
+        (0..self.bytes.len()).map(|k| self.sample(k)).collect()
     }
 }
 
@@ -68,6 +126,7 @@ impl<'a> From<&'a Image> for View<'a> {
             height: image.height,
             pitch: image.pitch,
             bytes: &image.bytes,
+            deep: image.deep,
         }
     }
 }
@@ -172,7 +231,7 @@ pub struct Board<'a> {
 pub struct Graymap {
     pub width: usize,
     pub height: usize,
-    pub maximum: u8,
+    pub maximum: u16,
     pub start: usize,
 }
 

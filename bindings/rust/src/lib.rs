@@ -246,6 +246,132 @@ pub mod raw {
             grid: *mut f32,
             grid_len: usize,
         ) -> u32;
+        pub fn chess_corners_response_u16(
+            img: *const u16,
+            img_len: usize,
+            width: usize,
+            height: usize,
+            pitch: usize,
+            ring: *const i32,
+            radius: usize,
+            x0: usize,
+            y0: usize,
+            x1: usize,
+            y1: usize,
+            out: *mut f32,
+            out_len: usize,
+            out_width: *mut usize,
+            out_height: *mut usize,
+        ) -> u32;
+        pub fn chess_corners_refine_u16(
+            img: *const u16,
+            img_len: usize,
+            width: usize,
+            height: usize,
+            pitch: usize,
+            radius: usize,
+            det_margin: f32,
+            max_offset: f32,
+            min_abs_det: f32,
+            x: f32,
+            y: f32,
+            wanted: u32,
+            place: *mut f32,
+            state: *mut u32,
+            covariance: *mut f32,
+        ) -> u32;
+        pub fn chess_corners_refine_with_u16(
+            img: *const u16,
+            img_len: usize,
+            width: usize,
+            height: usize,
+            pitch: usize,
+            radius: usize,
+            det_margin: f32,
+            max_offset: f32,
+            min_abs_det: f32,
+            x: f32,
+            y: f32,
+            wanted: u32,
+            columns: *const f32,
+            overlap: *const f32,
+            place: *mut f32,
+            state: *mut u32,
+            covariance: *mut f32,
+        ) -> u32;
+        pub fn chess_corners_refine_list_u16(
+            img: *const u16,
+            img_len: usize,
+            width: usize,
+            height: usize,
+            pitch: usize,
+            radius: usize,
+            det_margin: f32,
+            max_offset: f32,
+            min_abs_det: f32,
+            corners: *const f32,
+            corners_len: usize,
+            out: *mut f32,
+            out_len: usize,
+            count: *mut usize,
+        ) -> u32;
+        pub fn chess_corners_refine_list_fallback_u16(
+            img: *const u16,
+            img_len: usize,
+            width: usize,
+            height: usize,
+            pitch: usize,
+            radius: usize,
+            det_margin: f32,
+            max_offset: f32,
+            min_abs_det: f32,
+            second_radius: usize,
+            second_det_margin: f32,
+            second_max_offset: f32,
+            second_min_abs_det: f32,
+            corners: *const f32,
+            corners_len: usize,
+            out: *mut f32,
+            out_len: usize,
+            passes: *mut u8,
+            passes_len: usize,
+            count: *mut usize,
+        ) -> u32;
+        pub fn chess_corners_refine_list_fallback_with_u16(
+            img: *const u16,
+            img_len: usize,
+            width: usize,
+            height: usize,
+            pitch: usize,
+            radius: usize,
+            det_margin: f32,
+            max_offset: f32,
+            min_abs_det: f32,
+            second_radius: usize,
+            second_det_margin: f32,
+            second_max_offset: f32,
+            second_min_abs_det: f32,
+            columns: *const f32,
+            second_columns: *const f32,
+            corners: *const f32,
+            corners_len: usize,
+            out: *mut f32,
+            out_len: usize,
+            passes: *mut u8,
+            passes_len: usize,
+            count: *mut usize,
+        ) -> u32;
+        pub fn chess_corners_graymap_u16(
+            file: *const u8,
+            file_len: usize,
+            out: *mut u16,
+            out_len: usize,
+            width: *mut usize,
+            height: *mut usize,
+            maximum: *mut usize,
+            start: *mut usize,
+            pixel: *mut usize,
+        ) -> u32;
     }
 }
 
@@ -270,6 +396,8 @@ pub enum Refusal {
     TooShort,
     AboveMaximum,
     LeftOver,
+    BadSample,
+    BadBuffer,
     BadBoard,
     BadPlaces,
     BadList,
@@ -282,7 +410,7 @@ pub enum Refusal {
 }
 
 /// Every case that has a name.
-const NAMED: [Refusal; 23] = [
+const NAMED: [Refusal; 25] = [
     Refusal::IllConditioned,
     Refusal::BadImage,
     Refusal::BadRadius,
@@ -300,6 +428,8 @@ const NAMED: [Refusal; 23] = [
     Refusal::TooShort,
     Refusal::AboveMaximum,
     Refusal::LeftOver,
+    Refusal::BadSample,
+    Refusal::BadBuffer,
     Refusal::BadBoard,
     Refusal::BadPlaces,
     Refusal::BadList,
@@ -329,6 +459,8 @@ impl Refusal {
             Refusal::TooShort => 23,
             Refusal::AboveMaximum => 24,
             Refusal::LeftOver => 25,
+            Refusal::BadSample => 26,
+            Refusal::BadBuffer => 27,
             Refusal::BadBoard => 30,
             Refusal::BadPlaces => 31,
             Refusal::BadList => 32,
@@ -389,6 +521,63 @@ impl<'a> Image<'a> {
             pitch: width,
         }
     }
+}
+
+/// The same of twelve-bit samples, one a word, each at most 4095; the pitch counts
+/// samples.
+#[derive(Clone, Copy, Debug)]
+pub struct DeepImage<'a> {
+    /// pitch times height of them.
+    pub words: &'a [u16],
+    pub width: usize,
+    pub height: usize,
+    /// From the width up to 8192.
+    pub pitch: usize,
+}
+
+impl<'a> DeepImage<'a> {
+    /// Rows without padding.
+    pub fn new(words: &'a [u16], width: usize, height: usize) -> DeepImage<'a> {
+        DeepImage {
+            words,
+            width,
+            height,
+            pitch: width,
+        }
+    }
+}
+
+/// An image of either depth: every call that takes an image takes both.
+#[derive(Clone, Copy, Debug)]
+pub enum AnyImage<'a> {
+    Bytes(Image<'a>),
+    Words(DeepImage<'a>),
+}
+
+impl<'a> From<Image<'a>> for AnyImage<'a> {
+    fn from(image: Image<'a>) -> AnyImage<'a> {
+        AnyImage::Bytes(image)
+    }
+}
+
+impl<'a> From<DeepImage<'a>> for AnyImage<'a> {
+    fn from(image: DeepImage<'a>) -> AnyImage<'a> {
+        AnyImage::Words(image)
+    }
+}
+
+/// The call of the image's depth: its samples and sizes, and then the rest.
+macro_rules! by_depth {
+    ($image:expr, $bytes:ident, $words:ident, $($rest:expr),* $(,)?) => {
+        match $image {
+            AnyImage::Bytes(i) => raw::$bytes(
+                i.bytes.as_ptr(), i.bytes.len(), i.width, i.height, i.pitch, $($rest),*
+            ),
+            AnyImage::Words(i) => raw::$words(
+                i.words.as_ptr(), i.words.len(), i.width, i.height, i.pitch, $($rest),*
+            ),
+        }
+    };
 }
 
 /// From (x0, y0) up to but without (x1, y1).
@@ -527,6 +716,16 @@ impl<'a> Graymap<'a> {
     }
 }
 
+/// A graymap of two bytes a sample that was read; its samples are where they
+/// were asked to go.
+#[derive(Clone, Copy, Debug, PartialEq, Eq)]
+pub struct DeepGraymap {
+    pub width: usize,
+    pub height: usize,
+    /// 256 to 4095; no sample is above it.
+    pub maximum: u16,
+}
+
 /// Why a graymap was not read.
 #[derive(Clone, Copy, Debug, PartialEq, Eq)]
 pub struct Unread {
@@ -595,8 +794,8 @@ fn flat(ring: &[(i32, i32); 16]) -> [i32; 32] {
 }
 
 /// The response of a region, clamped to the image: its width and height.
-pub fn response(
-    image: Image<'_>,
+pub fn response<'a>(
+    image: impl Into<AnyImage<'a>>,
     ring: &[(i32, i32); 16],
     radius: usize,
     roi: Roi,
@@ -607,12 +806,10 @@ pub fn response(
     // SAFETY: each pointer and length come from one live slice or reference,
     // and Rust's borrows keep apart what is written.
     let number = unsafe {
-        raw::chess_corners_response(
-            image.bytes.as_ptr(),
-            image.bytes.len(),
-            image.width,
-            image.height,
-            image.pitch,
+        by_depth!(
+            image.into(),
+            chess_corners_response,
+            chess_corners_response_u16,
             ring.as_ptr(),
             radius,
             roi.x0,
@@ -687,8 +884,8 @@ fn told(
 }
 
 /// Refines one seed; the operator is built for it.
-pub fn refine(
-    image: Image<'_>,
+pub fn refine<'a>(
+    image: impl Into<AnyImage<'a>>,
     config: SaddlePointConfig,
     seed: [f32; 2],
     covariance: bool,
@@ -696,12 +893,10 @@ pub fn refine(
     let (mut place, mut state, mut entries) = ([0.0; 3], [0; 3], [0.0; 3]);
     // SAFETY: as above.
     let number = unsafe {
-        raw::chess_corners_refine(
-            image.bytes.as_ptr(),
-            image.bytes.len(),
-            image.width,
-            image.height,
-            image.pitch,
+        by_depth!(
+            image.into(),
+            chess_corners_refine,
+            chess_corners_refine_u16,
             config.radius,
             config.det_margin,
             config.max_offset,
@@ -719,8 +914,8 @@ pub fn refine(
 
 /// Refines one seed with an operator that was built before; its radius takes
 /// the place of the settings' own.
-pub fn refine_with(
-    image: Image<'_>,
+pub fn refine_with<'a>(
+    image: impl Into<AnyImage<'a>>,
     config: SaddlePointConfig,
     operator: &Operator,
     seed: [f32; 2],
@@ -729,12 +924,10 @@ pub fn refine_with(
     let (mut place, mut state, mut entries) = ([0.0; 3], [0; 3], [0.0; 3]);
     // SAFETY: as above.
     let number = unsafe {
-        raw::chess_corners_refine_with(
-            image.bytes.as_ptr(),
-            image.bytes.len(),
-            image.width,
-            image.height,
-            image.pitch,
+        by_depth!(
+            image.into(),
+            chess_corners_refine_with,
+            chess_corners_refine_with_u16,
             operator.radius,
             config.det_margin,
             config.max_offset,
@@ -753,8 +946,8 @@ pub fn refine_with(
 }
 
 /// Refines corners, x, y and strength of each: how many are accepted.
-pub fn refine_list(
-    image: Image<'_>,
+pub fn refine_list<'a>(
+    image: impl Into<AnyImage<'a>>,
     config: SaddlePointConfig,
     corners: &[f32],
     out: &mut [f32],
@@ -762,12 +955,10 @@ pub fn refine_list(
     let mut count = 0;
     // SAFETY: as above.
     let number = unsafe {
-        raw::chess_corners_refine_list(
-            image.bytes.as_ptr(),
-            image.bytes.len(),
-            image.width,
-            image.height,
-            image.pitch,
+        by_depth!(
+            image.into(),
+            chess_corners_refine_list,
+            chess_corners_refine_list_u16,
             config.radius,
             config.det_margin,
             config.max_offset,
@@ -785,8 +976,8 @@ pub fn refine_list(
 /// Refines corners with the first settings, and those that these do not accept
 /// from their own places with the second ones: how many are accepted. A byte for
 /// each says which settings it was, 1 or 2.
-pub fn refine_list_fallback(
-    image: Image<'_>,
+pub fn refine_list_fallback<'a>(
+    image: impl Into<AnyImage<'a>>,
     [first, second]: [SaddlePointConfig; 2],
     corners: &[f32],
     out: &mut [f32],
@@ -795,12 +986,10 @@ pub fn refine_list_fallback(
     let mut count = 0;
     // SAFETY: as above.
     let number = unsafe {
-        raw::chess_corners_refine_list_fallback(
-            image.bytes.as_ptr(),
-            image.bytes.len(),
-            image.width,
-            image.height,
-            image.pitch,
+        by_depth!(
+            image.into(),
+            chess_corners_refine_list_fallback,
+            chess_corners_refine_list_fallback_u16,
             first.radius,
             first.det_margin,
             first.max_offset,
@@ -823,8 +1012,8 @@ pub fn refine_list_fallback(
 
 /// The same with operators that were built before; their radii take the place
 /// of the settings' own.
-pub fn refine_list_fallback_with(
-    image: Image<'_>,
+pub fn refine_list_fallback_with<'a>(
+    image: impl Into<AnyImage<'a>>,
     [first, second]: [SaddlePointConfig; 2],
     operators: [&Operator; 2],
     corners: &[f32],
@@ -834,12 +1023,10 @@ pub fn refine_list_fallback_with(
     let mut count = 0;
     // SAFETY: as above.
     let number = unsafe {
-        raw::chess_corners_refine_list_fallback_with(
-            image.bytes.as_ptr(),
-            image.bytes.len(),
-            image.width,
-            image.height,
-            image.pitch,
+        by_depth!(
+            image.into(),
+            chess_corners_refine_list_fallback_with,
+            chess_corners_refine_list_fallback_with_u16,
             operators[0].radius,
             first.det_margin,
             first.max_offset,
@@ -965,6 +1152,35 @@ pub fn graymap(file: &[u8]) -> Result<Graymap<'_>, Unread> {
         height,
         maximum: maximum as u8,
         pixels: &file[start..],
+    })
+}
+
+/// Reads a binary graymap with a maximum of 256 to 4095, two bytes a sample, high
+/// first. Its samples go to `out`, which has exactly as many elements, and stays
+/// as it was where the file is refused.
+pub fn graymap_u16(file: &[u8], out: &mut [u16]) -> Result<DeepGraymap, Unread> {
+    let (mut width, mut height, mut maximum, mut start, mut pixel) = (0, 0, 0, 0, 0);
+    // SAFETY: as above.
+    let number = unsafe {
+        raw::chess_corners_graymap_u16(
+            file.as_ptr(),
+            file.len(),
+            out.as_mut_ptr(),
+            out.len(),
+            &mut width,
+            &mut height,
+            &mut maximum,
+            &mut start,
+            &mut pixel,
+        )
+    };
+    if number != 0 {
+        return Err(unread(number, pixel));
+    }
+    Ok(DeepGraymap {
+        width,
+        height,
+        maximum: maximum as u16,
     })
 }
 

@@ -1,5 +1,5 @@
 -- From what a wrapped call promises to what its exported function does: once for all of its answers.
-use mathlib.Core.Path.{_≡_, refl, sym, ap, _∙_}
+use mathlib.Core.Path.{_≡_, refl, sym, ap, _∙_, subst}
 use mathlib.Core.Bool.{Bool, true, false, not, cond}
 use mathlib.Core.List.{List}
 use Prim.Native.Nat.{ℕ}
@@ -31,15 +31,20 @@ use Rattle.coverage.specs.declared.Coverage.{Coverage}
 use Rattle.coverage.specs.Call as C
 use Rattle.gradient.specs.declared.Gradient.{Gradient}
 use Rattle.gradient.specs.Call as D
-use Rattle.chess_corners.specs.Face.{Responded, Merging, Wanting, Refining, Scanning, Tying, Reading, Salvaging, Covering, Grading, Facts, widthAfter, heightAfter, countAfter, headsAfter, recordsAfter, peaksAfter, placeAfter, factsAfter, keptAfter, droppedAfter, heldAfter}
+use Rattle.chess_corners.specs.Fallback.{Counted}
+use Rattle.chess_corners.specs.Face.{Extent, Responded, Merging, Wanting, Refining, Scanning, Tying, Reading, ReadingDeep, Salvaging, Covering, Grading, Facts, widthAfter, heightAfter, countAfter, headsAfter, recordsAfter, peaksAfter, placeAfter, factsAfter, keptAfter, droppedAfter, heldAfter}
 
-pub responded : {img : Image} {ring : List ℤ} {radius : ℕ} {r : Region} {out : List Float} {answer : Response} {out' : List Float} (w h : ℕ) (known : Response) (n : ℕ)
-    → n ≡ R.numberOf known → answer ≡ known → R.Done img ring radius r out answer out' → Responded img ring radius r out w h n out' (widthAfter w known) (heightAfter h known)
-responded w h known n q e d = record {
-  says = q ∙ ap R.numberOf (sym e ∙ d .answers);
+-- ---- what is told of an answer that is known, and what a call does whose answer is told
+pub extent : (answer known : Response) (w h n : ℕ) → answer ≡ known → n ≡ R.numberOf known → Extent answer w h n (widthAfter w known) (heightAfter h known)
+extent answer known w h n e q = subst (λ (a : Response). Extent a w h n (widthAfter w known) (heightAfter h known)) (sym e) (record { says = q; width = refl; height = refl })
+
+pub responded : {img : Image} {ring : List ℤ} {radius : ℕ} {r : Region} {out : List Float} {answer : Response} {out' : List Float} {w h n w' h' : ℕ}
+    → R.Done img ring radius r out answer out' → Extent answer w h n w' h' → Responded img ring radius r out w h n out' w' h'
+responded {w = w} {h = h} d t = record {
+  says = t .says ∙ ap R.numberOf (d .answers);
   leaves = d .leaves;
-  width = ap (widthAfter w) (sym e ∙ d .answers);
-  height = ap (heightAfter h) (sym e ∙ d .answers);
+  width = t .width ∙ ap (widthAfter w) (d .answers);
+  height = t .height ∙ ap (heightAfter h) (d .answers);
 }
 
 pub merging : {list : List Float} {radius : Float} {heads links : List ℕ} {answer : Merge} {list' : List Float} {heads' links' : List ℕ} (count : ℕ) (known : Merge) (n : ℕ)
@@ -58,12 +63,12 @@ wanting heads known n q e d = record {
   tells = ap (headsAfter heads) (sym e ∙ d);
 }
 
-pub refining : {img : Image} {cfg : SaddlePointConfig} {corners out : List Float} {answer : Refinements} {out' : List Float} (count : ℕ) (known : Refinements) (n : ℕ)
-    → n ≡ L.numberOf known → answer ≡ known → L.Done img cfg corners out answer out' → Refining img cfg corners out count n out' (recordsAfter count known)
-refining count known n q e d = record {
-  says = q ∙ ap L.numberOf (sym e ∙ d .answers);
+pub refining : {img : Image} {cfg : SaddlePointConfig} {corners out : List Float} {answer : Refinements} {out' : List Float} {count n count' : ℕ}
+    → L.Done img cfg corners out answer out' → Counted answer count n count' → Refining img cfg corners out count n out' count'
+refining {count = count} d t = record {
+  says = t .says ∙ ap L.numberOf (d .answers);
   leaves = d .leaves;
-  counts = ap (recordsAfter count) (sym e ∙ d .answers);
+  counts = t .counts ∙ ap (recordsAfter count) (d .answers);
 }
 
 pub scanning : {s : Scan} {out : List Float} {answer : Peaks} {out' : List Float} (count : ℕ) (known : Peaks) (n : ℕ) → n ≡ P.numberOf known → answer ≡ known → P.Done s out answer out' → Scanning s out count n out' (peaksAfter count known)
@@ -81,11 +86,14 @@ tying place known n q e d = record {
   names = ap (placeAfter place) (sym e ∙ d .says);
 }
 
-pub reading : {file : List ℕ} {answer : Graymap} (old : Facts) (known : Graymap) (n : ℕ) → n ≡ G.numberOf known → answer ≡ known → answer ≡ G.readOf file → Reading file old n (factsAfter old known)
-reading old known n q e d = record {
-  says = q ∙ ap G.numberOf (sym e ∙ d);
-  facts = ap (factsAfter old) (sym e ∙ d);
-}
+pub reading : (answer known : Graymap) (old : Facts) (n : ℕ) → answer ≡ known → n ≡ G.numberOf known → Reading answer old n (factsAfter old known)
+reading answer known old n e q = subst (λ (a : Graymap). Reading a old n (factsAfter old known)) (sym e) (record { says = q; facts = refl })
+
+pub reading-of : {answer whole : Graymap} {old new : Facts} {n : ℕ} → answer ≡ whole → Reading answer old n new → Reading whole old n new
+reading-of {old = old} {new = new} {n = n} e t = subst (λ (a : Graymap). Reading a old n new) e t
+
+pub reading-deep : {file out : List ℕ} {answer : Graymap} {out' : List ℕ} {old new : Facts} {n : ℕ} → G.Done file out answer out' → Reading answer old n new → ReadingDeep file out old n out' new
+reading-deep d t = record { tells = reading-of (d .answers) t; leaves = d .leaves }
 
 pub salvaging : {width height : ℕ} {file out faults : List ℕ} {answer : Salvage} {out' faults' : List ℕ} (kept dropped : ℕ) (known : Salvage) (n : ℕ)
     → n ≡ S.numberOf known → answer ≡ known → S.Done width height file out faults answer out' faults' → Salvaging width height file out faults kept dropped n out' faults' (keptAfter kept known) (droppedAfter dropped known)

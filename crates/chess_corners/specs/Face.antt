@@ -1,6 +1,7 @@
 -- The exported face: each function returns the number of the wrapped call's answer, 0 where it is done, and writes its further answers
 -- through references only then; tying writes the place at fault with 33 and 34, reading a graymap the pixel with 24. The lent buffers are as the wrapped call leaves them.
 use mathlib.Core.Path.{_≡_}
+use mathlib.Core.Bool.{true}
 use mathlib.Core.List.{List}
 use Prim.Native.Nat.{ℕ}
 use lib.IntN.{ℤ}
@@ -55,6 +56,12 @@ widthAfter old (Response.Refused r) = old
 abbrev pub heightAfter : ℕ → Response → ℕ
 heightAfter old (Written w h) = h
 heightAfter old (Response.Refused r) = old
+
+-- what is told of an answer
+pub record Extent (answer : Response) (w h : ℕ) (number : ℕ) (w' h' : ℕ) : Type 0 where
+  pub says : number ≡ R.numberOf answer
+  pub width : w' ≡ widthAfter w answer
+  pub height : h' ≡ heightAfter h answer
 
 pub record Responded (img : Image) (ring : List ℤ) (radius : ℕ) (r : Region) (out : List Float) (w h : ℕ) (number : ℕ) (out' : List Float) (w' h' : ℕ) : Type 0 where
   pub says : number ≡ R.numberOf (R.answerOf (R.wayOf img ring radius r (length out)))
@@ -128,9 +135,14 @@ factsAfter old (Read w h m start) = record { width = w; height = h; maximum = m;
 factsAfter old (Above k) = record { width = old .width; height = old .height; maximum = old .maximum; start = old .start; pixel = k }
 factsAfter old (Graymap.Refused r) = old
 
-pub record Reading (file : List ℕ) (old : Facts) (number : ℕ) (new : Facts) : Type 0 where
-  pub says : number ≡ G.numberOf (G.readOf file)
-  pub facts : new ≡ factsAfter old (G.readOf file)
+pub record Reading (answer : Graymap) (old : Facts) (number : ℕ) (new : Facts) : Type 0 where
+  pub says : number ≡ G.numberOf answer
+  pub facts : new ≡ factsAfter old answer
+
+-- a deep one: its samples too
+pub record ReadingDeep (file out : List ℕ) (old : Facts) (number : ℕ) (out' : List ℕ) (new : Facts) : Type 0 where
+  pub tells : Reading (G.roomFor (length out) (G.readOf true file)) old number new
+  pub leaves : out' ≡ G.outAfter file out (G.roomFor (length out) (G.readOf true file))
 
 -- ---- salvaging a corner file: how many records were kept and how many dropped
 abbrev pub keptAfter : ℕ → Salvage → ℕ

@@ -1,11 +1,11 @@
 // Refining a list with a second try: with its own operators, and with both lent.
+use crate::told;
 use imageview::Sizes;
 use refine_formulas::SaddlePointConfig;
-use refine_list::Refinements;
 ghost use lib.ListN.{length};
-ghost use Rattle.imageview.specs.Image.{imageOf, sizesOf};
+ghost use Rattle.imageview.specs.Image.{byteImage};
 ghost use Rattle.refine_fallback.specs.Call.{wayOf, wayLent};
-ghost use Rattle.chess_corners.specs.Fallback.{Retrying, Counted};
+ghost use Rattle.chess_corners.specs.Fallback.{Retrying};
 ghost use Rattle.chess_corners.specs.Seed.{settings};
 
 // The corners that the first settings accept, or else the second ones, in input order with their own strength, and a byte for each: 1 or 2; 0, 10, 11, 12, 19, 16 or 15.
@@ -28,14 +28,17 @@ pub extern "C" fn chess_corners_refine_list_fallback(
     passes: &mut [u8],
     count: &mut usize,
 ) -> u32
-    ensures { λ r. ⌜ Retrying (wayOf (imageOf (now (img .entry)) (sizesOf width height pitch)) (settings radius «det_margin» «max_offset» «min_abs_det») (settings «second_radius» «second_det_margin» «second_max_offset» «second_min_abs_det») (now (corners .entry)) (length (now (out .entry))) (length (now (passes .entry)))) (now (out .entry)) (now (passes .entry)) (now (count .entry)) r (now (out .exit)) (now (passes .exit)) (now (count .exit)) ⌝ }
+    ensures { λ r. ⌜ Retrying (wayOf (byteImage (now (img .entry)) width height pitch) (settings radius «det_margin» «max_offset» «min_abs_det») (settings «second_radius» «second_det_margin» «second_max_offset» «second_min_abs_det») (now (corners .entry)) (length (now (out .entry))) (length (now (passes .entry)))) (now (out .entry)) (now (passes .entry)) (now (count .entry)) r (now (out .exit)) (now (passes .exit)) (now (count .exit)) ⌝ }
 {
+    let none = [0u16; 1];
     let answer = refine_fallback::refine_corners_on_image_with_fallback(
         img,
+        &none[0..0],
         Sizes {
             width,
             height,
             pitch,
+            deep: false,
         },
         SaddlePointConfig {
             radius,
@@ -53,7 +56,7 @@ pub extern "C" fn chess_corners_refine_list_fallback(
         out,
         passes,
     );
-    tell(answer, count)
+    told::tell_count(answer, count)
 }
 
 // The same with the columns of both operators lent, whatever they hold; with those of the radii, built by `chess_corners_fit_operator`, the answer is that of the call above.
@@ -78,14 +81,17 @@ pub extern "C" fn chess_corners_refine_list_fallback_with(
     passes: &mut [u8],
     count: &mut usize,
 ) -> u32
-    ensures { λ r. ⌜ Retrying (wayLent (imageOf (now (img .entry)) (sizesOf width height pitch)) (settings radius «det_margin» «max_offset» «min_abs_det») (settings «second_radius» «second_det_margin» «second_max_offset» «second_min_abs_det») (now (columns .entry)) (now («second_columns» .entry)) (now (corners .entry)) (length (now (out .entry))) (length (now (passes .entry)))) (now (out .entry)) (now (passes .entry)) (now (count .entry)) r (now (out .exit)) (now (passes .exit)) (now (count .exit)) ⌝ }
+    ensures { λ r. ⌜ Retrying (wayLent (byteImage (now (img .entry)) width height pitch) (settings radius «det_margin» «max_offset» «min_abs_det») (settings «second_radius» «second_det_margin» «second_max_offset» «second_min_abs_det») (now (columns .entry)) (now («second_columns» .entry)) (now (corners .entry)) (length (now (out .entry))) (length (now (passes .entry)))) (now (out .entry)) (now (passes .entry)) (now (count .entry)) r (now (out .exit)) (now (passes .exit)) (now (count .exit)) ⌝ }
 {
+    let none = [0u16; 1];
     let answer = refine_fallback::refine_corners_with_columns(
         img,
+        &none[0..0],
         Sizes {
             width,
             height,
             pitch,
+            deep: false,
         },
         SaddlePointConfig {
             radius,
@@ -105,18 +111,5 @@ pub extern "C" fn chess_corners_refine_list_fallback_with(
         out,
         passes,
     );
-    tell(answer, count)
-}
-
-// The number of an answer, and how many records were written.
-fn tell(answer: Refinements, count: &mut usize) -> u32
-    ensures { λ r. ⌜ Counted answer (now (count .entry)) r (now (count .exit)) ⌝ }
-{
-    match answer {
-        Refinements::Refined(accepted) => {
-            *count = accepted;
-            0
-        }
-        Refinements::Refused(refusal) => refusals::number(refusal),
-    }
+    told::tell_count(answer, count)
 }

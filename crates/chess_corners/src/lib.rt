@@ -1,9 +1,11 @@
 // The public face for C and Rust: one exported function a call, over numbers, references and slices. Each returns the number of docs/RULES.md, 0 where it is
 // done. Further answers are written where the number is 0; one seed's place and score with 1 to 7 too, the place at fault with 33 and 34, and the pixel above
-// its maximum with 24.
+// its maximum with 24. Calls that end in `_u16` are the same of twelve-bit samples in words, with 26 behind 10.
 mod beside;
+mod deep;
 mod fallback;
 mod seed;
+mod told;
 
 pub use beside::chess_corners_coverage;
 pub use beside::chess_corners_coverage_add;
@@ -12,23 +14,28 @@ pub use beside::chess_corners_coverage_replace;
 pub use beside::chess_corners_gradient;
 pub use beside::chess_corners_salvage;
 use board::Tie;
+pub use deep::chess_corners_graymap_u16;
+pub use deep::chess_corners_refine_list_fallback_u16;
+pub use deep::chess_corners_refine_list_fallback_with_u16;
+pub use deep::chess_corners_refine_list_u16;
+pub use deep::chess_corners_refine_u16;
+pub use deep::chess_corners_refine_with_u16;
+pub use deep::chess_corners_response_u16;
 pub use fallback::chess_corners_refine_list_fallback;
 pub use fallback::chess_corners_refine_list_fallback_with;
-use graymap::Graymap;
 use imageview::Sizes;
 use merge::Heads;
 use merge::Merge;
 use peaks::Peaks;
 use refine_formulas::SaddlePointConfig;
-use refine_list::Refinements;
-use response::Response;
 use response::Roi;
 pub use seed::chess_corners_fit_operator;
 pub use seed::chess_corners_old_number;
 pub use seed::chess_corners_refine;
 pub use seed::chess_corners_refine_with;
-ghost use Rattle.imageview.specs.Image.{imageOf, sizesOf};
-ghost use Rattle.response.specs.Call.{regionOf};
+ghost use Rattle.imageview.specs.Image.{byteImage};
+ghost use mathlib.Core.Bool.{false};
+ghost use Rattle.graymap.specs.Call.{readOf};
 ghost use Rattle.chess_corners.specs.Face.{Responded, Merging, Wanting, Refining, Scanning, Tying, Reading};
 ghost use Rattle.chess_corners.specs.Seed.{settings};
 
@@ -49,28 +56,24 @@ pub extern "C" fn chess_corners_response(
     out_width: &mut usize,
     out_height: &mut usize,
 ) -> u32
-    ensures { λ r. ⌜ Responded (imageOf (now (img .entry)) (sizesOf width height pitch)) (now (ring .entry)) radius (record { x0 = x0; y0 = y0; x1 = x1; y1 = y1 }) (now (out .entry)) (now («out_width» .entry)) (now («out_height» .entry)) r (now (out .exit)) (now («out_width» .exit)) (now («out_height» .exit)) ⌝ }
+    ensures { λ r. ⌜ Responded (byteImage (now (img .entry)) width height pitch) (now (ring .entry)) radius (record { x0 = x0; y0 = y0; x1 = x1; y1 = y1 }) (now (out .entry)) (now («out_width» .entry)) (now («out_height» .entry)) r (now (out .exit)) (now («out_width» .exit)) (now («out_height» .exit)) ⌝ }
 {
-    let answer = response::chess_response_u8_patch(
+    let none = [0u16; 1];
+    let answer = response::chess_response_patch(
         img,
+        &none[0..0],
         Sizes {
             width,
             height,
             pitch,
+            deep: false,
         },
         ring,
         radius,
         Roi { x0, y0, x1, y1 },
         out,
     );
-    match answer {
-        Response::Written { width, height } => {
-            *out_width = width;
-            *out_height = height;
-            0
-        }
-        Response::Refused(refusal) => refusals::number(refusal),
-    }
+    told::tell_response(answer, out_width, out_height)
 }
 
 // The peaks of a response, x, y and value of each, by row; 0, 10, 11, 12, 19 or 16.
@@ -160,7 +163,7 @@ pub extern "C" fn chess_corners_refine_list(
     out: &mut [f32],
     count: &mut usize,
 ) -> u32
-    ensures { λ r. ⌜ Refining (imageOf (now (img .entry)) (sizesOf width height pitch)) (settings radius «det_margin» «max_offset» «min_abs_det») (now (corners .entry)) (now (out .entry)) (now (count .entry)) r (now (out .exit)) (now (count .exit)) ⌝ }
+    ensures { λ r. ⌜ Refining (byteImage (now (img .entry)) width height pitch) (settings radius «det_margin» «max_offset» «min_abs_det») (now (corners .entry)) (now (out .entry)) (now (count .entry)) r (now (out .exit)) (now (count .exit)) ⌝ }
 {
     let cfg = SaddlePointConfig {
         radius,
@@ -168,24 +171,21 @@ pub extern "C" fn chess_corners_refine_list(
         max_offset,
         min_abs_det,
     };
+    let none = [0u16; 1];
     let answer = refine_list::refine_corners_on_image(
         img,
+        &none[0..0],
         Sizes {
             width,
             height,
             pitch,
+            deep: false,
         },
         cfg,
         corners,
         out,
     );
-    match answer {
-        Refinements::Refined(accepted) => {
-            *count = accepted;
-            0
-        }
-        Refinements::Refused(refusal) => refusals::number(refusal),
-    }
+    told::tell_count(answer, count)
 }
 
 // The number of its corner for each place of a board; 0, 30, 31, 32, 33 or 34.
@@ -226,26 +226,8 @@ pub extern "C" fn chess_corners_graymap(
     start: &mut usize,
     pixel: &mut usize,
 ) -> u32
-    ensures { λ r. ⌜ Reading (now (file .entry)) (record { width = now (width .entry); height = now (height .entry); maximum = now (maximum .entry); start = now (start .entry); pixel = now (pixel .entry) }) r (record { width = now (width .exit); height = now (height .exit); maximum = now (maximum .exit); start = now (start .exit); pixel = now (pixel .exit) }) ⌝ }
+    ensures { λ r. ⌜ Reading (readOf false (now (file .entry))) (record { width = now (width .entry); height = now (height .entry); maximum = now (maximum .entry); start = now (start .entry); pixel = now (pixel .entry) }) r (record { width = now (width .exit); height = now (height .exit); maximum = now (maximum .exit); start = now (start .exit); pixel = now (pixel .exit) }) ⌝ }
 {
     let answer = graymap::read_graymap(file);
-    match answer {
-        Graymap::Read {
-            width: w,
-            height: h,
-            maximum: m,
-            start: at,
-        } => {
-            *width = w;
-            *height = h;
-            *maximum = m;
-            *start = at;
-            0
-        }
-        Graymap::Above(at) => {
-            *pixel = at;
-            24
-        }
-        Graymap::Refused(refusal) => refusals::number(refusal),
-    }
+    told::tell_graymap(answer, width, height, maximum, start, pixel)
 }

@@ -6,7 +6,7 @@ use refine_operator::Operator;
 use refine_seed::Estimate;
 use refine_seed::Refined;
 ghost use mathlib.Core.Path.{_≡_};
-ghost use Rattle.imageview.specs.Image.{imageOf, sizesOf};
+ghost use Rattle.imageview.specs.Image.{byteImage};
 ghost use Rattle.refine_seed.specs.Refine.{refineLent, refineOf, oldNumber};
 ghost use Rattle.refine_seed.specs.declared.Refined.the-variants.{Accepted};
 ghost use Rattle.chess_corners.specs.Seed.{settings, asked, flag, Told, Operating};
@@ -29,7 +29,7 @@ pub extern "C" fn chess_corners_refine(
     state: &mut [u32; 3],
     covariance: &mut [f32; 3],
 ) -> u32
-    ensures { λ r. ⌜ Told (refineOf (imageOf (now (img .entry)) (sizesOf width height pitch)) (settings radius «det_margin» «max_offset» «min_abs_det») x y (asked wanted)) x y (now (place .entry)) (now (state .entry)) (now (covariance .entry)) r (now (place .exit)) (now (state .exit)) (now (covariance .exit)) ⌝ }
+    ensures { λ r. ⌜ Told (refineOf (byteImage (now (img .entry)) width height pitch) (settings radius «det_margin» «max_offset» «min_abs_det») x y (asked wanted)) x y (now (place .entry)) (now (state .entry)) (now (covariance .entry)) r (now (place .exit)) (now (state .exit)) (now (covariance .exit)) ⌝ }
 {
     let cfg = SaddlePointConfig {
         radius,
@@ -41,8 +41,10 @@ pub extern "C" fn chess_corners_refine(
         width,
         height,
         pitch,
+        deep: false,
     };
-    let answer = refine_seed::refine(img, sizes, cfg, x, y, wanted != 0);
+    let none = [0u16; 1];
+    let answer = refine_seed::refine(img, &none[0..0], sizes, cfg, x, y, wanted != 0);
     tell(answer, x, y, place, state, covariance)
 }
 
@@ -66,7 +68,7 @@ pub extern "C" fn chess_corners_refine_with(
     state: &mut [u32; 3],
     covariance: &mut [f32; 3],
 ) -> u32
-    ensures { λ r. ⌜ Told (refineLent (imageOf (now (img .entry)) (sizesOf width height pitch)) (settings radius «det_margin» «max_offset» «min_abs_det») x y (asked wanted) (now (columns .entry)) (now (overlap .entry))) x y (now (place .entry)) (now (state .entry)) (now (covariance .entry)) r (now (place .exit)) (now (state .exit)) (now (covariance .exit)) ⌝ }
+    ensures { λ r. ⌜ Told (refineLent (byteImage (now (img .entry)) width height pitch) (settings radius «det_margin» «max_offset» «min_abs_det») x y (asked wanted) (now (columns .entry)) (now (overlap .entry))) x y (now (place .entry)) (now (state .entry)) (now (covariance .entry)) r (now (place .exit)) (now (state .exit)) (now (covariance .exit)) ⌝ }
 {
     let cfg = SaddlePointConfig {
         radius,
@@ -74,12 +76,15 @@ pub extern "C" fn chess_corners_refine_with(
         max_offset,
         min_abs_det,
     };
+    let none = [0u16; 1];
     let answer = refine_seed::refine_with(
         img,
+        &none[0..0],
         Sizes {
             width,
             height,
             pitch,
+            deep: false,
         },
         cfg,
         x,
@@ -116,7 +121,7 @@ pub extern "C" fn chess_corners_fit_operator(
     }
 }
 
-fn tell(
+pub fn tell(
     answer: Refined,
     x: f32,
     y: f32,

@@ -4,7 +4,7 @@ use mathlib.Core.Logic.{⊎-elim}
 use mathlib.Core.Bool.{Bool, true, false, cond, _&&_, _||_, and-false, false≢true}
 use mathlib.Core.List.{List, [], _∷_, _++_}
 use Prim.Native.Nat.{ℕ, zero, suc, _+_, _-_, _*_, _^_, _≤_, _<_}
-use native.Mathlib.Nat.{add-comm, add-zero, suc-mul, mul-le-mul-right, eq-or-lt-of-le, not-suc-le-zero}
+use native.Mathlib.Nat.{add-comm, add-zero, suc-mul, mul-le-mul-right, not-suc-le-zero}
 use native.Mathlib.Omega.{arith}
 use lib.Dec.{ltb, leb, lit<}
 use lib.IntN.{ℤ, pos, negsuc, _+ℤ_}
@@ -19,7 +19,7 @@ use borrow.Author.Tests.{lt-ltb, le-ltb, le-leb, lt-leb, leb-true, leb-false}
 use Rattle.shapes.specs.Tests.{every}
 use Rattle.shapes.proofs.TestLaws.{both, either, first-not, second-not, every-more, every-none, every-miss}
 use Rattle.response.specs.Region.{moved}
-use Rattle.response.proofs.PassLaws.{lt-or-le}
+use Rattle.response.proofs.PassLaws.{lt-or-le, last-or}
 use Rattle.gradient.specs.Stencil.{crossPairs, component, staysOn, stencilStays, cellOf}
 use Rattle.gradient.specs.Steps.{Offset, movedBy, Found}
 
@@ -127,9 +127,6 @@ pub moves : (side x o r : ℕ) (z : ℤ) → Offset z o → r ≡ movedBy x o si
 moves side x o r z f e = subst (Moved side x z) (sym (e ∙ ap (λ (n : ℕ). movedBy x n side) (f .is))) (moves-by side x z (f .near))
 
 -- ---- the places, one after the other
-last-or : (P : ℕ → Type 0) (n : ℕ) → P n → ((i : ℕ) → i < n → P i) → (i : ℕ) → i < n + 1 → P i
-last-or P n here all i h = ⊎-elim (λ e. subst P (sym e) here) (λ l. all i l) (eq-or-lt-of-le (omega arith))
-
 cell-within : (side column line : ℕ) → column < side → line < side → line * side + column < side * side
 cell-within side column line a b = room (line * side) column side (side * side) a (subst (λ (n : ℕ). n ≤ side * side) (suc-mul line side) (mul-le-mul-right side b))
   where

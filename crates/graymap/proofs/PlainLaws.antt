@@ -1,4 +1,4 @@
--- The plain form read back: a number written in decimal, and the header of such numbers.
+-- The plain form read back: a number written in decimal, the header of such numbers, and the samples.
 use mathlib.Core.Path.{_≡_, refl, sym, ap, _∙_, subst}
 use mathlib.Core.Logic.{⊎-elim}
 use mathlib.Core.Bool.{Bool, true, false, not, _||_, cond}
@@ -7,10 +7,12 @@ use Prim.Native.Nat.{ℕ, zero, suc, _+_, _*_, _/_, _%_, _^_, _≤_, _<_}
 use native.Mathlib.Nat.{div-add-mod, div-lt-iff-lt-mul, mod-lt, pow-suc}
 use native.Mathlib.Omega.{arith}
 use lib.Dec.{eqb}
+use lib.ListN.{length, getD}
 use borrow.Author.Tests.{lt-ltb, le-ltb, le-leb, ne-eqb}
 use Rattle.shapes.proofs.TestLaws.{both}
 use Rattle.graymap.specs.Grammar.{isSpace, isDigit, gap, digits, missing, number, numberIn, header, withMaximum, withHeight, withWidth, headerIn}
-use Rattle.graymap.specs.Claims.{decimalIn, decimal}
+use Rattle.graymap.specs.Call.{bytesOf, sampleIn}
+use Rattle.graymap.specs.Claims.{decimalIn, decimal, bytesIn}
 use Rattle.graymap.specs.Steps.{endsGap}
 use Rattle.graymap.proofs.CutLaws.{sides}
 use Rattle.graymap.proofs.GapLaws.{ended}
@@ -81,3 +83,30 @@ header-read w h m samples a b c =
     ap withWidth (number-read w 32 (decimal h ++ (32 ∷ (decimal m ++ (10 ∷ samples)))) a refl refl)
     ∙ ap (withHeight w) (number-read h 32 (decimal m ++ (10 ∷ samples)) b refl refl)
     ∙ ap (withMaximum w h) (number-read m 10 samples c refl refl)
+
+-- ---- the samples
+pub bytes-count : (deep : Bool) (samples : List ℕ) → length (bytesIn deep samples) ≡ bytesOf deep (length samples)
+unfolding bytesIn
+bytes-count true [] = refl
+bytes-count false [] = refl
+bytes-count true (v ∷ l) = let e = bytes-count true l in omega arith
+bytes-count false (v ∷ l) = ap suc (bytes-count false l)
+
+-- a sample further on, behind the two bytes of the first
+sample-on : (a b i : ℕ) (l : List ℕ) → sampleIn true (a ∷ b ∷ l) (suc i) ≡ sampleIn true l i
+sample-on a b i l =
+    let p : 2 * suc i ≡ suc (suc (2 * i)) = omega arith in
+    let q : 2 * suc i + 1 ≡ suc (suc (2 * i + 1)) = omega arith in
+    ap (λ (k : ℕ). 256 * getD (a ∷ b ∷ l) k 0 + getD (a ∷ b ∷ l) (2 * suc i + 1) 0) p ∙ ap (λ (k : ℕ). 256 * getD l (2 * i) 0 + getD (a ∷ b ∷ l) k 0) q
+
+bytes-same : (samples : List ℕ) → bytesIn false samples ≡ samples
+unfolding bytesIn
+bytes-same [] = refl
+bytes-same (v ∷ l) = ap (λ (k : List ℕ). v ∷ k) (bytes-same l)
+
+pub samples-read : (deep : Bool) (samples : List ℕ) (i : ℕ) → sampleIn deep (bytesIn deep samples) i ≡ getD samples i 0
+unfolding bytesIn
+samples-read true [] i = refl
+samples-read false samples i = ap (λ (l : List ℕ). getD l i 0) (bytes-same samples)
+samples-read true (v ∷ l) zero = div-add-mod v 256
+samples-read true (v ∷ l) (suc i) = sample-on (v / 256) (v % 256) i (bytesIn true l) ∙ samples-read true l i

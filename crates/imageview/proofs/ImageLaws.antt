@@ -1,14 +1,27 @@
 -- What the test of an image says when it passes, and where the samples of a tested image stand.
 use mathlib.Core.Path.{_≡_, refl, sym, ap, _∙_, subst}
-use mathlib.Core.Bool.{Bool, true, false, _&&_}
-use Prim.Native.Nat.{ℕ, suc, _+_, _*_, _^_, _≤_, _<_}
+use mathlib.Core.Bool.{Bool, true, false, _&&_, cond}
+use mathlib.Core.List.{List}
+use Prim.Native.Nat.{ℕ, suc, _+_, _-_, _*_, _^_, _≤_, _<_}
 use native.Mathlib.Nat.{mul-le-mul, mul-le-mul-right, mul-comm, suc-mul, le-trans}
 use native.Mathlib.Omega.{arith}
 use lib.Dec.{T, leb, eqb, leb→le, eqb→eq}
-use lib.ListN.{length}
+use lib.ListN.{length, getD, take, drop, length-drop}
+use lib.Seq.{getD-take, getD-drop, length-take-le}
 use lib.Ieee.Fits.{and-l, and-r}
-use Rattle.imageview.specs.Image.{Image, isSize, isPitch, sizesFit, isImage, most, mostPitch}
-use Rattle.imageview.specs.Steps.{Sized, Tested}
+use borrow.Author.Tests.{leb-true}
+use Rattle.shapes.specs.Tests.{every}
+use Rattle.shapes.proofs.TestLaws.{every-at, every-same}
+use Rattle.imageview.specs.Image.{Image, samplesOf, imageOf, sizesOf, pixel, isSize, isPitch, sizesFit, isImage, inRange, most, mostPitch, mostSample}
+use Rattle.imageview.specs.declared.Sizes.{Sizes}
+use Rattle.imageview.specs.Steps.{Sized, Tested, Rows, rowLow, rowsLow}
+
+-- ---- the samples of the depth
+pub deep-samples : (bytes words : List ℕ) {deep : Bool} → deep ≡ true → samplesOf bytes words deep ≡ words
+deep-samples bytes words e = ap (samplesOf bytes words) e
+
+pub byte-samples : (bytes words : List ℕ) {deep : Bool} → deep ≡ false → samplesOf bytes words deep ≡ bytes
+byte-samples bytes words e = ap (samplesOf bytes words) e
 
 -- ---- the test of a count, by that of the sizes
 pub by-count : (n w h : ℕ) → isSize w h ≡ true → eqb n (w * h) ≡ sizesFit n w h
@@ -89,3 +102,51 @@ row-stands s y x n h count e a b = all (y * s) (suc y * s) (suc-mul y s) (subst 
 
 pub index : (img : Image) → Tested img → (x y n : ℕ) → x + n ≤ img .width → y < img .height → y * img .pitch + x + n ≤ length (img .samples)
 index img t x y n a b = row-stands (img .pitch) y x n (img .height) (length (img .samples)) (t .count) (le-trans a (t .holds)) b
+
+-- ---- a row as a part of the samples
+pub cut : (a n : ℕ) → a + n - a ≡ n
+cut a n = omega arith
+
+pub run-count : (l : List ℕ) (a n m : ℕ) → m ≡ n → a + n ≤ length l → length (take m (drop a l)) ≡ n
+run-count l a n m e h = length-take-le m (drop a l) (simp length-drop (omega arith)) ∙ e
+
+pub run-at : (l : List ℕ) (a i m j : ℕ) → i < m → a + i ≡ j → getD (take m (drop a l)) i 0 ≡ getD l j 0
+run-at l a i m j h e = getD-take m (drop a l) i 0 h ∙ getD-drop a l i 0 ∙ ap (λ (k : ℕ). getD l k 0) e
+
+pub part-low : (l : List ℕ) (start n : ℕ) → start + n ≤ length l → rowLow (take (start + n - start) (drop start l)) (length (take (start + n - start) (drop start l))) ≡ every n (λ x. leb (getD l (start + x) 0) mostSample)
+part-low l start n h =
+    let part = take (start + n - start) (drop start l) in
+    ap (λ (k : ℕ). rowLow part k) (run-count l start n (start + n - start) (cut start n) h)
+    ∙ every-same n (λ x. leb (getD part x 0) mostSample) (λ x. leb (getD l (start + x) 0) mostSample)
+    (λ x k. ap (λ (v : ℕ). leb v mostSample) (run-at l start x (start + n - start) (start + x) (subst (λ (m : ℕ). x < m) (sym (cut start n)) k) refl))
+
+-- ---- the pixels of a deep image whose samples passed their test
+pub low : (img : Image) → inRange img ≡ true → img .deep ≡ true → (x y : ℕ) → x < img .width → y < img .height → pixel img x y ≤ mostSample
+unfolding inRange
+low img r d x y h l =
+    let all = sym (ap (λ (b : Bool). cond b (every (img .height) (λ v. every (img .width) (λ u. leb (pixel img u v) mostSample))) true) d) ∙ r in
+    leb-true (pixel img x y) mostSample (every-at (λ u. leb (pixel img u y) mostSample) (img .width) x h (every-at (λ v. every (img .width) (λ u. leb (pixel img u v) mostSample)) (img .height) y l all))
+
+row-whole : (img : Image) → Tested img → (y : ℕ) → y < img .height → y * img .pitch + img .width ≤ length (img .samples)
+row-whole img t y h = omega (arith, index img t 0 y (img .width) (omega arith) h)
+
+-- ---- the test of the samples by the depth, and the rows of a deep image
+module _ (bytes words : List ℕ) (sizes : Sizes) where
+  abbrev image : Image
+  image = imageOf bytes words sizes
+
+  pub deep-range : sizes .deep ≡ true → rowsLow words (sizes .width) (sizes .pitch) (sizes .height) ≡ inRange image
+  unfolding inRange pixel
+  deep-range e = sym (ap (λ (d : Bool). inRange (imageOf bytes words (sizesOf (sizes .width) (sizes .height) (sizes .pitch) d))) e)
+
+  pub byte-range : sizes .deep ≡ false → true ≡ inRange image
+  unfolding inRange
+  byte-range e = sym (ap (λ (d : Bool). inRange (imageOf bytes words (sizesOf (sizes .width) (sizes .height) (sizes .pitch) d))) e)
+
+  pub deep-rows : isImage image ≡ true → sizes .deep ≡ true → Rows (length words) (sizes .width) (sizes .height) (sizes .pitch)
+  deep-rows is e =
+      let t = tested image (passed is) in
+      record {
+        low = (t .sized .height-most, t .pitch-most);
+        reach = λ y h. subst (λ (l : List ℕ). y * sizes .pitch + sizes .width ≤ length l) (deep-samples bytes words e) (row-whole image t y h);
+      }

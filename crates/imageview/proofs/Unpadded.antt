@@ -57,13 +57,13 @@ module _ (img : Image) (is : isImage img ≡ true) where
 
 pub shows-unpadded : ShowsUnpadded
 unfolding unpadded
-shows-unpadded img is = record { width = refl; height = refl; image = is ∙ sym (is-still img is); pixels = pixel-same img is }
+shows-unpadded img is = record { width = refl; height = refl; depth = refl; image = is ∙ sym (is-still img is); pixels = pixel-same img is }
 
 pub no-padding : NoPadding
 unfolding unpadded
 no-padding img is e =
-    ap (λ (l : List ℕ). record { samples = l; width = img .width; height = img .height; pitch = img .width }) (samples-same img is e)
-    ∙ ap (λ (p : ℕ). record { samples = img .samples; width = img .width; height = img .height; pitch = p }) (sym e)
+    ap (λ (l : List ℕ). record { samples = l; width = img .width; height = img .height; pitch = img .width; deep = img .deep }) (samples-same img is e)
+    ∙ ap (λ (p : ℕ). record { samples = img .samples; width = img .width; height = img .height; pitch = p; deep = img .deep }) (sym e)
 
 pub agree-outside : AgreeOutside
-agree-outside a b ia ib w h same = record { width = w; height = h; image = ia ∙ sym ib; pixels = same }
+agree-outside a b ia ib w h d same = record { width = w; height = h; depth = d; image = ia ∙ sym ib; pixels = same }

@@ -6,10 +6,9 @@ use mathlib.Core.Logic.{inl, inr}
 use Prim.Native.Nat.{ℕ, _+_, _*_, _^_, _≤_, _<_}
 use native.Mathlib.Omega.{arith}
 use mathlib.Core.Bool.{Bool, true, false}
-use lib.IntN.{pos}
 use lib.Dec.{ltb, lit≤, lt→ltb}
 use lib.Pow.{pow-pos}
-use lib.Ieee.{Float, fin, below}
+use lib.Ieee.{Float, below}
 use lib.Ieee.Bits.{is-true}
 use lib.Ieee.Exact.{HasValue}
 use Rattle.floats.proofs.Fractions.{lt-value}
@@ -108,3 +107,10 @@ stands-256 = stands 8 (lit≤ tt)
 
 pub orders-256 : Orders 256
 orders-256 = orders 8 (lit≤ tt)
+
+-- ---- words of twelve bits
+pub stands-4096 : Stands 4096
+stands-4096 = stands 12 (lit≤ tt)
+
+pub orders-4096 : Orders 4096
+orders-4096 = orders 12 (lit≤ tt)

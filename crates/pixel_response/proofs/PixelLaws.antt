@@ -1,7 +1,7 @@
 -- The arithmetic of one pixel: distances, and the sums of the ring taken quarter by quarter.
-use mathlib.Core.Path.{_≡_, refl, sym, ap, _∙_}
-use Prim.Native.Nat.{ℕ, zero, suc, _+_, _-_, _*_, _≤_, _<_}
-use native.Mathlib.Nat.{zero-add}
+use mathlib.Core.Path.{_≡_, refl, sym, ap, _∙_, subst}
+use Prim.Native.Nat.{ℕ, zero, suc, _+_, _-_, _*_, _≤_, _<_, zero-le}
+use native.Mathlib.Nat.{zero-add, suc-mul, add-le-add}
 use native.Mathlib.Numerals.{add-one}
 use native.Mathlib.Omega.{arith}
 use Rattle.pixel_response.specs.Samples.{total, apart, squareSum, edgeSum, ringSum, crossSum, gain, loss, valueOf, responseOf}
@@ -18,6 +18,22 @@ apart-above a b h = omega arith
 pub apart-most : (a b m : ℕ) → a ≤ m → b ≤ m → apart a b ≤ m
 unfolding apart
 apart-most a b m p q = omega arith
+
+-- a quarter's square from its two sums, and its edges from its two distances, with their bounds
+pub square-from : (m a b c d x y r : ℕ) → Bounded (a + c) m x → Bounded (b + d) m y → r ≡ apart x y → Bounded (squareOf a b c d) m r
+unfolding squareOf
+square-from m a b c d x y r p q e =
+    record {
+      is = e ∙ ap (λ (z : ℕ). apart z y) (p .is) ∙ ap (λ (z : ℕ). apart (a + c) z) (q .is);
+      most = subst (λ (z : ℕ). z ≤ m) (sym e) (apart-most x y m (p .most) (q .most));
+    }
+
+pub edges-from : (a b c d x y : ℕ) → x ≡ apart a c → y ≡ apart b d → x + y ≡ edgesOf a b c d
+unfolding edgesOf
+edges-from a b c d x y p q = ap (λ (z : ℕ). z + y) p ∙ ap (λ (z : ℕ). apart a c + z) q
+
+pub edges-most : (m a b c d x y : ℕ) → a ≤ m → b ≤ m → c ≤ m → d ≤ m → x ≡ apart a c → y ≡ apart b d → x + y ≤ 2 * m
+edges-most m a b c d x y p q r s e f = omega (arith, apart-most a c m p r, apart-most b d m q s)
 
 pub four : (f : ℕ → ℕ → ℕ → ℕ → ℕ) (a b c d a' b' c' d' : ℕ) → a ≡ a' → b ≡ b' → c ≡ c' → d ≡ d' → f a b c d ≡ f a' b' c' d'
 four f a b c d a' b' c' d' p q r s = cc
@@ -52,39 +68,42 @@ pub crosses : (c : ℕ → ℕ) → crossOf (c 0) (c 1) (c 2) (c 3) (c 4) ≡ cr
 unfolding crossSum total
 crosses c = ap (λ (z : ℕ). z + c 1 + c 2 + c 3 + c 4) (sym (zero-add (c 0)))
 
--- ---- the sums of the first k quarters, with their bounds
-pub record Quarters (s : ℕ → ℕ) (k square edge sum : ℕ) : Type 0 where
+-- ---- the sums of the first k quarters of samples below P, with their bounds
+pub record Quarters (P : ℕ) (s : ℕ → ℕ) (k square edge sum : ℕ) : Type 0 where
   pub square-is : square ≡ total k (quarterOf squareOf s)
   pub edge-is : edge ≡ total k (quarterOf edgesOf s)
   pub sum-is : sum ≡ total k (quarterOf sumOf s)
-  pub square-most : square ≤ 510 * k
-  pub edge-most : edge ≤ 510 * k
-  pub sum-most : sum ≤ 1020 * k
+  pub square-most : square ≤ k * (2 * (P - 1))
+  pub edge-most : edge ≤ k * (2 * (P - 1))
+  pub sum-most : sum ≤ k * (4 * (P - 1))
 
-pub none : (s : ℕ → ℕ) → Quarters s 0 0 0 0
+pub none : (P : ℕ) (s : ℕ → ℕ) → Quarters P s 0 0 0 0
 unfolding total
-none s = record { square-is = refl; edge-is = refl; sum-is = refl; square-most = omega arith; edge-most = omega arith; sum-most = omega arith }
+none P s = record { square-is = refl; edge-is = refl; sum-is = refl; square-most = zero-le; edge-most = zero-le; sum-most = zero-le }
 
 added : (f : ℕ → ℕ) (k a v : ℕ) → a ≡ total k f → v ≡ f k → a + v ≡ total (k + 1) f
 added f k a v p q = ap (λ (z : ℕ). z + v) p ∙ ap (λ (z : ℕ). total k f + z) q ∙ total-more k f
 
-pub more : (s : ℕ → ℕ) (k square edge sum x y z : ℕ) → Quarters s k square edge sum
-    → Bounded (quarterOf squareOf s k) 510 x → Bounded (quarterOf edgesOf s k) 510 y → Bounded (quarterOf sumOf s k) 1020 z
-    → Quarters s (k + 1) (square + x) (edge + y) (sum + z)
-more s k square edge sum x y z q a b c =
+added-most : (k b a v : ℕ) → a ≤ k * b → v ≤ b → a + v ≤ (k + 1) * b
+added-most k b a v h l = subst (λ (z : ℕ). a + v ≤ z * b) (sym (add-one k)) (subst (λ (z : ℕ). a + v ≤ z) (sym (suc-mul k b)) (add-le-add h l))
+
+pub more : (P : ℕ) (s : ℕ → ℕ) (k square edge sum x y z : ℕ) → Quarters P s k square edge sum
+    → Bounded (quarterOf squareOf s k) (2 * (P - 1)) x → Bounded (quarterOf edgesOf s k) (2 * (P - 1)) y → Bounded (quarterOf sumOf s k) (4 * (P - 1)) z
+    → Quarters P s (k + 1) (square + x) (edge + y) (sum + z)
+more P s k square edge sum x y z q a b c =
     record {
       square-is = added (quarterOf squareOf s) k square x (q .square-is) (a .is);
       edge-is = added (quarterOf edgesOf s) k edge y (q .edge-is) (b .is);
       sum-is = added (quarterOf sumOf s) k sum z (q .sum-is) (c .is);
-      square-most = omega (arith, q .square-most, a .most);
-      edge-most = omega (arith, q .edge-most, b .most);
-      sum-most = omega (arith, q .sum-most, c .most);
+      square-most = added-most k (2 * (P - 1)) square x (q .square-most) (a .most);
+      edge-most = added-most k (2 * (P - 1)) edge y (q .edge-most) (b .most);
+      sum-most = added-most k (4 * (P - 1)) sum z (q .sum-most) (c .most);
     }
 
 -- all four give the response
-pub all : (s c : ℕ → ℕ) (k square edge sum five : ℕ) → k ≡ 4 → Quarters s k square edge sum → five ≡ crossOf (c 0) (c 1) (c 2) (c 3) (c 4) → valueOf square edge sum five ≡ responseOf s c
+pub all : (P : ℕ) (s c : ℕ → ℕ) (k square edge sum five : ℕ) → k ≡ 4 → Quarters P s k square edge sum → five ≡ crossOf (c 0) (c 1) (c 2) (c 3) (c 4) → valueOf square edge sum five ≡ responseOf s c
 unfolding responseOf
-all s c k square edge sum five e q t =
+all P s c k square edge sum five e q t =
     ap (λ (z : ℕ). valueOf z edge sum five) (q .square-is ∙ ap (λ (j : ℕ). total j (quarterOf squareOf s)) e ∙ squares s)
     ∙ ap (λ (z : ℕ). valueOf (squareSum s) z sum five) (q .edge-is ∙ ap (λ (j : ℕ). total j (quarterOf edgesOf s)) e ∙ edges s)
     ∙ ap (λ (z : ℕ). valueOf (squareSum s) (edgeSum s) z five) (q .sum-is ∙ ap (λ (j : ℕ). total j (quarterOf sumOf s)) e ∙ sums s)

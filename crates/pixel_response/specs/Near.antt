@@ -4,8 +4,7 @@
 use mathlib.Core.Path.{_≡_}
 use mathlib.Core.Bool.{Bool, true, false}
 use Prim.Native.Nat.{ℕ, _+_, _*_, _^_, _≤_, _<_}
-use lib.IntN.{pos}
-use lib.Ieee.{Float, fin, lt}
+use lib.Ieee.{Float, lt}
 use lib.Ieee.Exact.{HasValue}
 use Rattle.shapes.specs.Numbers.{plusZero}
 use Rattle.pixel_response.specs.Samples.{gain, loss, responseOf}

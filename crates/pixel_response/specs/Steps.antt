@@ -2,7 +2,7 @@
 use mathlib.Core.Path.{_≡_}
 use mathlib.Core.Bool.{Bool, true, false}
 use mathlib.Core.List.{List}
-use Prim.Native.Nat.{ℕ, _+_, _≤_, _<_}
+use Prim.Native.Nat.{ℕ, _+_, _-_, _*_, _≤_, _<_}
 use lib.ListN.{length, getD}
 use Rattle.pixel_response.specs.Samples.{apart}
 
@@ -53,17 +53,17 @@ pub record Wrote {A : Type 0} (d : A) (n x : ℕ) (f : ℕ → A) (before after 
   pub here : (i : ℕ) → i < n → getD after (x + i) d ≡ f i
   pub past : (i : ℕ) → x + n ≤ i → getD after i d ≡ getD before i d
 
--- ---- one quarter added for each of n pixels that lie side by side, where a i, b i, c i and d i are pixel i's samples
-pub record AddedQuarter (n : ℕ) (a b c d : ℕ → ℕ) (square edge sum square' edge' sum' : List ℕ) : Type 0 where
-  pub squares : Added n 510 (λ i. squareOf (a i) (b i) (c i) (d i)) square square'
-  pub edges : Added n 510 (λ i. edgesOf (a i) (b i) (c i) (d i)) edge edge'
-  pub sums : Added n 1020 (λ i. sumOf (a i) (b i) (c i) (d i)) sum sum'
+-- ---- one quarter added for each of n pixels that lie side by side, where a i, b i, c i and d i are pixel i's samples, each below P
+pub record AddedQuarter (P n : ℕ) (a b c d : ℕ → ℕ) (square edge sum square' edge' sum' : List ℕ) : Type 0 where
+  pub squares : Added n (2 * (P - 1)) (λ i. squareOf (a i) (b i) (c i) (d i)) square square'
+  pub edges : Added n (2 * (P - 1)) (λ i. edgesOf (a i) (b i) (c i) (d i)) edge edge'
+  pub sums : Added n (4 * (P - 1)) (λ i. sumOf (a i) (b i) (c i) (d i)) sum sum'
 
 -- three quarters' sums or less, so that a fourth fits
-pub record Spare (n : ℕ) (square edge sum : List ℕ) : Type 0 where
-  pub squares : Room n 3060 square
-  pub edges : Room n 3060 edge
-  pub sums : Room n 3060 sum
+pub record Spare (P n : ℕ) (square edge sum : List ℕ) : Type 0 where
+  pub squares : Room n (12 * (P - 1)) square
+  pub edges : Room n (12 * (P - 1)) edge
+  pub sums : Room n (12 * (P - 1)) sum
 
 -- parts of one length, at most 64
 pub record Abreast (a b c d : List ℕ) : Type 0 where

@@ -1,6 +1,6 @@
 // The arithmetic of one pixel. A quarter of the ring is its samples k, k + 4, k + 8 and k + 12.
 ghost use mathlib.Core.Path.{_≡_};
-ghost use Prim.Native.Nat.{_+_};
+ghost use Prim.Native.Nat.{_+_, _≤_};
 ghost use Rattle.pixel_response.specs.Samples.{apart, valueOf};
 ghost use Rattle.pixel_response.specs.Steps.{Bounded, squareOf, edgesOf, sumOf, crossOf};
 
@@ -44,6 +44,35 @@ pub fn cross_of(a: u8, b: u8, c: u8, d: u8, e: u8) -> u16
     ensures { λ r. ⌜ Bounded (crossOf a b c d e) 1275 r ⌝ }
 {
     a as u16 + b as u16 + c as u16 + d as u16 + e as u16
+}
+
+// The same of words of twelve bits: four quarters' sums, 65520 at most, fit 16 bits too.
+pub fn square_of_deep(a: u16, b: u16, c: u16, d: u16) -> u16
+    requires { ⌜ (a ≤ 4095) × (b ≤ 4095) × (c ≤ 4095) × (d ≤ 4095) ⌝ }
+    ensures { λ r. ⌜ Bounded (squareOf a b c d) 8190 r ⌝ }
+{
+    apart_u16(a + c, b + d)
+}
+
+pub fn edges_of_deep(a: u16, b: u16, c: u16, d: u16) -> u16
+    requires { ⌜ (a ≤ 4095) × (b ≤ 4095) × (c ≤ 4095) × (d ≤ 4095) ⌝ }
+    ensures { λ r. ⌜ Bounded (edgesOf a b c d) 8190 r ⌝ }
+{
+    apart_u16(a, c) + apart_u16(b, d)
+}
+
+pub fn sum_of_deep(a: u16, b: u16, c: u16, d: u16) -> u16
+    requires { ⌜ (a ≤ 4095) × (b ≤ 4095) × (c ≤ 4095) × (d ≤ 4095) ⌝ }
+    ensures { λ r. ⌜ Bounded (sumOf a b c d) 16380 r ⌝ }
+{
+    a + b + c + d
+}
+
+pub fn cross_of_deep(a: u16, b: u16, c: u16, d: u16, e: u16) -> u16
+    requires { ⌜ (a ≤ 4095) × (b ≤ 4095) × (c ≤ 4095) × (d ≤ 4095) × (e ≤ 4095) ⌝ }
+    ensures { λ r. ⌜ Bounded (crossOf a b c d e) 20475 r ⌝ }
+{
+    a + b + c + d + e
 }
 
 // One rounding an operation, in this order.

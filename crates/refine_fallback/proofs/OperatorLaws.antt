@@ -96,7 +96,7 @@ module _ (cfg : SaddlePointConfig) (old columns : List Float) (r : Operator) (do
       subst (λ (u : SaddlePointConfig). Serves cfg u columns) (sym z)
       (record {
         same = λ img corners. fun-ext (λ i. zero-nowhere img cfg columns corners i ∙ sym (nowhere img cfg corners (h img) i));
-        ready = λ img k. record { image = k .image; small = refl; limits = k .limits };
+        ready = λ img k. record { image = k .image; range = k .range; small = refl; limits = k .limits };
       })
 
   pub serves-singular : r ≡ Built.Singular → (used : SaddlePointConfig) → used ≡ atZero cfg → Serves cfg used columns

@@ -10,7 +10,7 @@ use lib.Ieee.{Float}
 use borrow.Author.Tests.{le-ltb}
 use Rattle.shapes.specs.Numbers.{entry}
 use Rattle.corners.specs.Corners.{whole, tooMany}
-use Rattle.imageview.specs.Image.{Image, isImage}
+use Rattle.imageview.specs.Image.{Image, isImage, inRange}
 use Rattle.refusals.specs.declared.Refusal.{Refusal}
 use Rattle.refine_formulas.specs.declared.SaddlePointConfig.{SaddlePointConfig}
 use Rattle.refine_seed.specs.declared.Spot.{Spot}
@@ -111,7 +111,7 @@ module _ (img : Image) (cfg : SaddlePointConfig) (corners out : List Float) (byt
   n = length corners / 3
 
   abbrev single : {W : Type 0} → (Refusal → W) → W → W
-  single say = byTests say (not (isImage img)) (not (leb (cfg .radius) 7)) (not (goodLimits cfg)) (not (whole (length corners))) (tooMany (length corners)) (ltb (length out) (length corners))
+  single say = byTests say (not (isImage img)) (not (inRange img)) (not (leb (cfg .radius) 7)) (not (goodLimits cfg)) (not (whole (length corners))) (tooMany (length corners)) (ltb (length out) (length corners))
 
   spots-same : (λ i. either (spots i) (spots i)) ≡ spots
   spots-same = fun-ext (λ i. same-spot (spots i))
@@ -134,7 +134,7 @@ module _ (img : Image) (cfg : SaddlePointConfig) (corners out : List Float) (byt
   unfolding Single.wayOf
   alike g h k e =
       ap g way-is
-      ∙ through refused Single.refused g h k (wrote (recordsBy spots corners n) (passesBy spots spots n)) (Single.wrote (recordsBy spots corners n)) e (not (isImage img)) (not (leb (cfg .radius) 7)) (not (goodLimits cfg)) (not (whole (length corners))) (tooMany (length corners)) (ltb (length out) (length corners))
+      ∙ through refused Single.refused g h k (wrote (recordsBy spots corners n) (passesBy spots spots n)) (Single.wrote (recordsBy spots corners n)) e (not (isImage img)) (not (inRange img)) (not (leb (cfg .radius) 7)) (not (goodLimits cfg)) (not (whole (length corners))) (tooMany (length corners)) (ltb (length out) (length corners))
 
 pub equal-is-single : EqualIsSingle
 equal-is-single img cfg corners out bytes enough =

@@ -11,8 +11,8 @@ use lib.Ieee.{Float}
 use Rattle.shapes.specs.Numbers.{entry}
 use Rattle.corners.specs.Corners.{whole, tooMany}
 use Rattle.refusals.specs.declared.Refusal.{Refusal}
-use Rattle.refusals.specs.declared.Refusal.the-variants.{BadImage, BadRadius, BadLimit, BadLength, TooMany, BadOut}
-use Rattle.imageview.specs.Image.{Image, isImage}
+use Rattle.refusals.specs.declared.Refusal.the-variants.{BadImage, BadSample, BadRadius, BadLimit, BadLength, TooMany, BadOut}
+use Rattle.imageview.specs.Image.{Image, isImage, inRange}
 use Rattle.refine_formulas.specs.declared.SaddlePointConfig.{SaddlePointConfig}
 use Rattle.refine_seed.specs.declared.Spot.{Spot}
 use Rattle.refine_seed.specs.declared.Spot.the-variants.{At, Nowhere}
@@ -52,12 +52,13 @@ unfoldable pub wayBy : (ℕ → Spot) → (ℕ → Spot) → Image → SaddlePoi
 unfolding recordsBy passesBy
 wayBy first second img one two corners room bytes =
     cond (not (isImage img)) (refused BadImage)
+    (cond (not (inRange img)) (refused BadSample)
     (cond (not (leb (one .radius) 7 && leb (two .radius) 7)) (refused BadRadius)
     (cond (not (goodLimits one && goodLimits two)) (refused BadLimit)
     (cond (not (whole (length corners))) (refused BadLength)
     (cond (tooMany (length corners)) (refused TooMany)
     (cond (ltb room (length corners) || ltb bytes (length corners / 3)) (refused BadOut)
-    (wrote (recordsBy (λ i. either (first i) (second i)) corners (length corners / 3)) (passesBy first second (length corners / 3))))))))
+    (wrote (recordsBy (λ i. either (first i) (second i)) corners (length corners / 3)) (passesBy first second (length corners / 3)))))))))
 
 -- with the operators of both radii, and with columns that are lent
 abbrev pub wayOf : Image → SaddlePointConfig → SaddlePointConfig → List Float → ℕ → ℕ → Way

@@ -7,8 +7,8 @@ use lib.Dec.{leb, ltb}
 use lib.ListN.{length, drop}
 use lib.Ieee.{Float}
 use Rattle.corners.specs.Corners.{whole, tooMany}
-use Rattle.refusals.specs.declared.Refusal.the-variants.{BadImage, BadRadius, BadLimit, BadLength, TooMany, BadOut}
-use Rattle.imageview.specs.Image.{Image, isImage}
+use Rattle.refusals.specs.declared.Refusal.the-variants.{BadImage, BadSample, BadRadius, BadLimit, BadLength, TooMany, BadOut}
+use Rattle.imageview.specs.Image.{Image, isImage, inRange}
 use Rattle.refine_formulas.specs.declared.SaddlePointConfig.{SaddlePointConfig}
 use Rattle.refine_seed.specs.declared.Spot.{Spot}
 use Rattle.refine_seed.specs.declared.Spot.the-variants.{At, Nowhere}
@@ -25,12 +25,13 @@ use Rattle.refine_fallback.specs.Call.{lentFor, either, passOf, passesBy
 abbrev pub testsOf : Image → SaddlePointConfig → SaddlePointConfig → ℕ → ℕ → ℕ → Tested
 testsOf img one two len room bytes =
     cond (not (isImage img)) (Refused BadImage)
+    (cond (not (inRange img)) (Refused BadSample)
     (cond (not (leb (one .radius) 7 && leb (two .radius) 7)) (Refused BadRadius)
     (cond (not (goodLimits one && goodLimits two)) (Refused BadLimit)
     (cond (not (whole len)) (Refused BadLength)
     (cond (tooMany len) (Refused TooMany)
     (cond (ltb room len || ltb bytes (len / 3)) (Refused BadOut)
-    Good)))))
+    Good))))))
 
 -- ---- the operators
 -- settings that accept no seed, whatever is lent

@@ -20,7 +20,8 @@ enum Tested {
 // Refines the corners, x, y and strength of each, with the first settings, and those that these do not accept with the second ones. Writes those that are accepted, in
 // input order with their own strength, and a byte for each: 1 or 2, which settings it was.
 pub fn refine_corners_on_image_with_fallback(
-    img: &[u8],
+    bytes: &[u8],
+    words: &[u16],
     sizes: Sizes,
     first: SaddlePointConfig,
     second: SaddlePointConfig,
@@ -28,10 +29,11 @@ pub fn refine_corners_on_image_with_fallback(
     out: &mut [f32],
     passes: &mut [u8],
 ) -> Refinements
-    ensures { λ r. ⌜ Done (wayOf (imageOf (now (img .entry)) sizes) first second (now (corners .entry)) (length (now (out .entry))) (length (now (passes .entry)))) (now (out .entry)) (now (passes .entry)) r (now (out .exit)) (now (passes .exit)) ⌝ }
+    ensures { λ r. ⌜ Done (wayOf (imageOf (now (bytes .entry)) (now (words .entry)) sizes) first second (now (corners .entry)) (length (now (out .entry))) (length (now (passes .entry)))) (now (out .entry)) (now (passes .entry)) r (now (out .exit)) (now (passes .exit)) ⌝ }
 {
     let tested = test(
-        img,
+        bytes,
+        words,
         sizes,
         first,
         second,
@@ -42,7 +44,8 @@ pub fn refine_corners_on_image_with_fallback(
     match tested {
         Tested::Refused(refusal) => Refinements::Refused(refusal),
         Tested::Good => Refinements::Refined(walk::refine_both_own(
-            img,
+            bytes,
+            words,
             sizes,
             first,
             second,
@@ -55,7 +58,8 @@ pub fn refine_corners_on_image_with_fallback(
 
 // The same with the columns of both operators lent, whatever they hold.
 pub fn refine_corners_with_columns(
-    img: &[u8],
+    bytes: &[u8],
+    words: &[u16],
     sizes: Sizes,
     first: SaddlePointConfig,
     second: SaddlePointConfig,
@@ -65,10 +69,11 @@ pub fn refine_corners_with_columns(
     out: &mut [f32],
     passes: &mut [u8],
 ) -> Refinements
-    ensures { λ r. ⌜ Done (wayLent (imageOf (now (img .entry)) sizes) first second (now («first_columns» .entry)) (now («second_columns» .entry)) (now (corners .entry)) (length (now (out .entry))) (length (now (passes .entry)))) (now (out .entry)) (now (passes .entry)) r (now (out .exit)) (now (passes .exit)) ⌝ }
+    ensures { λ r. ⌜ Done (wayLent (imageOf (now (bytes .entry)) (now (words .entry)) sizes) first second (now («first_columns» .entry)) (now («second_columns» .entry)) (now (corners .entry)) (length (now (out .entry))) (length (now (passes .entry)))) (now (out .entry)) (now (passes .entry)) r (now (out .exit)) (now (passes .exit)) ⌝ }
 {
     let tested = test(
-        img,
+        bytes,
+        words,
         sizes,
         first,
         second,
@@ -79,7 +84,8 @@ pub fn refine_corners_with_columns(
     match tested {
         Tested::Refused(refusal) => Refinements::Refused(refusal),
         Tested::Good => Refinements::Refined(walk::refine_both(
-            img,
+            bytes,
+            words,
             sizes,
             first,
             second,
@@ -94,18 +100,22 @@ pub fn refine_corners_with_columns(
 
 // The tests in their order, of so many numbers, with so much room for them and so many pass bytes.
 fn test(
-    img: &[u8],
+    bytes: &[u8],
+    words: &[u16],
     sizes: Sizes,
     first: SaddlePointConfig,
     second: SaddlePointConfig,
     len: usize,
     room: usize,
-    bytes: usize,
+    marks: usize,
 ) -> Tested
-    ensures { λ r. ⌜ r ≡ testsOf (imageOf (now (img .entry)) sizes) first second len room bytes ⌝ }
+    ensures { λ r. ⌜ r ≡ testsOf (imageOf (now (bytes .entry)) (now (words .entry)) sizes) first second len room marks ⌝ }
 {
-    if !imageview::is_image(img, sizes) {
+    if !imageview::is_image(bytes, words, sizes) {
         return Tested::Refused(Refusal::BadImage);
+    }
+    if !imageview::in_range(bytes, words, sizes) {
+        return Tested::Refused(Refusal::BadSample);
     }
     if !((first.radius <= 7) & (second.radius <= 7)) {
         return Tested::Refused(Refusal::BadRadius);
@@ -119,7 +129,7 @@ fn test(
     if corners::too_many(len) {
         return Tested::Refused(Refusal::TooMany);
     }
-    if (room < len) | (bytes < len / 3) {
+    if (room < len) | (marks < len / 3) {
         return Tested::Refused(Refusal::BadOut);
     }
     Tested::Good

@@ -25,7 +25,8 @@ struct Tried {
 
 // How many were written, with the operators of both radii.
 pub fn refine_both_own(
-    img: &[u8],
+    bytes: &[u8],
+    words: &[u16],
     sizes: Sizes,
     first: SaddlePointConfig,
     second: SaddlePointConfig,
@@ -33,15 +34,16 @@ pub fn refine_both_own(
     out: &mut [f32],
     passes: &mut [u8],
 ) -> usize
-    requires { ⌜ (length (now corners) ≤ length (now out)) × (length (now corners) / 3 ≤ length (now passes)) ⌝ ∗ ⌜ Ready (imageOf (now img) sizes) first ⌝ ∗ ⌜ Ready (imageOf (now img) sizes) second ⌝ }
-    ensures { λ n. ⌜ Walked (spotFor (imageOf (now (img .entry)) sizes) first (now (corners .entry))) (spotFor (imageOf (now (img .entry)) sizes) second (now (corners .entry))) (now (corners .entry)) (now (out .entry)) (now (passes .entry)) n (now (out .exit)) (now (passes .exit)) ⌝ }
+    requires { ⌜ (length (now corners) ≤ length (now out)) × (length (now corners) / 3 ≤ length (now passes)) ⌝ ∗ ⌜ Ready (imageOf (now bytes) (now words) sizes) first ⌝ ∗ ⌜ Ready (imageOf (now bytes) (now words) sizes) second ⌝ }
+    ensures { λ n. ⌜ Walked (spotFor (imageOf (now (bytes .entry)) (now (words .entry)) sizes) first (now (corners .entry))) (spotFor (imageOf (now (bytes .entry)) (now (words .entry)) sizes) second (now (corners .entry))) (now (corners .entry)) (now (out .entry)) (now (passes .entry)) n (now (out .exit)) (now (passes .exit)) ⌝ }
 {
     let mut first_columns = [0.0f32; 1125];
     let mut second_columns = [0.0f32; 1125];
     let one = build(first, &mut first_columns);
     let two = build(second, &mut second_columns);
     refine_both(
-        img,
+        bytes,
+        words,
         sizes,
         one,
         two,
@@ -78,7 +80,8 @@ fn at_zero(cfg: SaddlePointConfig) -> SaddlePointConfig
 
 // How many were written, with columns that are lent.
 pub fn refine_both(
-    img: &[u8],
+    bytes: &[u8],
+    words: &[u16],
     sizes: Sizes,
     first: SaddlePointConfig,
     second: SaddlePointConfig,
@@ -88,8 +91,8 @@ pub fn refine_both(
     out: &mut [f32],
     passes: &mut [u8],
 ) -> usize
-    requires { ⌜ (length (now corners) ≤ length (now out)) × (length (now corners) / 3 ≤ length (now passes)) ⌝ ∗ ⌜ Ready (imageOf (now img) sizes) first ⌝ ∗ ⌜ Ready (imageOf (now img) sizes) second ⌝ }
-    ensures { λ n. ⌜ Walked (lentFor (imageOf (now (img .entry)) sizes) first (now («first_columns» .entry)) (now (corners .entry))) (lentFor (imageOf (now (img .entry)) sizes) second (now («second_columns» .entry)) (now (corners .entry))) (now (corners .entry)) (now (out .entry)) (now (passes .entry)) n (now (out .exit)) (now (passes .exit)) ⌝ }
+    requires { ⌜ (length (now corners) ≤ length (now out)) × (length (now corners) / 3 ≤ length (now passes)) ⌝ ∗ ⌜ Ready (imageOf (now bytes) (now words) sizes) first ⌝ ∗ ⌜ Ready (imageOf (now bytes) (now words) sizes) second ⌝ }
+    ensures { λ n. ⌜ Walked (lentFor (imageOf (now (bytes .entry)) (now (words .entry)) sizes) first (now («first_columns» .entry)) (now (corners .entry))) (lentFor (imageOf (now (bytes .entry)) (now (words .entry)) sizes) second (now («second_columns» .entry)) (now (corners .entry))) (now (corners .entry)) (now (out .entry)) (now (passes .entry)) n (now (out .exit)) (now (passes .exit)) ⌝ }
 {
     let n = corners.len() / 3;
     let mut flat = [0.0f32; 40];
@@ -101,7 +104,8 @@ pub fn refine_both(
     let mut i = 0;
     while i < n {
         let spot = spot_at(
-            img,
+            bytes,
+            words,
             sizes,
             first,
             first_columns,
@@ -112,7 +116,8 @@ pub fn refine_both(
         );
         held = i / 4;
         let tried = try_again(
-            img,
+            bytes,
+            words,
             sizes,
             second,
             second_columns,
@@ -133,7 +138,8 @@ pub fn refine_both(
 
 // A spot of the first settings as it is, and else that of the second ones.
 fn try_again(
-    img: &[u8],
+    bytes: &[u8],
+    words: &[u16],
     sizes: Sizes,
     cfg: SaddlePointConfig,
     columns: &[f32; 1125],
@@ -143,9 +149,9 @@ fn try_again(
     held: usize,
     flat: &mut [f32; 40],
 ) -> Tried
-    requires { ⌜ i < length (now corners) / 3 ⌝ ∗ ⌜ Ready (imageOf (now img) sizes) cfg ⌝ ∗ ⌜ Held (imageOf (now img) sizes) cfg (now columns) (now corners) held (now flat) ⌝ }
-    ensures { λ r. ⌜ Tries spot (lentFor (imageOf (now (img .entry)) sizes) cfg (now (columns .entry)) (now (corners .entry)) i) (r .spot) (r .pass) ⌝ }
-    ensures { λ r. ⌜ Held (imageOf (now (img .entry)) sizes) cfg (now (columns .entry)) (now (corners .entry)) (r .held) (now (flat .exit)) ⌝ }
+    requires { ⌜ i < length (now corners) / 3 ⌝ ∗ ⌜ Ready (imageOf (now bytes) (now words) sizes) cfg ⌝ ∗ ⌜ Held (imageOf (now bytes) (now words) sizes) cfg (now columns) (now corners) held (now flat) ⌝ }
+    ensures { λ r. ⌜ Tries spot (lentFor (imageOf (now (bytes .entry)) (now (words .entry)) sizes) cfg (now (columns .entry)) (now (corners .entry)) i) (r .spot) (r .pass) ⌝ }
+    ensures { λ r. ⌜ Held (imageOf (now (bytes .entry)) (now (words .entry)) sizes) cfg (now (columns .entry)) (now (corners .entry)) (r .held) (now (flat .exit)) ⌝ }
 {
     match spot {
         Spot::At { x: _, y: _ } => Tried {
@@ -154,7 +160,7 @@ fn try_again(
             held,
         },
         Spot::Nowhere => {
-            let again = spot_at(img, sizes, cfg, columns, corners, i, held, flat);
+            let again = spot_at(bytes, words, sizes, cfg, columns, corners, i, held, flat);
             Tried {
                 spot: again,
                 pass: 2,
@@ -166,7 +172,8 @@ fn try_again(
 
 // The spot of the seed number i. The first fits of its group are worked out where those that are held are another's.
 fn spot_at(
-    img: &[u8],
+    bytes: &[u8],
+    words: &[u16],
     sizes: Sizes,
     cfg: SaddlePointConfig,
     columns: &[f32; 1125],
@@ -175,16 +182,17 @@ fn spot_at(
     held: usize,
     flat: &mut [f32; 40],
 ) -> Spot
-    requires { ⌜ i < length (now corners) / 3 ⌝ ∗ ⌜ Ready (imageOf (now img) sizes) cfg ⌝ ∗ ⌜ Held (imageOf (now img) sizes) cfg (now columns) (now corners) held (now flat) ⌝ }
-    ensures { λ r. ⌜ r ≡ lentFor (imageOf (now (img .entry)) sizes) cfg (now (columns .entry)) (now (corners .entry)) i ⌝ }
-    ensures { λ _. ⌜ FirstFits (imageOf (now (img .entry)) sizes) cfg (now (columns .entry)) (now (corners .entry)) (i / 4) (now (flat .exit)) ⌝ }
+    requires { ⌜ i < length (now corners) / 3 ⌝ ∗ ⌜ Ready (imageOf (now bytes) (now words) sizes) cfg ⌝ ∗ ⌜ Held (imageOf (now bytes) (now words) sizes) cfg (now columns) (now corners) held (now flat) ⌝ }
+    ensures { λ r. ⌜ r ≡ lentFor (imageOf (now (bytes .entry)) (now (words .entry)) sizes) cfg (now (columns .entry)) (now (corners .entry)) i ⌝ }
+    ensures { λ _. ⌜ FirstFits (imageOf (now (bytes .entry)) (now (words .entry)) sizes) cfg (now (columns .entry)) (now (corners .entry)) (i / 4) (now (flat .exit)) ⌝ }
 {
     if held != i / 4 {
-        list::first_fits(img, sizes, cfg, columns, corners, i / 4, flat);
+        list::first_fits(bytes, words, sizes, cfg, columns, corners, i / 4, flat);
     }
     let here = laid::coefs_at(flat, i % 4);
     refine_seed::spot_with(
-        img,
+        bytes,
+        words,
         sizes,
         cfg,
         corners[3 * i],

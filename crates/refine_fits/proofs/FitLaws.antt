@@ -7,14 +7,14 @@ use native.Mathlib.Numerals.{add-one}
 use native.Mathlib.Omega.{arith}
 use lib.Arith.{digits-div, digits-mod}
 use lib.IntN.{pos}
-use lib.ListN.{length, getD, take, drop, length-drop}
-use lib.Seq.{getD-take, getD-drop, length-take-le}
+use lib.ListN.{length, getD, take, drop}
+use lib.Seq.{getD-take, getD-drop}
 use lib.Ieee.{Float, binary32, ofInt}
 use Rattle.shapes.specs.Numbers.{plusZero, entry}
 use Rattle.shapes.specs.Turns.{turns}
 use Rattle.shapes.specs.Lists.{tabulated}
 use Rattle.imageview.specs.Image.{Image, pixel}
-use Rattle.imageview.proofs.ImageLaws.{index}
+use Rattle.imageview.proofs.ImageLaws.{index, run-count}
 use Rattle.refine_operator.specs.Basis.{side, samples}
 use Rattle.refine_fits.specs.declared.Sums.{Sums}
 use Rattle.refine_formulas.specs.Numbers.{_⊕_, _⊖_, _⊗_}
@@ -94,12 +94,12 @@ pub sums-none : (img : Image) (columns : List Float) (radius x y : ℕ) → reco
 unfolding turns
 sums-none img columns radius x y = ap (λ (n : ℕ). sumsOf img columns radius x y n) (sym (zero-mul (side radius)))
 
-pub row-done : (img : Image) (columns : List Float) (radius x y row : ℕ) (part : List ℕ) (centre : Float) (s r : Sums) → s ≡ sumsOf img columns radius x y (row * side radius) → part ≡ take (side radius) (drop ((y - radius + row) * img .pitch + (x - radius)) (img .samples)) → length part ≡ side radius → centre ≡ sampleOf img radius x y (samples radius / 2) → r ≡ rowAdded columns part centre (row * side radius) (length part) s → r ≡ sumsOf img columns radius x y ((row + 1) * side radius)
-row-done img columns radius x y row part centre s r e p l c q =
+pub row-done : (img : Image) (columns : List Float) (radius x y row : ℕ) (centre : Float) (s r : Sums) → s ≡ sumsOf img columns radius x y (row * side radius) → centre ≡ sampleOf img radius x y (samples radius / 2) → r ≡ rowAdded columns (take (side radius) (drop ((y - radius + row) * img .pitch + (x - radius)) (img .samples))) centre (row * side radius) (side radius) s → r ≡ sumsOf img columns radius x y ((row + 1) * side radius)
+row-done img columns radius x y row centre s r e c q =
+    let part = take (side radius) (drop ((y - radius + row) * img .pitch + (x - radius)) (img .samples)) in
     q
-    ∙ ap (λ (n : ℕ). rowAdded columns part centre (row * side radius) n s) l
     ∙ ap (λ (t : Sums). rowAdded columns part centre (row * side radius) (side radius) t) e
-    ∙ along-row img columns radius x y row (side radius) part centre p c (le-refl (side radius))
+    ∙ along-row img columns radius x y row (side radius) part centre refl c (le-refl (side radius))
     ∙ ap (λ (n : ℕ). sumsOf img columns radius x y n) (sym (add-mul row 1 (side radius) ∙ ap (λ (n : ℕ). row * side radius + n) (one-mul (side radius))))
 
 pub all-rows : (img : Image) (columns : List Float) (radius x y row : ℕ) (s : Sums) → row ≡ side radius → s ≡ sumsOf img columns radius x y (row * side radius) → s .a ∷ s .b ∷ s .c ∷ s .d ∷ s .e ∷ [] ≡ coefficients img columns radius x y
@@ -121,6 +121,20 @@ row-within img radius x y row w h =
 pub centre-within : (img : Image) (radius x y : ℕ) → PatchWithin img radius x y → y * img .pitch + x < length (img .samples)
 centre-within img radius x y w = omega (arith, index img (w .sound .image) x y 1 (omega (arith, w .right)) (omega (arith, w .below)))
 
--- a row of the patch is whole
-pub part-length : (img : Image) (from count : ℕ) (part : List ℕ) → from + count ≤ length (img .samples) → part ≡ take count (drop from (img .samples)) → length part ≡ count
-part-length img from count part h e = ap length e ∙ length-take-le count (drop from (img .samples)) (subst (λ (n : ℕ). count ≤ n) (sym (length-drop from (img .samples))) (omega arith))
+-- ---- a row as a part of the list that the samples are: it is whole, and its sums are those of the samples
+module _ (samples list : List ℕ) (same : samples ≡ list) (at count : ℕ) (inside : at + count ≤ length samples) where
+  pub part-inside : at + count ≤ length list
+  part-inside = subst (λ (l : List ℕ). at + count ≤ length l) same inside
+
+  module _ (part : List ℕ) (is : part ≡ take count (drop at list)) where
+    part-length : length part ≡ count
+    part-length = ap length is ∙ run-count list at count count refl part-inside
+
+    pub part-below : (from : ℕ) → from + count ≤ 225 → from + length part ≤ 225
+    part-below from h = subst (λ (n : ℕ). from + n ≤ 225) (sym part-length) h
+
+    pub part-added : (columns : List Float) (centre : Float) (from : ℕ) (s r : Sums) → r ≡ rowAdded columns part centre from (length part) s → r ≡ rowAdded columns (take count (drop at samples)) centre from count s
+    part-added columns centre from s r q =
+        q
+        ∙ ap (λ (n : ℕ). rowAdded columns part centre from n s) part-length
+        ∙ ap (λ (l : List ℕ). rowAdded columns l centre from count s) (is ∙ ap (λ (l : List ℕ). take count (drop at l)) (sym same))

@@ -15,15 +15,16 @@ impl IntegerFits {
     // The coefficients of the fit about (x, y), kept or worked out.
     pub fn at(
         mut self,
-        img: &[u8],
+        bytes: &[u8],
+        words: &[u16],
         sizes: Sizes,
         x: usize,
         y: usize,
         radius: usize,
         columns: &[f32; 1125],
     ) -> Looked
-        requires { ⌜ PatchWithin (imageOf (now img) sizes) radius x y ⌝ ∗ ⌜ Kept (imageOf (now img) sizes) (now columns) radius self ⌝ }
-        ensures { λ r. ⌜ Found (imageOf (now (img .entry)) sizes) (now (columns .entry)) radius x y r ⌝ }
+        requires { ⌜ PatchWithin (imageOf (now bytes) (now words) sizes) radius x y ⌝ ∗ ⌜ Kept (imageOf (now bytes) (now words) sizes) (now columns) radius self ⌝ }
+        ensures { λ r. ⌜ Found (imageOf (now (bytes .entry)) (now (words .entry)) sizes) (now (columns .entry)) radius x y r ⌝ }
     {
         let centre_x = x as u16;
         let centre_y = y as u16;
@@ -35,7 +36,7 @@ impl IntegerFits {
                 fits: self,
             };
         }
-        let coefs = fits::fit_patch(img, sizes, x, y, radius, columns);
+        let coefs = fits::fit_patch(bytes, words, sizes, x, y, radius, columns);
         let oldest = len % 9;
         name_slot(&mut self.centres, oldest, centre_x, centre_y);
         fill_slot(&mut self.coefs, oldest, coefs);
@@ -46,15 +47,16 @@ impl IntegerFits {
     // The four fits about (x, y), one after the other.
     pub fn look(
         self,
-        img: &[u8],
+        bytes: &[u8],
+        words: &[u16],
         sizes: Sizes,
         x: usize,
         y: usize,
         radius: usize,
         columns: &[f32; 1125],
     ) -> Around
-        requires { ⌜ FourWithin (imageOf (now img) sizes) radius x y ⌝ ∗ ⌜ Kept (imageOf (now img) sizes) (now columns) radius self ⌝ }
-        ensures { λ r. ⌜ Surrounds (imageOf (now (img .entry)) sizes) (now (columns .entry)) radius x y r ⌝ }
+        requires { ⌜ FourWithin (imageOf (now bytes) (now words) sizes) radius x y ⌝ ∗ ⌜ Kept (imageOf (now bytes) (now words) sizes) (now columns) radius self ⌝ }
+        ensures { λ r. ⌜ Surrounds (imageOf (now (bytes .entry)) (now (words .entry)) sizes) (now (columns .entry)) radius x y r ⌝ }
     {
         let mut fits = self;
         let mut c00 = [0.0f32; 5];
@@ -63,7 +65,7 @@ impl IntegerFits {
         let mut c11 = [0.0f32; 5];
         let mut k: usize = 0;
         while k < 4 {
-            let found = fits.at(img, sizes, x + k % 2, y + k / 2, radius, columns);
+            let found = fits.at(bytes, words, sizes, x + k % 2, y + k / 2, radius, columns);
             fits = found.fits;
             // each fit comes in at the end and moves up, so that the first of four is c00
             c00 = c10;

@@ -4,8 +4,8 @@ use imageview::Sizes;
 use refine_patch::Firsts;
 ghost use mathlib.Core.Path.{_≡_};
 ghost use Prim.Native.Nat.{_+_, _*_, _<_, _≤_};
-ghost use lib.ListN.{length};
-ghost use Rattle.imageview.specs.Image.{imageOf};
+ghost use lib.ListN.{length, take, drop};
+ghost use Rattle.imageview.specs.Image.{imageOf, samplesOf};
 ghost use Rattle.refine_fits.specs.Fit.{coefficients};
 ghost use Rattle.refine_fits.specs.StepsAdding.{added, rowAdded, PatchWithin, FourWithin};
 ghost use Rattle.refine_fits.specs.StepsBases.{firstPlace, Laid};
@@ -39,20 +39,60 @@ fn add_row(s: Sums, columns: &[f32; 1125], row: &[u8], centre: f32, from: usize)
     sums
 }
 
+// The same of a row of words.
+fn add_row_deep(s: Sums, columns: &[f32; 1125], row: &[u16], centre: f32, from: usize) -> Sums
+    requires { ⌜ from + length (now row) ≤ 225 ⌝ }
+    ensures { λ r. ⌜ r ≡ rowAdded (now (columns .entry)) (now (row .entry)) centre from (length (now (row .entry))) s ⌝ }
+{
+    let mut sums = s;
+    let mut i: usize = 0;
+    while i < row.len() {
+        sums = add_sample(sums, columns, from + i, row[i] as f32 - centre);
+        i += 1;
+    }
+    sums
+}
+
+// The sums with the `side` samples from column x of row y on, of the image's depth.
+fn add_patch_row(
+    bytes: &[u8],
+    words: &[u16],
+    sizes: Sizes,
+    s: Sums,
+    columns: &[f32; 1125],
+    x: usize,
+    y: usize,
+    side: usize,
+    centre: f32,
+    from: usize,
+) -> Sums
+    requires { ⌜ y * sizes .pitch + x + side ≤ length (samplesOf (now bytes) (now words) (sizes .deep)) ⌝ }
+    requires { ⌜ from + side ≤ 225 ⌝ }
+    ensures { λ r. ⌜ r ≡ rowAdded (now (columns .entry)) (take side (drop (y * sizes .pitch + x) (samplesOf (now (bytes .entry)) (now (words .entry)) (sizes .deep)))) centre from side s ⌝ }
+{
+    if sizes.deep {
+        let row = imageview::patch_row_deep(words, sizes.pitch, x, y, side);
+        return add_row_deep(s, columns, row, centre, from);
+    }
+    let row = imageview::patch_row(bytes, sizes.pitch, x, y, side);
+    add_row(s, columns, row, centre, from)
+}
+
 // The coefficients a to e of the fit about the pixel (x, y).
 pub fn fit_patch(
-    img: &[u8],
+    bytes: &[u8],
+    words: &[u16],
     sizes: Sizes,
     x: usize,
     y: usize,
     radius: usize,
     columns: &[f32; 1125],
 ) -> [f32; 5]
-    requires { ⌜ PatchWithin (imageOf (now img) sizes) radius x y ⌝ }
-    ensures { λ r. ⌜ r ≡ coefficients (imageOf (now (img .entry)) sizes) (now (columns .entry)) radius x y ⌝ }
+    requires { ⌜ PatchWithin (imageOf (now bytes) (now words) sizes) radius x y ⌝ }
+    ensures { λ r. ⌜ r ≡ coefficients (imageOf (now (bytes .entry)) (now (words .entry)) sizes) (now (columns .entry)) radius x y ⌝ }
 {
     let side = 2 * radius + 1;
-    let centre = imageview::sample(img, sizes, x, y) as f32;
+    let centre = imageview::sample(bytes, words, sizes, x, y) as f32;
     let mut sums = Sums {
         a: 0.0,
         b: 0.0,
@@ -62,14 +102,24 @@ pub fn fit_patch(
     };
     let mut row: usize = 0;
     while row < side {
-        let part = imageview::patch_row(img, sizes.pitch, x - radius, y - radius + row, side);
-        sums = add_row(sums, columns, part, centre, row * side);
+        sums = add_patch_row(
+            bytes,
+            words,
+            sizes,
+            sums,
+            columns,
+            x - radius,
+            y - radius + row,
+            side,
+            centre,
+            row * side,
+        );
         row += 1;
     }
     [sums.a, sums.b, sums.c, sums.d, sums.e]
 }
 
-// Where the patch about (x, y) begins in the image's bytes.
+// Where the patch about (x, y) begins in the image's samples.
 pub fn first_place(sizes: Sizes, x: usize, y: usize, radius: usize) -> usize
     requires { ⌜ (radius ≤ x) × (radius ≤ y) × (x ≤ 4096) × (y ≤ 4096) × (sizes .pitch ≤ 8192) ⌝ }
     ensures { λ r. ⌜ r ≡ firstPlace (sizes .pitch) radius x y ⌝ }
@@ -79,7 +129,8 @@ pub fn first_place(sizes: Sizes, x: usize, y: usize, radius: usize) -> usize
 
 // The four fits about the base (x, y), to `flat` from `to` on.
 pub fn fit_about(
-    img: &[u8],
+    bytes: &[u8],
+    words: &[u16],
     sizes: Sizes,
     x: usize,
     y: usize,
@@ -88,8 +139,8 @@ pub fn fit_about(
     flat: &mut [f32; 40],
     to: usize,
 )
-    requires { ⌜ FourWithin (imageOf (now img) sizes) radius x y ⌝ ∗ ⌜ (length (now flat) ≡ 40) × (to ≤ 20) ⌝ }
-    ensures { λ _. ⌜ Laid (imageOf (now (img .entry)) sizes) (now (columns .entry)) radius x y to (now (flat .entry)) (now (flat .exit)) ⌝ }
+    requires { ⌜ FourWithin (imageOf (now bytes) (now words) sizes) radius x y ⌝ ∗ ⌜ (length (now flat) ≡ 40) × (to ≤ 20) ⌝ }
+    ensures { λ _. ⌜ Laid (imageOf (now (bytes .entry)) (now (words .entry)) sizes) (now (columns .entry)) radius x y to (now (flat .entry)) (now (flat .exit)) ⌝ }
 {
     let pitch = sizes.pitch;
     let at = first_place(sizes, x, y, radius);
@@ -99,5 +150,15 @@ pub fn fit_about(
         c: at + pitch,
         d: at + pitch + 1,
     };
-    refine_patch::fit_four(img, pitch, columns, radius, firsts, flat, to);
+    refine_patch::fit_four(
+        bytes,
+        words,
+        sizes.deep,
+        pitch,
+        columns,
+        radius,
+        firsts,
+        flat,
+        to,
+    );
 }

@@ -34,15 +34,16 @@ impl Bases {
     // Sees to it that the four fits about a window's base stand in `flat`, where all four patches lie in the image.
     pub fn ready(
         self,
-        img: &[u8],
+        bytes: &[u8],
+        words: &[u16],
         sizes: Sizes,
         w: Window,
         radius: usize,
         columns: &[f32; 1125],
         flat: &mut [f32; 40],
     ) -> Ready
-        requires { ⌜ Sound (imageOf (now img) sizes) radius ⌝ ∗ ⌜ Held (imageOf (now img) sizes) (now columns) radius self (now flat) ⌝ ∗ ⌜ (w .«base_x» ≤ 8192) × (w .«base_y» ≤ 8192) ⌝ }
-        ensures { λ r. ⌜ Prepares (imageOf (now (img .entry)) sizes) (now (columns .entry)) radius (w .«base_x») (w .«base_y») r (now (flat .exit)) ⌝ }
+        requires { ⌜ Sound (imageOf (now bytes) (now words) sizes) radius ⌝ ∗ ⌜ Held (imageOf (now bytes) (now words) sizes) (now columns) radius self (now flat) ⌝ ∗ ⌜ (w .«base_x» ≤ 8192) × (w .«base_y» ≤ 8192) ⌝ }
+        ensures { λ r. ⌜ Prepares (imageOf (now (bytes .entry)) (now (words .entry)) sizes) (now (columns .entry)) radius (w .«base_x») (w .«base_y») r (now (flat .exit)) ⌝ }
     {
         if !has_room(sizes, w.base_x, w.base_y, radius) {
             return self.at(false, 0);
@@ -53,13 +54,23 @@ impl Bases {
         if (self.x1 == w.base_x) & (self.y1 == w.base_y) {
             return self.at(true, 20);
         }
-        self.add(img, sizes, w.base_x, w.base_y, radius, columns, flat)
+        self.add(
+            bytes,
+            words,
+            sizes,
+            w.base_x,
+            w.base_y,
+            radius,
+            columns,
+            flat,
+        )
     }
 
     // A base that is neither: the fits of the first two are worked out at once.
     fn add(
         self,
-        img: &[u8],
+        bytes: &[u8],
+        words: &[u16],
         sizes: Sizes,
         x: usize,
         y: usize,
@@ -67,8 +78,8 @@ impl Bases {
         columns: &[f32; 1125],
         flat: &mut [f32; 40],
     ) -> Ready
-        requires { ⌜ FourWithin (imageOf (now img) sizes) radius x y ⌝ ∗ ⌜ Held (imageOf (now img) sizes) (now columns) radius self (now flat) ⌝ }
-        ensures { λ r. ⌜ Prepares (imageOf (now (img .entry)) sizes) (now (columns .entry)) radius x y r (now (flat .exit)) ⌝ }
+        requires { ⌜ FourWithin (imageOf (now bytes) (now words) sizes) radius x y ⌝ ∗ ⌜ Held (imageOf (now bytes) (now words) sizes) (now columns) radius self (now flat) ⌝ }
+        ensures { λ r. ⌜ Prepares (imageOf (now (bytes .entry)) (now (words .entry)) sizes) (now (columns .entry)) radius x y r (now (flat .exit)) ⌝ }
     {
         if self.x1 < 8192 {
             return Ready {
@@ -79,10 +90,10 @@ impl Bases {
             };
         }
         if self.x0 < 8192 {
-            fits::fit_about(img, sizes, x, y, radius, columns, flat, 20);
+            fits::fit_about(bytes, words, sizes, x, y, radius, columns, flat, 20);
             return self.ending(x, y).at(true, 20);
         }
-        fits::fit_about(img, sizes, x, y, radius, columns, flat, 0);
+        fits::fit_about(bytes, words, sizes, x, y, radius, columns, flat, 0);
         self.beginning(x, y).at(true, 0)
     }
 
@@ -127,17 +138,18 @@ impl IntegerFits {
     // Lays the four fits about the base of a window, a further one, last, each kept or worked out.
     pub fn lay(
         self,
-        img: &[u8],
+        bytes: &[u8],
+        words: &[u16],
         sizes: Sizes,
         w: Window,
         radius: usize,
         columns: &[f32; 1125],
         flat: &mut [f32; 40],
     ) -> IntegerFits
-        requires { ⌜ FourWithin (imageOf (now img) sizes) radius (w .«base_x») (w .«base_y») ⌝ ∗ ⌜ Kept (imageOf (now img) sizes) (now columns) radius self ⌝ ∗ ⌜ length (now flat) ≡ 40 ⌝ }
-        ensures { λ r. ⌜ Relays (imageOf (now (img .entry)) sizes) (now (columns .entry)) radius (w .«base_x») (w .«base_y») (now (flat .entry)) (now (flat .exit)) r ⌝ }
+        requires { ⌜ FourWithin (imageOf (now bytes) (now words) sizes) radius (w .«base_x») (w .«base_y») ⌝ ∗ ⌜ Kept (imageOf (now bytes) (now words) sizes) (now columns) radius self ⌝ ∗ ⌜ length (now flat) ≡ 40 ⌝ }
+        ensures { λ r. ⌜ Relays (imageOf (now (bytes .entry)) (now (words .entry)) sizes) (now (columns .entry)) radius (w .«base_x») (w .«base_y») (now (flat .entry)) (now (flat .exit)) r ⌝ }
     {
-        let around = self.look(img, sizes, w.base_x, w.base_y, radius, columns);
+        let around = self.look(bytes, words, sizes, w.base_x, w.base_y, radius, columns);
         let corners = around.corners;
         let next = around.fits;
         refine_patch::lay_four(flat, 20, side_by_side(corners));

@@ -8,13 +8,13 @@ use lib.ListN.{length, drop}
 use lib.Ieee.{Float}
 use borrow.Author.Tests.{le-leb, lt-leb, lt-ltb, le-ltb}
 use Rattle.corners.specs.Corners.{whole, tooMany}
-use Rattle.imageview.specs.Image.{Image, isImage}
+use Rattle.imageview.specs.Image.{Image, isImage, inRange}
 use Rattle.refine_formulas.specs.declared.SaddlePointConfig.{SaddlePointConfig}
 use Rattle.refine_seed.specs.Refine.{goodLimits}
 use Rattle.refine_list.specs.declared.Refinements.{Refinements}
 use Rattle.refine_list.specs.declared.Refinements.the-variants.{Refined, Refused}
 use Rattle.refusals.specs.declared.Refusal.{Refusal}
-use Rattle.refusals.specs.declared.Refusal.the-variants.{BadImage, BadRadius, BadLimit, BadLength, TooMany, BadOut}
+use Rattle.refusals.specs.declared.Refusal.the-variants.{BadImage, BadSample, BadRadius, BadLimit, BadLength, TooMany, BadOut}
 use Rattle.refine_list.specs.Refining.{recordsOf, Way, refused, wrote, wayOf, answerOf, outAfter, Done}
 use Rattle.refine_list.specs.Steps.{AllWritten}
 
@@ -28,20 +28,23 @@ module _ (img : Image) (cfg : SaddlePointConfig) (corners out : List Float) wher
   abbrev last : Way
   last = wrote (recordsOf img cfg corners (length corners / 3))
 
+  abbrev seventh : Way
+  seventh = cond (ltb (length out) (length corners)) (refused BadOut) last
+
   abbrev sixth : Way
-  sixth = cond (ltb (length out) (length corners)) (refused BadOut) last
+  sixth = cond (tooMany (length corners)) (refused TooMany) seventh
 
   abbrev fifth : Way
-  fifth = cond (tooMany (length corners)) (refused TooMany) sixth
+  fifth = cond (not (whole (length corners))) (refused BadLength) sixth
 
   abbrev fourth : Way
-  fourth = cond (not (whole (length corners))) (refused BadLength) fifth
+  fourth = cond (not (goodLimits cfg)) (refused BadLimit) fifth
 
   abbrev third : Way
-  third = cond (not (goodLimits cfg)) (refused BadLimit) fourth
+  third = cond (not (leb (cfg .radius) 7)) (refused BadRadius) fourth
 
   abbrev second : Way
-  second = cond (not (leb (cfg .radius) 7)) (refused BadRadius) third
+  second = cond (not (inRange img)) (refused BadSample) third
 
   abbrev way : Way
   way = wayOf img cfg corners (length out)
@@ -62,38 +65,45 @@ module _ (img : Image) (cfg : SaddlePointConfig) (corners out : List Float) wher
   bad-image h = refuses BadImage (first-no h)
 
   module _ (i : isImage img ≡ true) where
-    pub bad-radius : 7 < cfg .radius → Done img cfg corners out (Refused BadRadius) out
-    bad-radius h = refuses BadRadius (first-yes i ∙ stops (not (leb (cfg .radius) 7)) (refused BadRadius) third (ap not (lt-leb (cfg .radius) 7 h)))
+    pub bad-sample : inRange img ≡ false → Done img cfg corners out (Refused BadSample) out
+    bad-sample h = refuses BadSample (first-yes i ∙ stops (not (inRange img)) (refused BadSample) third (ap not h))
 
-    module _ (r : cfg .radius ≤ 7) where
+    module _ (g : inRange img ≡ true) where
       to-third : way ≡ third
-      to-third = first-yes i ∙ goes (not (leb (cfg .radius) 7)) (refused BadRadius) third (ap not (le-leb (cfg .radius) 7 r))
+      to-third = first-yes i ∙ goes (not (inRange img)) (refused BadSample) third (ap not g)
 
-      pub bad-limit : goodLimits cfg ≡ false → Done img cfg corners out (Refused BadLimit) out
-      bad-limit h = refuses BadLimit (to-third ∙ stops (not (goodLimits cfg)) (refused BadLimit) fourth (ap not h))
+      pub bad-radius : 7 < cfg .radius → Done img cfg corners out (Refused BadRadius) out
+      bad-radius h = refuses BadRadius (to-third ∙ stops (not (leb (cfg .radius) 7)) (refused BadRadius) fourth (ap not (lt-leb (cfg .radius) 7 h)))
 
-      module _ (l : goodLimits cfg ≡ true) where
+      module _ (r : cfg .radius ≤ 7) where
         to-fourth : way ≡ fourth
-        to-fourth = to-third ∙ goes (not (goodLimits cfg)) (refused BadLimit) fourth (ap not l)
+        to-fourth = to-third ∙ goes (not (leb (cfg .radius) 7)) (refused BadRadius) fourth (ap not (le-leb (cfg .radius) 7 r))
 
-        pub bad-length : whole (length corners) ≡ false → Done img cfg corners out (Refused BadLength) out
-        bad-length h = refuses BadLength (to-fourth ∙ stops (not (whole (length corners))) (refused BadLength) fifth (ap not h))
+        pub bad-limit : goodLimits cfg ≡ false → Done img cfg corners out (Refused BadLimit) out
+        bad-limit h = refuses BadLimit (to-fourth ∙ stops (not (goodLimits cfg)) (refused BadLimit) fifth (ap not h))
 
-        module _ (w : whole (length corners) ≡ true) where
+        module _ (l : goodLimits cfg ≡ true) where
           to-fifth : way ≡ fifth
-          to-fifth = to-fourth ∙ goes (not (whole (length corners))) (refused BadLength) fifth (ap not w)
+          to-fifth = to-fourth ∙ goes (not (goodLimits cfg)) (refused BadLimit) fifth (ap not l)
 
-          pub too-many : tooMany (length corners) ≡ true → Done img cfg corners out (Refused TooMany) out
-          too-many h = refuses TooMany (to-fifth ∙ stops (tooMany (length corners)) (refused TooMany) sixth h)
+          pub bad-length : whole (length corners) ≡ false → Done img cfg corners out (Refused BadLength) out
+          bad-length h = refuses BadLength (to-fifth ∙ stops (not (whole (length corners))) (refused BadLength) sixth (ap not h))
 
-          module _ (f : tooMany (length corners) ≡ false) where
+          module _ (w : whole (length corners) ≡ true) where
             to-sixth : way ≡ sixth
-            to-sixth = to-fifth ∙ goes (tooMany (length corners)) (refused TooMany) sixth f
+            to-sixth = to-fifth ∙ goes (not (whole (length corners))) (refused BadLength) sixth (ap not w)
 
-            pub bad-out : length out < length corners → Done img cfg corners out (Refused BadOut) out
-            bad-out h = refuses BadOut (to-sixth ∙ stops (ltb (length out) (length corners)) (refused BadOut) last (lt-ltb (length out) (length corners) h))
+            pub too-many : tooMany (length corners) ≡ true → Done img cfg corners out (Refused TooMany) out
+            too-many h = refuses TooMany (to-sixth ∙ stops (tooMany (length corners)) (refused TooMany) seventh h)
 
-            pub refined : length corners ≤ length out → (n : ℕ) (out' : List Float) → AllWritten img cfg corners out n out' → Done img cfg corners out (Refined (n / 3)) out'
-            refined h n out' d =
-                let e : way ≡ last = to-sixth ∙ goes (ltb (length out) (length corners)) (refused BadOut) last (le-ltb (length out) (length corners) h) in
-                record { answers = ap (λ (k : ℕ). Refined (k / 3)) (d .count) ∙ sym (ap answerOf e); leaves = d .leaves ∙ sym (ap (outAfter out) e) }
+            module _ (f : tooMany (length corners) ≡ false) where
+              to-seventh : way ≡ seventh
+              to-seventh = to-sixth ∙ goes (tooMany (length corners)) (refused TooMany) seventh f
+
+              pub bad-out : length out < length corners → Done img cfg corners out (Refused BadOut) out
+              bad-out h = refuses BadOut (to-seventh ∙ stops (ltb (length out) (length corners)) (refused BadOut) last (lt-ltb (length out) (length corners) h))
+
+              pub refined : length corners ≤ length out → (n : ℕ) (out' : List Float) → AllWritten img cfg corners out n out' → Done img cfg corners out (Refined (n / 3)) out'
+              refined h n out' d =
+                  let e : way ≡ last = to-seventh ∙ goes (ltb (length out) (length corners)) (refused BadOut) last (le-ltb (length out) (length corners) h) in
+                  record { answers = ap (λ (k : ℕ). Refined (k / 3)) (d .count) ∙ sym (ap answerOf e); leaves = d .leaves ∙ sym (ap (outAfter out) e) }

@@ -8,9 +8,10 @@ use lib.ListN.{length}
 use lib.Ieee.{Float}
 use Rattle.shapes.specs.Numbers.{entry}
 use Rattle.corners.specs.Corners.{whole, tooMany}
-use Rattle.refusals.specs.declared.Refusal.the-variants.{BadImage, BadRadius, BadLimit, BadLength, TooMany, BadOut}
-use Rattle.imageview.specs.Image.{Image, isImage}
+use Rattle.refusals.specs.declared.Refusal.the-variants.{BadImage, BadSample, BadRadius, BadLimit, BadLength, TooMany, BadOut}
+use Rattle.imageview.specs.Image.{Image, isImage, inRange}
 use Rattle.imageview.specs.Same.{SamePixels, unpadded}
+use Rattle.imageview.proofs.SameLaws.{range-alike}
 use Rattle.imageview.proofs.Unpadded.{shows-unpadded}
 use Rattle.refine_formulas.specs.declared.SaddlePointConfig.{SaddlePointConfig}
 use Rattle.refine_seed.specs.declared.Spot.{Spot}
@@ -35,17 +36,20 @@ module _ (a b : Image) (s : SamePixels a b) (cfg : SaddlePointConfig) (corners :
   way-same : (room : ℕ) → wayOf a cfg corners room ≡ wayOf b cfg corners room
   unfolding wayOf
   way-same room =
-      ap (λ (i : Bool). way i (recordsOf a cfg corners (length corners / 3))) (s .image) ∙ ap (λ (l : List Float). way (isImage b) l) (records-same (length corners / 3))
+      ap (λ (i : Bool). way i (inRange a) (recordsOf a cfg corners (length corners / 3))) (s .image)
+      ∙ ap (λ (g : Bool). way (isImage b) g (recordsOf a cfg corners (length corners / 3))) (range-alike a b s)
+      ∙ ap (λ (l : List Float). way (isImage b) (inRange b) l) (records-same (length corners / 3))
     where
-      way : Bool → List Float → Way
-      way i l =
+      way : Bool → Bool → List Float → Way
+      way i g l =
           cond (not i) (refused BadImage)
+          (cond (not g) (refused BadSample)
           (cond (not (leb (cfg .radius) 7)) (refused BadRadius)
           (cond (not (goodLimits cfg)) (refused BadLimit)
           (cond (not (whole (length corners))) (refused BadLength)
           (cond (tooMany (length corners)) (refused TooMany)
           (cond (ltb room (length corners)) (refused BadOut)
-          (wrote l))))))
+          (wrote l)))))))
 
 pub by-pixels : ByPixels
 by-pixels a b s cfg corners room = way-same a b s cfg corners room

@@ -10,9 +10,9 @@ use lib.Ieee.{Float}
 use Rattle.shapes.specs.Numbers.{entry}
 use Rattle.corners.specs.Corners.{whole, tooMany}
 use Rattle.refusals.specs.declared.Refusal.{Refusal}
-use Rattle.refusals.specs.declared.Refusal.the-variants.{BadImage, BadRadius, BadLimit, BadLength, TooMany, BadOut}
+use Rattle.refusals.specs.declared.Refusal.the-variants.{BadImage, BadSample, BadRadius, BadLimit, BadLength, TooMany, BadOut}
 use Rattle.refusals.specs.Numbers as Refusals
-use Rattle.imageview.specs.Image.{Image, isImage}
+use Rattle.imageview.specs.Image.{Image, isImage, inRange}
 use Rattle.refine_formulas.specs.declared.SaddlePointConfig.{SaddlePointConfig}
 use Rattle.refine_seed.specs.declared.Spot.{Spot}
 use Rattle.refine_seed.specs.declared.Spot.the-variants.{At, Nowhere}
@@ -53,12 +53,13 @@ unfoldable pub wayOf : Image → SaddlePointConfig → List Float → ℕ → Wa
 unfolding recordsBy
 wayOf img cfg corners room =
     cond (not (isImage img)) (refused BadImage)
+    (cond (not (inRange img)) (refused BadSample)
     (cond (not (leb (cfg .radius) 7)) (refused BadRadius)
     (cond (not (goodLimits cfg)) (refused BadLimit)
     (cond (not (whole (length corners))) (refused BadLength)
     (cond (tooMany (length corners)) (refused TooMany)
     (cond (ltb room (length corners)) (refused BadOut)
-    (wrote (recordsOf img cfg corners (length corners / 3))))))))
+    (wrote (recordsOf img cfg corners (length corners / 3)))))))))
 
 -- a record is three numbers
 abbrev pub answerOf : Way → Refinements

@@ -16,16 +16,20 @@ pub enum Refinements {
 
 // Refines the corners, x, y and strength of each, and writes those that are accepted, in input order with their own strength.
 pub fn refine_corners_on_image(
-    img: &[u8],
+    bytes: &[u8],
+    words: &[u16],
     sizes: Sizes,
     cfg: SaddlePointConfig,
     corners: &[f32],
     out: &mut [f32],
 ) -> Refinements
-    ensures { λ r. ⌜ Done (imageOf (now (img .entry)) sizes) cfg (now (corners .entry)) (now (out .entry)) r (now (out .exit)) ⌝ }
+    ensures { λ r. ⌜ Done (imageOf (now (bytes .entry)) (now (words .entry)) sizes) cfg (now (corners .entry)) (now (out .entry)) r (now (out .exit)) ⌝ }
 {
-    if !imageview::is_image(img, sizes) {
+    if !imageview::is_image(bytes, words, sizes) {
         return Refinements::Refused(Refusal::BadImage);
+    }
+    if !imageview::in_range(bytes, words, sizes) {
+        return Refinements::Refused(Refusal::BadSample);
     }
     if 7 < cfg.radius {
         return Refinements::Refused(Refusal::BadRadius);
@@ -43,5 +47,5 @@ pub fn refine_corners_on_image(
     if out.len() < len {
         return Refinements::Refused(Refusal::BadOut);
     }
-    Refinements::Refined(list::refine_list(img, sizes, cfg, corners, out) / 3)
+    Refinements::Refined(list::refine_list(bytes, words, sizes, cfg, corners, out) / 3)
 }

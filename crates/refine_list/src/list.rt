@@ -17,19 +17,20 @@ use refine_seed::Spot;
 
 // How many numbers were written. Without an operator no seed is accepted.
 pub fn refine_list(
-    img: &[u8],
+    bytes: &[u8],
+    words: &[u16],
     sizes: Sizes,
     cfg: SaddlePointConfig,
     corners: &[f32],
     out: &mut [f32],
 ) -> usize
-    requires { ⌜ length (now corners) ≤ length (now out) ⌝ ∗ ⌜ Ready (imageOf (now img) sizes) cfg ⌝ }
-    ensures { λ n. ⌜ AllWritten (imageOf (now (img .entry)) sizes) cfg (now (corners .entry)) (now (out .entry)) n (now (out .exit)) ⌝ }
+    requires { ⌜ length (now corners) ≤ length (now out) ⌝ ∗ ⌜ Ready (imageOf (now bytes) (now words) sizes) cfg ⌝ }
+    ensures { λ n. ⌜ AllWritten (imageOf (now (bytes .entry)) (now (words .entry)) sizes) cfg (now (corners .entry)) (now (out .entry)) n (now (out .exit)) ⌝ }
 {
     let mut columns = [0.0f32; 1125];
     let operator = refine_operator::fit_columns(cfg.radius, &mut columns);
     match operator {
-        Operator::Built => refine_all(img, sizes, cfg, &columns, corners, out),
+        Operator::Built => refine_all(bytes, words, sizes, cfg, &columns, corners, out),
         Operator::Singular => 0,
         Operator::Refused(_) => 0,
     }
@@ -37,15 +38,16 @@ pub fn refine_list(
 
 // All seeds in order.
 fn refine_all(
-    img: &[u8],
+    bytes: &[u8],
+    words: &[u16],
     sizes: Sizes,
     cfg: SaddlePointConfig,
     columns: &[f32; 1125],
     corners: &[f32],
     out: &mut [f32],
 ) -> usize
-    requires { ⌜ length (now corners) ≤ length (now out) ⌝ ∗ ⌜ Usable cfg (now columns) ⌝ ∗ ⌜ Ready (imageOf (now img) sizes) cfg ⌝ }
-    ensures { λ n. ⌜ AllWritten (imageOf (now (img .entry)) sizes) cfg (now (corners .entry)) (now (out .entry)) n (now (out .exit)) ⌝ }
+    requires { ⌜ length (now corners) ≤ length (now out) ⌝ ∗ ⌜ Usable cfg (now columns) ⌝ ∗ ⌜ Ready (imageOf (now bytes) (now words) sizes) cfg ⌝ }
+    ensures { λ n. ⌜ AllWritten (imageOf (now (bytes .entry)) (now (words .entry)) sizes) cfg (now (corners .entry)) (now (out .entry)) n (now (out .exit)) ⌝ }
 {
     let n = corners.len() / 3;
     let mut flat = [0.0f32; 40];
@@ -53,11 +55,12 @@ fn refine_all(
     let mut i = 0;
     while i < n {
         if i % 4 == 0 {
-            first_fits(img, sizes, cfg, columns, corners, i / 4, &mut flat);
+            first_fits(bytes, words, sizes, cfg, columns, corners, i / 4, &mut flat);
         }
         let here = laid::coefs_at(&flat, i % 4);
         let spot = refine_seed::spot_with(
-            img,
+            bytes,
+            words,
             sizes,
             cfg,
             corners[3 * i],
@@ -73,7 +76,8 @@ fn refine_all(
 
 // The first fits of the four seeds of a group, to the front of `flat`. Where no patch fits into the image no seed has one.
 pub fn first_fits(
-    img: &[u8],
+    bytes: &[u8],
+    words: &[u16],
     sizes: Sizes,
     cfg: SaddlePointConfig,
     columns: &[f32; 1125],
@@ -81,8 +85,8 @@ pub fn first_fits(
     group: usize,
     flat: &mut [f32; 40],
 )
-    requires { ⌜ Ready (imageOf (now img) sizes) cfg ⌝ ∗ ⌜ (length (now flat) ≡ 40) × (4 * group < length (now corners) / 3) ⌝ }
-    ensures { λ _. ⌜ FirstFits (imageOf (now (img .entry)) sizes) cfg (now (columns .entry)) (now (corners .entry)) group (now (flat .exit)) ⌝ }
+    requires { ⌜ Ready (imageOf (now bytes) (now words) sizes) cfg ⌝ ∗ ⌜ (length (now flat) ≡ 40) × (4 * group < length (now corners) / 3) ⌝ }
+    ensures { λ _. ⌜ FirstFits (imageOf (now (bytes .entry)) (now (words .entry)) sizes) cfg (now (columns .entry)) (now (corners .entry)) group (now (flat .exit)) ⌝ }
 {
     let radius = cfg.radius;
     let most = 2 * radius;
@@ -96,7 +100,17 @@ pub fn first_fits(
         c: first_of(sizes, radius, corners, i + 2),
         d: first_of(sizes, radius, corners, i + 3),
     };
-    refine_patch::fit_four(img, sizes.pitch, columns, radius, at, flat, 0);
+    refine_patch::fit_four(
+        bytes,
+        words,
+        sizes.deep,
+        sizes.pitch,
+        columns,
+        radius,
+        at,
+        flat,
+        0,
+    );
 }
 
 // Where the patch about the seed number i begins; 0 for a seed that is not refined, and past the last.

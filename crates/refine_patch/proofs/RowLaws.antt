@@ -1,15 +1,17 @@
 -- Sample by sample, row by row, the sums of four patches become their coefficients; and where the rows and the centres lie.
 use mathlib.Core.Path.{_≡_, refl, sym, ap, _∙_, subst}
+use mathlib.Core.Bool.{Bool, true, false}
 use mathlib.Core.List.{List}
 use Prim.Native.Nat.{ℕ, zero, suc, _+_, _*_, _/_, _≤_, _<_}
 use native.Mathlib.Nat.{add-assoc, add-zero, add-suc, add-mul, mul-assoc, one-mul, zero-mul, le-refl, le-trans, suc-mul, mul-le-mul, mul-le-mul-right}
 use native.Mathlib.Numerals.{add-one}
 use native.Mathlib.Omega.{arith}
 use lib.Arith.{digits-div, digits-mod}
-use lib.ListN.{getD}
+use lib.ListN.{length, getD}
 use lib.Ieee.{Float}
 use Rattle.shapes.specs.Numbers.{plusZero}
 use Rattle.shapes.specs.Turns.{turns}
+use Rattle.imageview.specs.Image.{samplesOf}
 use Rattle.refine_operator.specs.Basis.{side, samples}
 use Rattle.refine_formulas.specs.Numbers.{_⊖_}
 use Rattle.refine_patch.specs.declared.Firsts.{Firsts}
@@ -133,6 +135,11 @@ row-below count pitch radius j at w h =
 
     lane : (a : ℕ) → a + 2 * radius * pitch + 2 * radius < count → a + j * pitch + side radius < count + 1
     lane a p = begun a (j * pitch) (2 * radius * pitch) (rows-below pitch radius j h) p
+
+-- the lengths of both slices are below 2 ^ 64, and so is the count of the samples
+pub below : (bytes words : List ℕ) (deep : Bool) → length bytes < 18446744073709551616 → length words < 18446744073709551616 → length (samplesOf bytes words deep) < 18446744073709551616
+below bytes words true p q = q
+below bytes words false p q = p
 
 -- a row's samples are numbered below 225
 pub numbered : (radius j : ℕ) → radius ≤ 7 → j < side radius → j * side radius + side radius ≤ 225

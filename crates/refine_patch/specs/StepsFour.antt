@@ -8,6 +8,7 @@ use lib.Ieee.{Float, binary32, ofInt}
 use Rattle.shapes.specs.Numbers.{entry}
 use Rattle.refine_formulas.specs.Numbers.{_⊕_, _⊖_, _⊗_}
 use Rattle.refine_patch.specs.declared.Firsts.{Firsts}
+use Rattle.refine_patch.specs.declared.Four.{Four}
 use Rattle.refine_patch.specs.declared.Quad.{Quad}
 use Rattle.refine_patch.specs.declared.Sums.{Sums}
 
@@ -23,6 +24,16 @@ laneOf at = fourOf (at .a) (at .b) (at .c) (at .d)
 
 abbrev pub laneIn : Quad → ℕ → Float
 laneIn v = fourOf (v .p) (v .q) (v .r) (v .s)
+
+abbrev pub sampleIn : Four → ℕ → ℕ
+sampleIn v = fourOf (v .p) (v .q) (v .r) (v .s)
+
+abbrev pub fourBy : (ℕ → ℕ) → Four
+fourBy f = record { p = f 0; q = f 1; r = f 2; s = f 3 }
+
+-- the samples that lie `by` past the first ones
+abbrev pub fourAt : List ℕ → Firsts → ℕ → Four
+fourAt list at by = fourBy (λ l. getD list (laneOf at l + by) 0)
 
 abbrev pub quadBy : (ℕ → Float) → Quad
 quadBy f = record { p = f 0; q = f 1; r = f 2; s = f 3 }

@@ -4,19 +4,29 @@ ghost use mathlib.Core.Path.{_≡_};
 ghost use Prim.Native.Nat.{_+_, _*_, _≤_, _<_};
 ghost use lib.ListN.{length};
 ghost use Rattle.shapes.specs.Numbers.{plusZero};
+ghost use Rattle.imageview.specs.Image.{samplesOf};
 ghost use Rattle.refine_operator.specs.Basis.{samples};
 ghost use Rattle.refine_patch.specs.StepsFrom.{coefficientFrom, fourWritten};
-ghost use Rattle.refine_patch.specs.StepsFour.{laneOf, sumIn, fourOf, fourSet, quadBy, sumsBy, movedBy, floatOf, levelOf, added, rowAdded, FourReach, PatchesInside, Gathered};
+ghost use Rattle.refine_patch.specs.StepsFour.{laneOf, sampleIn, sumIn, fourOf, fourSet, quadBy, sumsBy, movedBy, floatOf, levelOf, added, rowAdded, FourReach, PatchesInside, Gathered};
 ghost use Rattle.refine_patch.specs.StepsRows.{centresOf, sumsAfter};
 
+mod reads;
 mod stores;
 
-// The four first places of patches, as indices of the image's bytes.
+// The four first places of patches, as indices of the image's samples.
 pub struct Firsts {
     pub a: usize,
     pub b: usize,
     pub c: usize,
     pub d: usize,
+}
+
+// A sample of each of the four patches.
+struct Four {
+    p: u16,
+    q: u16,
+    r: u16,
+    s: u16,
 }
 
 // A number for each of the four patches.
@@ -38,7 +48,9 @@ pub struct Sums {
 
 // Writes coefficient c of patch l to `out` at `to + 4 · c + l`.
 pub fn fit_four(
-    img: &[u8],
+    bytes: &[u8],
+    words: &[u16],
+    deep: bool,
     pitch: usize,
     columns: &[f32; 1125],
     radius: usize,
@@ -47,11 +59,11 @@ pub fn fit_four(
     to: usize,
 )
     requires { ⌜ (length (now out) ≡ 40) × (to ≤ 20) ⌝ }
-    requires { ⌜ PatchesInside (length (now img)) pitch radius at ⌝ }
-    ensures { λ _. ⌜ now (out .exit) ≡ fourWritten (λ c l. coefficientFrom (now (img .entry)) pitch (now (columns .entry)) radius (laneOf at l) c) to (now (out .entry)) ⌝ }
+    requires { ⌜ PatchesInside (length (samplesOf (now bytes) (now words) deep)) pitch radius at ⌝ }
+    ensures { λ _. ⌜ now (out .exit) ≡ fourWritten (λ c l. coefficientFrom (samplesOf (now (bytes .entry)) (now (words .entry)) deep) pitch (now (columns .entry)) radius (laneOf at l) c) to (now (out .entry)) ⌝ }
 {
-    let centre = centres(img, at, radius * pitch + radius);
-    let sums = sum_rows(img, pitch, columns, radius, at, centre);
+    let centre = centres(bytes, words, deep, at, radius * pitch + radius);
+    let sums = sum_rows(bytes, words, deep, pitch, columns, radius, at, centre);
     stores::store(out, to, sums);
 }
 
@@ -76,53 +88,45 @@ fn moved(at: Firsts, by: usize) -> Firsts
     }
 }
 
-fn floats(p: u8, q: u8, r: u8, s: u8) -> Quad
-    ensures { λ v. ⌜ v ≡ quadBy (λ l. floatOf (fourOf p q r s l)) ⌝ }
+fn floats(v: Four) -> Quad
+    ensures { λ r. ⌜ r ≡ quadBy (λ l. floatOf (sampleIn v l)) ⌝ }
 {
     Quad {
-        p: p as f32,
-        q: q as f32,
-        r: r as f32,
-        s: s as f32,
+        p: v.p as f32,
+        q: v.q as f32,
+        r: v.r as f32,
+        s: v.s as f32,
     }
 }
 
-// The samples that lie `by` past the first ones.
-fn centres(img: &[u8], at: Firsts, by: usize) -> Quad
-    requires { ⌜ FourReach (length (now img)) by at ⌝ }
-    ensures { λ r. ⌜ r ≡ centresOf (now (img .entry)) at by ⌝ }
+// The levels of the centres, which lie `by` past the first samples.
+fn centres(bytes: &[u8], words: &[u16], deep: bool, at: Firsts, by: usize) -> Quad
+    requires { ⌜ FourReach (length (samplesOf (now bytes) (now words) deep)) by at ⌝ }
+    ensures { λ r. ⌜ r ≡ centresOf (samplesOf (now (bytes .entry)) (now (words .entry)) deep) at by ⌝ }
 {
-    let a = at.a + by;
-    let b = at.b + by;
-    let c = at.c + by;
-    let d = at.d + by;
-    floats(img[a], img[b], img[c], img[d])
+    floats(reads::read_four(bytes, words, deep, at, by))
 }
 
 // Four samples side by side.
-fn put_four(row: &mut [u16; 64], at: usize, p: u8, q: u8, r: u8, s: u8)
+fn put_four(row: &mut [u16; 64], at: usize, v: Four)
     requires { ⌜ (length (now row) ≡ 64) × (at + 4 ≤ 64) ⌝ }
-    ensures { λ _. ⌜ now (row .exit) ≡ fourSet (now (row .entry)) at (fourOf p q r s) ⌝ }
+    ensures { λ _. ⌜ now (row .exit) ≡ fourSet (now (row .entry)) at (sampleIn v) ⌝ }
 {
-    row[at + 0] = p as u16;
-    row[at + 1] = q as u16;
-    row[at + 2] = r as u16;
-    row[at + 3] = s as u16;
+    row[at + 0] = v.p;
+    row[at + 1] = v.q;
+    row[at + 2] = v.r;
+    row[at + 3] = v.s;
 }
 
 // One row of the four patches: sample i of patch l goes to 4 · i + l.
-fn gather(img: &[u8], at: Firsts, side: usize, row: &mut [u16; 64])
+fn gather(bytes: &[u8], words: &[u16], deep: bool, at: Firsts, side: usize, row: &mut [u16; 64])
     requires { ⌜ (length (now row) ≡ 64) × (side ≤ 15) ⌝ }
-    requires { ⌜ FourReach (length (now img) + 1) side at ⌝ }
-    ensures { λ _. ⌜ Gathered (now (img .entry)) at side (now (row .exit)) ⌝ }
+    requires { ⌜ FourReach (length (samplesOf (now bytes) (now words) deep) + 1) side at ⌝ }
+    ensures { λ _. ⌜ Gathered (samplesOf (now (bytes .entry)) (now (words .entry)) deep) at side (now (row .exit)) ⌝ }
 {
-    let a = at.a;
-    let b = at.b;
-    let c = at.c;
-    let d = at.d;
     let mut i: usize = 0;
     while i < side {
-        put_four(row, 4 * i, img[a + i], img[b + i], img[c + i], img[d + i]);
+        put_four(row, 4 * i, reads::read_four(bytes, words, deep, at, i));
         i += 1;
     }
 }
@@ -227,23 +231,25 @@ fn no_sums() -> Sums
 
 // The sums of all samples, row after row.
 fn sum_rows(
-    img: &[u8],
+    bytes: &[u8],
+    words: &[u16],
+    deep: bool,
     pitch: usize,
     columns: &[f32; 1125],
     radius: usize,
     at: Firsts,
     centre: Quad,
 ) -> Sums
-    requires { ⌜ PatchesInside (length (now img)) pitch radius at ⌝ }
-    requires { ⌜ centre ≡ centresOf (now img) at (radius * pitch + radius) ⌝ }
-    ensures { λ r. ⌜ r ≡ sumsAfter (now (img .entry)) pitch (now (columns .entry)) radius at (samples radius) ⌝ }
+    requires { ⌜ PatchesInside (length (samplesOf (now bytes) (now words) deep)) pitch radius at ⌝ }
+    requires { ⌜ centre ≡ centresOf (samplesOf (now bytes) (now words) deep) at (radius * pitch + radius) ⌝ }
+    ensures { λ r. ⌜ r ≡ sumsAfter (samplesOf (now (bytes .entry)) (now (words .entry)) deep) pitch (now (columns .entry)) radius at (samples radius) ⌝ }
 {
     let side = 2 * radius + 1;
     let mut row = [0u16; 64];
     let mut sums = no_sums();
     let mut j: usize = 0;
     while j < side {
-        gather(img, moved(at, j * pitch), side, &mut row);
+        gather(bytes, words, deep, moved(at, j * pitch), side, &mut row);
         sums = add_row(sums, columns, &row, side, centre, j * side);
         j += 1;
     }

@@ -6,7 +6,7 @@ use native.Mathlib.Omega.{arith}
 use lib.Dec.{leb, eqb}
 use lib.Ieee.{Float}
 use Rattle.shapes.specs.Numbers.{plusZero}
-use Rattle.imageview.specs.Image.{Image, isImage}
+use Rattle.imageview.specs.Image.{Image, isImage, inRange}
 use Rattle.imageview.specs.Patch.{supportsPatch}
 use Rattle.refine_operator.specs.Call as Operator
 use Rattle.refine_formulas.specs.declared.SaddlePointConfig.{SaddlePointConfig}
@@ -64,16 +64,17 @@ with-operator img cfg seed wanted Operator.none h = omega arith
 with-operator img cfg seed wanted (Operator.built columns overlap) h = with-fit img cfg seed wanted columns overlap h
 
 -- ---- by the tests
-abbrev Stopped : Bool → Bool → Bool → Bool → Type 0
-Stopped i r l f = (i ≡ true) × (r ≡ true) × (l ≡ true) × (f ≡ false)
+abbrev Stopped : Bool → Bool → Bool → Bool → Bool → Type 0
+Stopped i g r l f = (i ≡ true) × (g ≡ true) × (r ≡ true) × (l ≡ true) × (f ≡ false)
 
-stopped : (i r l f p : Bool) (seed : Seed) (go : Seed → Refined) → NotFour (go seed) → numberOf (answered (chosen i r l f p seed) go) ≡ 4 → Stopped i r l f
-stopped false r l f p seed go n h = absurd (let z : ⊥ = omega arith in z)
-stopped true false l f p seed go n h = absurd (let z : ⊥ = omega arith in z)
-stopped true true false f p seed go n h = absurd (let z : ⊥ = omega arith in z)
-stopped true true true false p seed go n h = (refl, refl, refl, refl)
-stopped true true true true false seed go n h = absurd (let z : ⊥ = omega arith in z)
-stopped true true true true true seed go n h = absurd (n h)
+stopped : (i g r l f p : Bool) (seed : Seed) (go : Seed → Refined) → NotFour (go seed) → numberOf (answered (chosen i g r l f p seed) go) ≡ 4 → Stopped i g r l f
+stopped false g r l f p seed go n h = absurd (let z : ⊥ = omega arith in z)
+stopped true false r l f p seed go n h = absurd (let z : ⊥ = omega arith in z)
+stopped true true false l f p seed go n h = absurd (let z : ⊥ = omega arith in z)
+stopped true true true false f p seed go n h = absurd (let z : ⊥ = omega arith in z)
+stopped true true true true false p seed go n h = (refl, refl, refl, refl, refl)
+stopped true true true true true false seed go n h = absurd (let z : ⊥ = omega arith in z)
+stopped true true true true true true seed go n h = absurd (n h)
 
 module _ (img : Image) (cfg : SaddlePointConfig) (x y : Float) (go : Seed → Refined) (never : NotFour (go (seedOf x y))) where
   exactly : FourExactly img cfg x y (answered (admitOf img cfg x y) go)
@@ -81,11 +82,11 @@ module _ (img : Image) (cfg : SaddlePointConfig) (x y : Float) (go : Seed → Re
     where
       means : numberOf (answered (admitOf img cfg x y) go) ≡ 4 → Usable img cfg × (isPlace x y ≡ false)
       means h =
-          let s = stopped (isImage img) (leb (cfg .radius) 7) (goodLimits cfg) (isPlace x y) (supportsPatch img (cfg .radius) (centreOf x) (centreOf y)) (seedOf x y) go never h in
-          (record { image = s .0; radius = s .1; limits = s .2 }, s .3)
+          let s = stopped (isImage img) (inRange img) (leb (cfg .radius) 7) (goodLimits cfg) (isPlace x y) (supportsPatch img (cfg .radius) (centreOf x) (centreOf y)) (seedOf x y) go never h in
+          (record { image = s .0; range = s .1; radius = s .2; limits = s .3 }, s .4)
 
       given : Usable img cfg → isPlace x y ≡ false → answered (admitOf img cfg x y) go ≡ Unmoved BadSeed plusZero
-      given u h = ap (λ (d : Admitted). answered d go) (sym (to img cfg x y true true true false _ (u .image) (u .radius) (u .limits) h refl))
+      given u h = ap (λ (d : Admitted). answered d go) (sym (to img cfg x y true true true true false _ (u .image) (u .range) (u .radius) (u .limits) h refl))
 
 -- ---- the claims
 pub bad-seed-exactly : BadSeedExactly

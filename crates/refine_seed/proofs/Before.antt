@@ -6,7 +6,7 @@ use lib.Dec.{leb, eqb}
 use lib.Ieee.{Float}
 use lib.Ieee.Scale.{finite}
 use Rattle.shapes.specs.Numbers.{plusZero, one, entry}
-use Rattle.imageview.specs.Image.{Image, isImage}
+use Rattle.imageview.specs.Image.{Image, isImage, inRange}
 use Rattle.imageview.specs.Patch.{supportsPatch}
 use Rattle.refine_operator.specs.Call as Operator
 use Rattle.refine_formulas.specs.declared.SaddlePointConfig.{SaddlePointConfig}
@@ -87,13 +87,14 @@ lent-once true before now h = refl
 lent-once false before now h = h
 
 -- ---- with the tests before it: none of them names a flaw
-by-admitted : (i r l f p : Bool) (seed : Seed) (before now : Seed → Refined) → before seed ≡ forgotten (now seed) → answered (chosen i r l f p seed) before ≡ forgotten (answered (chosen i r l f p seed) now)
-by-admitted false r l f p seed before now h = refl
-by-admitted true false l f p seed before now h = refl
-by-admitted true true false f p seed before now h = refl
-by-admitted true true true false p seed before now h = refl
-by-admitted true true true true false seed before now h = refl
-by-admitted true true true true true seed before now h = h
+by-admitted : (i g r l f p : Bool) (seed : Seed) (before now : Seed → Refined) → before seed ≡ forgotten (now seed) → answered (chosen i g r l f p seed) before ≡ forgotten (answered (chosen i g r l f p seed) now)
+by-admitted false g r l f p seed before now h = refl
+by-admitted true false r l f p seed before now h = refl
+by-admitted true true false l f p seed before now h = refl
+by-admitted true true true false f p seed before now h = refl
+by-admitted true true true true false p seed before now h = refl
+by-admitted true true true true true false seed before now h = refl
+by-admitted true true true true true true seed before now h = h
 
 -- ---- the number and the values
 old-is : (now : Refined) → numberOf (forgotten now) ≡ oldNumber (numberOf now)
@@ -119,7 +120,7 @@ module _ (img : Image) (cfg : SaddlePointConfig) (x y : Float) (before now : See
   as-before : AsBefore x y (answer now) (answer before)
   as-before =
       let h : answer before ≡ forgotten (answer now) =
-      by-admitted (isImage img) (leb (cfg .radius) 7) (goodLimits cfg) (isPlace x y) (supportsPatch img (cfg .radius) (centreOf x) (centreOf y)) (seedOf x y) before now same in
+      by-admitted (isImage img) (inRange img) (leb (cfg .radius) 7) (goodLimits cfg) (isPlace x y) (supportsPatch img (cfg .radius) (centreOf x) (centreOf y)) (seedOf x y) before now same in
       record { same = h; number = ap numberOf h ∙ old-is (answer now); values = ap (valuesOf x y) h ∙ values-are x y (answer now) }
 
 -- ---- the claims

@@ -14,7 +14,7 @@ use mir.Val.{SFits, Fits, toZ, ofZ}
 use mir.ValLaws.{toZ-ofZ}
 use borrow.Author.Tests.{leb-true, ltb-true}
 use Rattle.floats.specs.Whole.{roundAway}
-use Rattle.imageview.specs.Image.{Image, isImage}
+use Rattle.imageview.specs.Image.{Image, isImage, inRange}
 use Rattle.imageview.specs.Patch.{inside, supportsPatch}
 use Rattle.imageview.proofs.ImageLaws as images
 use Rattle.refine_formulas.specs.declared.SaddlePointConfig.{SaddlePointConfig}
@@ -30,7 +30,7 @@ use Rattle.refine_seed.specs.declared.Admitted.the-variants as Admitted
 use Rattle.refine_seed.specs.declared.Refined.{Refined}
 use Rattle.refine_seed.specs.declared.Refined.the-variants.{Accepted, Unmoved}
 use Rattle.refine_seed.specs.declared.Why.the-variants.{Rejected, OutOfBounds, BadSeed, Flawed}
-use Rattle.refusals.specs.declared.Refusal.the-variants.{BadImage, BadRadius, BadLimit}
+use Rattle.refusals.specs.declared.Refusal.the-variants.{BadImage, BadSample, BadRadius, BadLimit}
 use Rattle.refine_operator.specs.Call as Operator
 use Rattle.refine_formulas.specs.Solve.{solve}
 use Rattle.refine_fits.specs.Candidate.{Task, nearAlong, nearSeed, taskAt}
@@ -86,20 +86,21 @@ supported width height radius x y z w r p q e b h =
     sym (ap (λ (v : ℤ). inside radius width v && inside radius height w) p ∙ ap (λ (v : ℤ). inside radius width (centreOf x) && inside radius height v) q) ∙ sym e ∙ h
 
 -- ---- the tests as one answer
-abbrev pub chosen : Bool → Bool → Bool → Bool → Bool → Seed → Admitted
-chosen i r l f p s =
+abbrev pub chosen : Bool → Bool → Bool → Bool → Bool → Bool → Seed → Admitted
+chosen i g r l f p s =
     cond (not i) (Admitted.Refused BadImage)
+    (cond (not g) (Admitted.Refused BadSample)
     (cond (not r) (Admitted.Refused BadRadius)
     (cond (not l) (Admitted.Refused BadLimit)
     (cond (not f) (Admitted.Unmoved BadSeed)
     (cond (not p) (Admitted.Unmoved OutOfBounds)
-    (Admitted.Good s)))))
+    (Admitted.Good s))))))
 
 -- those of the seed alone
-pub to-seed : (width height radius : ℕ) (x y : Float) (f p : Bool) → isPlace x y ≡ f → (inside radius width (centreOf x) && inside radius height (centreOf y)) ≡ p → chosen true true true f p (seedOf x y) ≡ seedAlone width height radius x y
+pub to-seed : (width height radius : ℕ) (x y : Float) (f p : Bool) → isPlace x y ≡ f → (inside radius width (centreOf x) && inside radius height (centreOf y)) ≡ p → chosen true true true true f p (seedOf x y) ≡ seedAlone width height radius x y
 to-seed width height radius x y f p d e =
-    sym (ap (λ (z : Bool). chosen true true true z (inside radius width (centreOf x) && inside radius height (centreOf y)) (seedOf x y)) d
-    ∙ ap (λ (z : Bool). chosen true true true f z (seedOf x y)) e)
+    sym (ap (λ (z : Bool). chosen true true true true z (inside radius width (centreOf x) && inside radius height (centreOf y)) (seedOf x y)) d
+    ∙ ap (λ (z : Bool). chosen true true true true f z (seedOf x y)) e)
 
 -- what a good answer says of the tests
 record Passed (i r p : Bool) (s t : Seed) : Type 0 where
@@ -118,18 +119,19 @@ seedIn (Admitted.Good s) d = s
 seedIn (Admitted.Unmoved why) d = d
 seedIn (Admitted.Refused r) d = d
 
-passed : (i r l f p : Bool) (s t : Seed) → chosen i r l f p s ≡ Admitted.Good t → Passed i r p s t
-passed false r l f p s t h = absurd (subst isGood (sym h) tt)
-passed true false l f p s t h = absurd (subst isGood (sym h) tt)
-passed true true false f p s t h = absurd (subst isGood (sym h) tt)
-passed true true true false p s t h = absurd (subst isGood (sym h) tt)
-passed true true true true false s t h = absurd (subst isGood (sym h) tt)
-passed true true true true true s t h = record { image = refl; radius = refl; patch = refl; seed = sym (ap (λ (v : Admitted). seedIn v s) h) }
+passed : (i g r l f p : Bool) (s t : Seed) → chosen i g r l f p s ≡ Admitted.Good t → Passed i r p s t
+passed false g r l f p s t h = absurd (subst isGood (sym h) tt)
+passed true false r l f p s t h = absurd (subst isGood (sym h) tt)
+passed true true false l f p s t h = absurd (subst isGood (sym h) tt)
+passed true true true false f p s t h = absurd (subst isGood (sym h) tt)
+passed true true true true false p s t h = absurd (subst isGood (sym h) tt)
+passed true true true true true false s t h = absurd (subst isGood (sym h) tt)
+passed true true true true true true s t h = record { image = refl; radius = refl; patch = refl; seed = sym (ap (λ (v : Admitted). seedIn v s) h) }
 
 -- a seed that passed its own tests has its patch inside
 pub patch-inside : (width height radius : ℕ) (x y : Float) (seed : Seed) → seedAlone width height radius x y ≡ Admitted.Good seed → (radius ≤ seed .«centre_x») × (radius ≤ seed .«centre_y») × (seed .«centre_x» + radius < width) × (seed .«centre_y» + radius < height)
 patch-inside width height radius x y seed h =
-    let t = passed true true true (isPlace x y) (inside radius width (centreOf x) && inside radius height (centreOf y)) (seedOf x y) seed h in
+    let t = passed true true true true (isPlace x y) (inside radius width (centreOf x) && inside radius height (centreOf y)) (seedOf x y) seed h in
     let both = and-eq-true-iff (inside radius width (centreOf x)) (inside radius height (centreOf y)) .0 (t .patch) in
     subst (λ (s : Seed). (radius ≤ s .«centre_x») × (radius ≤ s .«centre_y») × (s .«centre_x» + radius < width) × (s .«centre_y» + radius < height)) (sym (t .seed))
     (inside-low radius width (centreOf x) (both .0), inside-low radius height (centreOf y) (both .1), inside-high radius width (centreOf x) (both .0), inside-high radius height (centreOf y) (both .1))
@@ -139,22 +141,23 @@ module _ (img : Image) (cfg : SaddlePointConfig) (x y : Float) where
   supports = supportsPatch img (cfg .radius) (centreOf x) (centreOf y)
 
   -- the tests, one after the other
-  pub to : (i r l f p : Bool) → isImage img ≡ i → leb (cfg .radius) 7 ≡ r → goodLimits cfg ≡ l → isPlace x y ≡ f → supports ≡ p → chosen i r l f p (seedOf x y) ≡ admitOf img cfg x y
-  to i r l f p a b c d e =
-      sym (ap (λ (z : Bool). chosen z (leb (cfg .radius) 7) (goodLimits cfg) (isPlace x y) supports (seedOf x y)) a
-      ∙ ap (λ (z : Bool). chosen i z (goodLimits cfg) (isPlace x y) supports (seedOf x y)) b
-      ∙ ap (λ (z : Bool). chosen i r z (isPlace x y) supports (seedOf x y)) c
-      ∙ ap (λ (z : Bool). chosen i r l z supports (seedOf x y)) d
-      ∙ ap (λ (z : Bool). chosen i r l f z (seedOf x y)) e)
+  pub to : (i g r l f p : Bool) → isImage img ≡ i → inRange img ≡ g → leb (cfg .radius) 7 ≡ r → goodLimits cfg ≡ l → isPlace x y ≡ f → supports ≡ p → chosen i g r l f p (seedOf x y) ≡ admitOf img cfg x y
+  to i g r l f p a m b c d e =
+      sym (ap (λ (z : Bool). chosen z (inRange img) (leb (cfg .radius) 7) (goodLimits cfg) (isPlace x y) supports (seedOf x y)) a
+      ∙ ap (λ (z : Bool). chosen i z (leb (cfg .radius) 7) (goodLimits cfg) (isPlace x y) supports (seedOf x y)) m
+      ∙ ap (λ (z : Bool). chosen i g z (goodLimits cfg) (isPlace x y) supports (seedOf x y)) b
+      ∙ ap (λ (z : Bool). chosen i g r z (isPlace x y) supports (seedOf x y)) c
+      ∙ ap (λ (z : Bool). chosen i g r l z supports (seedOf x y)) d
+      ∙ ap (λ (z : Bool). chosen i g r l f z (seedOf x y)) e)
 
   -- where the image and the settings passed, the seed's own tests are all that is left
   pub alone : Ready img cfg → seedAlone (img .width) (img .height) (cfg .radius) x y ≡ admitOf img cfg x y
   unfolding supportsPatch
-  alone r = to true true true (isPlace x y) supports (r .image) (r .small) (r .limits) refl refl
+  alone r = to true true true true (isPlace x y) supports (r .image) (r .range) (r .small) (r .limits) refl refl
 
   pub good-within : (seed : Seed) → admitOf img cfg x y ≡ Admitted.Good seed → PatchWithin img (cfg .radius) (seed .«centre_x») (seed .«centre_y»)
   good-within seed h =
-      let t = passed (isImage img) (leb (cfg .radius) 7) (goodLimits cfg) (isPlace x y) supports (seedOf x y) seed h in
+      let t = passed (isImage img) (inRange img) (leb (cfg .radius) 7) (goodLimits cfg) (isPlace x y) supports (seedOf x y) seed h in
       subst (λ (s : Seed). PatchWithin img (cfg .radius) (s .«centre_x») (s .«centre_y»)) (sym (t .seed))
       (within-of img (cfg .radius) (centreOf x) (centreOf y) (t .image) (t .radius) (t .patch))
 

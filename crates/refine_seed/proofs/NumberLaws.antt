@@ -6,7 +6,7 @@ use native.Mathlib.Omega.{arith}
 use lib.Dec.{leb}
 use borrow.Author.Tests.{lt-leb}
 use Rattle.refusals.specs.declared.Refusal.{Refusal}
-use Rattle.refusals.specs.declared.Refusal.the-variants.{BadImage, BadRadius, BadLimit, BadRing, EmptyRoi, BadOut, TooMany, GridTooBig, BadScratch, BadLength, NoMagic, BadHeader, BadGraymapSize, TooShort, LeftOver, BadBoard, BadPlaces, BadList, NoSuchCorner}
+use Rattle.refusals.specs.declared.Refusal.the-variants.{BadImage, BadRadius, BadLimit, BadRing, EmptyRoi, BadOut, TooMany, GridTooBig, BadScratch, BadLength, NoMagic, BadHeader, BadGraymapSize, TooShort, LeftOver, BadBoard, BadPlaces, BadList, NoSuchCorner, BadSample, BadBuffer}
 use Rattle.refusals.specs.Numbers as Refusals
 use Rattle.refine_seed.specs.Refine.{oldNumber}
 
@@ -30,6 +30,8 @@ from-ten BadBoard = omega arith
 from-ten BadPlaces = omega arith
 from-ten BadList = omega arith
 from-ten NoSuchCorner = omega arith
+from-ten BadSample = omega arith
+from-ten BadBuffer = omega arith
 
 -- ---- the old number
 pub old-flawed : (n : ℕ) → (leb 5 n && leb n 7) ≡ true → 3 ≡ oldNumber n

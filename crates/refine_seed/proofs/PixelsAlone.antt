@@ -12,10 +12,10 @@ use borrow.Author.Tests.{leb-true, ltb-true}
 use Rattle.shapes.specs.Numbers.{plusZero, entry}
 use Rattle.shapes.proofs.ListLaws.{tabulated-cong}
 use Rattle.shapes.proofs.TurnLaws.{turns-cong}
-use Rattle.imageview.specs.Image.{Image, pixel, isImage}
+use Rattle.imageview.specs.Image.{Image, pixel, isImage, inRange}
 use Rattle.imageview.specs.Patch.{inside, supportsPatch}
-use Rattle.imageview.specs.Same.{unpadded}
-use Rattle.imageview.proofs.SameLaws.{sized-is, shows, alike}
+use Rattle.imageview.specs.Same.{SamePixels, unpadded}
+use Rattle.imageview.proofs.SameLaws.{sizedAs, sized-is, shows, alike, in-range}
 use Rattle.imageview.proofs.Unpadded.{shows-unpadded}
 use Rattle.refine_operator.specs.Basis.{side, samples}
 use Rattle.refine_operator.specs.Call as Operator
@@ -67,9 +67,12 @@ module _ (a c : Image) (same : (x y : ℕ) → x < a .width → y < a .height �
     coefficients-same columns = tabulated-cong 5 (coefficient a columns radius x y) (coefficient c columns radius x y) (λ i h. coefficient-same columns i)
 
 -- ---- c has the sizes of a
-module _ (a : Image) (l : List ℕ) (p : ℕ) (same : (x y : ℕ) → x < a .width → y < a .height → pixel a x y ≡ pixel (record { samples = l; width = a .width; height = a .height; pitch = p }) x y) (both-images : isImage a ≡ isImage (record { samples = l; width = a .width; height = a .height; pitch = p })) where
+module _ (a b : Image) (s : SamePixels a b) where
   abbrev c : Image
-  c = record { samples = l; width = a .width; height = a .height; pitch = p }
+  c = sizedAs a b
+
+  same : (x y : ℕ) → x < a .width → y < a .height → pixel a x y ≡ pixel c x y
+  same = shows a b s
 
   fit-same : (columns : List Float) (radius : ℕ) → SameFits a c columns columns radius
   unfolding fitAt supportsPatch
@@ -98,7 +101,10 @@ module _ (a : Image) (l : List ℕ) (p : ℕ) (same : (x y : ℕ) → x < a .wid
 
     admitted : admitOf a cfg x y ≡ admitOf c cfg x y
     unfolding supportsPatch
-    admitted = ap (λ (i : Bool). chosen i (leb (cfg .radius) 7) (goodLimits cfg) (isPlace x y) (supportsPatch a (cfg .radius) (centreOf x) (centreOf y)) (seedOf x y)) both-images
+    admitted =
+        let supports = supportsPatch a (cfg .radius) (centreOf x) (centreOf y) in
+        ap (λ (i : Bool). chosen i (inRange a) (leb (cfg .radius) 7) (goodLimits cfg) (isPlace x y) supports (seedOf x y)) (alike a b s)
+        ∙ ap (λ (g : Bool). chosen (isImage c) g (leb (cfg .radius) 7) (goodLimits cfg) (isPlace x y) supports (seedOf x y)) (in-range a b s)
 
     by-answer : (go stay : Seed → Refined) → ((seed : Seed) → PatchWithin a (cfg .radius) (seed .«centre_x») (seed .«centre_y») → go seed ≡ stay seed) → (d : Admitted) → admitOf a cfg x y ≡ d → answered d go ≡ answered d stay
     by-answer go stay h (Admitted.Good seed) e = h seed (good-within a cfg x y seed e)
@@ -119,10 +125,10 @@ module _ (a : Image) (l : List ℕ) (p : ℕ) (same : (x y : ℕ) → x < a .wid
 
 -- ---- of any two images that show the same
 pub by-pixels : ByPixels
-by-pixels a b s cfg x y wanted = refine-same a (b .samples) (b .pitch) (shows a b s) (alike a b s) cfg x y wanted ∙ ap (λ (v : Image). refineOf v cfg x y wanted) (sized-is a b s)
+by-pixels a b s cfg x y wanted = refine-same a b s cfg x y wanted ∙ ap (λ (v : Image). refineOf v cfg x y wanted) (sized-is a b s)
 
 pub lent-by-pixels : LentByPixels
-lent-by-pixels a b s cfg x y wanted columns overlap = lent-same a (b .samples) (b .pitch) (shows a b s) (alike a b s) cfg x y wanted columns overlap ∙ ap (λ (v : Image). refineLent v cfg x y wanted columns overlap) (sized-is a b s)
+lent-by-pixels a b s cfg x y wanted columns overlap = lent-same a b s cfg x y wanted columns overlap ∙ ap (λ (v : Image). refineLent v cfg x y wanted columns overlap) (sized-is a b s)
 
 -- ---- so of an image and the one with its padding taken out
 pub by-unpadded : Unpadded

@@ -7,7 +7,7 @@ use native.Mathlib.Omega.{arith}
 use lib.Dec.{leb}
 use lib.Ieee.{Float, lt}
 use Rattle.shapes.specs.Numbers.{plusZero, one}
-use Rattle.imageview.specs.Image.{Image, isImage}
+use Rattle.imageview.specs.Image.{Image, isImage, inRange}
 use Rattle.imageview.specs.Patch.{supportsPatch}
 use Rattle.refine_operator.specs.Call as Operator
 use Rattle.refine_formulas.specs.declared.SaddlePointConfig.{SaddlePointConfig}
@@ -174,18 +174,19 @@ module _ (img : Image) (cfg : SaddlePointConfig) (x y : Float) (wanted : Bool) w
       let l = coefficients img columns (cfg .radius) (seed .«centre_x») (seed .«centre_y») in
       saddle-sound (taskAt img columns cfg seed) overlap wanted g (solve cfg l) l refl
 
-  by-bools : (i r l f p : Bool) (seed : Seed) (go : Seed → Refined) → (l ≡ true → Answers (go seed)) → Answers (answered (chosen i r l f p seed) go)
-  by-bools false r l f p seed go h = tt
-  by-bools true false l f p seed go h = tt
-  by-bools true true false f p seed go h = tt
-  by-bools true true true false p seed go h = tt
-  by-bools true true true true false seed go h = tt
-  by-bools true true true true true seed go h = h refl
+  by-bools : (i g r l f p : Bool) (seed : Seed) (go : Seed → Refined) → (l ≡ true → Answers (go seed)) → Answers (answered (chosen i g r l f p seed) go)
+  by-bools false g r l f p seed go h = tt
+  by-bools true false r l f p seed go h = tt
+  by-bools true true false l f p seed go h = tt
+  by-bools true true true false f p seed go h = tt
+  by-bools true true true true false p seed go h = tt
+  by-bools true true true true true false seed go h = tt
+  by-bools true true true true true true seed go h = h refl
 
   sound : Answers (refineOf img cfg x y wanted)
   unfolding refineOf
   sound =
-      by-bools (isImage img) (leb (cfg .radius) 7) (goodLimits cfg) (isPlace x y) (supportsPatch img (cfg .radius) (centreOf x) (centreOf y)) (seedOf x y) (λ seed. withOperator img cfg seed wanted (Operator.wayOf (cfg .radius)))
+      by-bools (isImage img) (inRange img) (leb (cfg .radius) 7) (goodLimits cfg) (isPlace x y) (supportsPatch img (cfg .radius) (centreOf x) (centreOf y)) (seedOf x y) (λ seed. withOperator img cfg seed wanted (Operator.wayOf (cfg .radius)))
       (λ g. by-way (seedOf x y) (Operator.wayOf (cfg .radius)) (and-eq-true-iff (goodLimit (cfg .«det_margin»)) (goodLimit (cfg .«max_offset»)) .0 (and-eq-true-iff (goodLimit (cfg .«det_margin») && goodLimit (cfg .«max_offset»)) (goodLimit (cfg .«min_abs_det»)) .0 g .0) .0))
 
 -- ---- the claims

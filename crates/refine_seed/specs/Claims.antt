@@ -8,7 +8,7 @@ use Prim.Native.Nat.{ℕ, _≤_}
 use lib.Dec.{leb}
 use lib.Ieee.{Float, lt}
 use Rattle.shapes.specs.Numbers.{plusZero}
-use Rattle.imageview.specs.Image.{Image, isImage}
+use Rattle.imageview.specs.Image.{Image, isImage, inRange}
 use Rattle.refine_operator.specs.Call as Operator
 use Rattle.refine_operator.specs.declared.Operator.{Operator}
 use Rattle.refine_operator.specs.declared.Operator.the-variants.{Built}
@@ -61,6 +61,7 @@ LentIsBuilt =
 -- image and settings can be used: no refusal
 pub record Usable (img : Image) (cfg : SaddlePointConfig) : Type 0 where
   pub image : isImage img ≡ true
+  pub range : inRange img ≡ true
   pub radius : leb (cfg .radius) 7 ≡ true
   pub limits : goodLimits cfg ≡ true
 

@@ -10,7 +10,7 @@ use lib.Ieee.Scale.{finite}
 use Rattle.shapes.specs.Numbers.{plusZero}
 use Rattle.floats.specs.Whole.{roundAway}
 use Rattle.floats.specs.Root.{sqrt}
-use Rattle.imageview.specs.Image.{Image, isImage}
+use Rattle.imageview.specs.Image.{Image, isImage, inRange}
 use Rattle.imageview.specs.Patch.{supportsPatch}
 use Rattle.refine_operator.specs.Call as Operator
 use Rattle.refine_formulas.specs.declared.SaddlePointConfig.{SaddlePointConfig}
@@ -32,7 +32,7 @@ use Rattle.refine_seed.specs.declared.Why.{Why}
 use Rattle.refine_seed.specs.declared.Why.the-variants.{Rejected, OutOfBounds, IllConditioned, BadSeed, Flawed}
 use Rattle.refine_seed.specs.declared.Admitted.{Admitted}
 use Rattle.refine_seed.specs.declared.Admitted.the-variants as Admitted
-use Rattle.refusals.specs.declared.Refusal.the-variants.{BadImage, BadRadius, BadLimit}
+use Rattle.refusals.specs.declared.Refusal.the-variants.{BadImage, BadSample, BadRadius, BadLimit}
 use Rattle.refusals.specs.Numbers as Refusals
 use Rattle.refine_fits.specs.declared.Seed.{Seed}
 use Rattle.refine_fits.specs.Candidate.{taskAt, Task, nearSeed}
@@ -93,11 +93,12 @@ isPlace x y = finite x && finite y
 abbrev pub admitOf : Image → SaddlePointConfig → Float → Float → Admitted
 admitOf img cfg x y =
     cond (not (isImage img)) (Admitted.Refused BadImage)
+    (cond (not (inRange img)) (Admitted.Refused BadSample)
     (cond (not (leb (cfg .radius) 7)) (Admitted.Refused BadRadius)
     (cond (not (goodLimits cfg)) (Admitted.Refused BadLimit)
     (cond (not (isPlace x y)) (Admitted.Unmoved BadSeed)
     (cond (not (supportsPatch img (cfg .radius) (centreOf x) (centreOf y))) (Admitted.Unmoved OutOfBounds)
-    (Admitted.Good (seedOf x y))))))
+    (Admitted.Good (seedOf x y)))))))
 
 -- a seed that passed them goes on; any other is answered at once, with the score 0.0
 abbrev pub answered : Admitted → (Seed → Refined) → Refined

@@ -21,7 +21,7 @@ use Rattle.refine_formulas.specs.Sensitivity.{slopeWithin, saddleJacobian, sens
 use Rattle.refine_formulas.specs.Covariance.{covarianceOf}
 use Rattle.refine_formulas.specs.declared.Covariance.the-variants.{Unknown}
 use Rattle.refine_seed.specs.Run.{searchFrom, stepsFrom, runOf}
-use Rattle.imageview.specs.Image.{Image, imageOf, sizesOf}
+use Rattle.imageview.specs.Image.{Image, byteImage}
 use Rattle.refine_seed.specs.declared.Sloping.{Sloping}
 use Rattle.refine_fits.specs.declared.Seed.{Seed}
 use Rattle.refine_seed.specs.PixelSlope.{Along, noWay, way, along}
@@ -67,7 +67,7 @@ pub record Going (t : Task) (first : PatchSaddle) (fits : IntegerFits) (bases : 
 -- ---- the estimate
 -- a task of which only the centre is asked
 abbrev pub centred : Seed → Task
-centred seed = taskAt (imageOf [] (sizesOf 0 0 0)) [] (record { radius = 0; «det_margin» = plusZero; «max_offset» = plusZero; «min_abs_det» = plusZero }) seed
+centred seed = taskAt (byteImage [] 0 0 0) [] (record { radius = 0; «det_margin» = plusZero; «max_offset» = plusZero; «min_abs_det» = plusZero }) seed
 
 -- an ending with overlaps
 abbrev pub closedAs : Seed → List Float → Bool → Ending → Estimate

@@ -5,7 +5,7 @@ use mathlib.Core.List.{List}
 use Prim.Native.Nat.{ℕ}
 use lib.Dec.{leb}
 use lib.Ieee.{Float}
-use Rattle.imageview.specs.Image.{Image, isImage}
+use Rattle.imageview.specs.Image.{Image, isImage, inRange}
 use Rattle.imageview.specs.Patch.{inside}
 use Rattle.refine_formulas.specs.declared.SaddlePointConfig.{SaddlePointConfig}
 use Rattle.refine_formulas.specs.declared.PatchSaddle.{PatchSaddle}
@@ -25,6 +25,7 @@ use Rattle.refine_seed.specs.Spot.{spotAt, spotOf}
 -- an image and settings that passed their tests
 pub record Ready (img : Image) (cfg : SaddlePointConfig) : Type 0 where
   pub image : isImage img ≡ true
+  pub range : inRange img ≡ true
   pub small : leb (cfg .radius) 7 ≡ true
   pub limits : goodLimits cfg ≡ true
 

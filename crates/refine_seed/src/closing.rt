@@ -90,7 +90,8 @@ pub fn closed(seed: Seed, overlap: &[f32; 225], wanted: bool, g: Ending) -> Esti
 
 // The slope along x at a pixel, from the next fit, or from the one before where the next leaves the image.
 fn along_x(
-    img: &[u8],
+    bytes: &[u8],
+    words: &[u16],
     sizes: Sizes,
     x: usize,
     y: usize,
@@ -98,18 +99,18 @@ fn along_x(
     columns: &[f32; 1125],
     here: [f32; 5],
 ) -> Sloping
-    requires { ⌜ PatchWithin (imageOf (now img) sizes) radius x y ⌝ ∗ ⌜ here ≡ coefficients (imageOf (now img) sizes) (now columns) radius x y ⌝ }
-    ensures { λ r. ⌜ GoesX (imageOf (now (img .entry)) sizes) (now (columns .entry)) radius x y r ⌝ }
+    requires { ⌜ PatchWithin (imageOf (now bytes) (now words) sizes) radius x y ⌝ ∗ ⌜ here ≡ coefficients (imageOf (now bytes) (now words) sizes) (now columns) radius x y ⌝ }
+    ensures { λ r. ⌜ GoesX (imageOf (now (bytes .entry)) (now (words .entry)) sizes) (now (columns .entry)) radius x y r ⌝ }
 {
     if x + 1 + radius < sizes.width {
-        let next = fits::fit_patch(img, sizes, x + 1, y, radius, columns);
+        let next = fits::fit_patch(bytes, words, sizes, x + 1, y, radius, columns);
         return Sloping {
             found: true,
             coefs: sensitivity::difference(next, here),
         };
     }
     if radius < x {
-        let before = fits::fit_patch(img, sizes, x - 1, y, radius, columns);
+        let before = fits::fit_patch(bytes, words, sizes, x - 1, y, radius, columns);
         return Sloping {
             found: true,
             coefs: sensitivity::difference(here, before),
@@ -122,7 +123,8 @@ fn along_x(
 }
 
 fn along_y(
-    img: &[u8],
+    bytes: &[u8],
+    words: &[u16],
     sizes: Sizes,
     x: usize,
     y: usize,
@@ -130,18 +132,18 @@ fn along_y(
     columns: &[f32; 1125],
     here: [f32; 5],
 ) -> Sloping
-    requires { ⌜ PatchWithin (imageOf (now img) sizes) radius x y ⌝ ∗ ⌜ here ≡ coefficients (imageOf (now img) sizes) (now columns) radius x y ⌝ }
-    ensures { λ r. ⌜ GoesY (imageOf (now (img .entry)) sizes) (now (columns .entry)) radius x y r ⌝ }
+    requires { ⌜ PatchWithin (imageOf (now bytes) (now words) sizes) radius x y ⌝ ∗ ⌜ here ≡ coefficients (imageOf (now bytes) (now words) sizes) (now columns) radius x y ⌝ }
+    ensures { λ r. ⌜ GoesY (imageOf (now (bytes .entry)) (now (words .entry)) sizes) (now (columns .entry)) radius x y r ⌝ }
 {
     if y + 1 + radius < sizes.height {
-        let next = fits::fit_patch(img, sizes, x, y + 1, radius, columns);
+        let next = fits::fit_patch(bytes, words, sizes, x, y + 1, radius, columns);
         return Sloping {
             found: true,
             coefs: sensitivity::difference(next, here),
         };
     }
     if radius < y {
-        let before = fits::fit_patch(img, sizes, x, y - 1, radius, columns);
+        let before = fits::fit_patch(bytes, words, sizes, x, y - 1, radius, columns);
         return Sloping {
             found: true,
             coefs: sensitivity::difference(here, before),
@@ -155,7 +157,8 @@ fn along_y(
 
 // Where the first fit is settled: the slope is that of the centre pixel.
 fn at_centre(
-    img: &[u8],
+    bytes: &[u8],
+    words: &[u16],
     sizes: Sizes,
     columns: &[f32; 1125],
     cfg: SaddlePointConfig,
@@ -163,14 +166,14 @@ fn at_centre(
     here: [f32; 5],
     first: PatchSaddle,
 ) -> Opened
-    requires { ⌜ PatchWithin (imageOf (now img) sizes) (cfg .radius) (seed .«centre_x») (seed .«centre_y») ⌝ ∗ ⌜ here ≡ coefficients (imageOf (now img) sizes) (now columns) (cfg .radius) (seed .«centre_x») (seed .«centre_y») ⌝ ∗ ⌜ Solve.settled first ≡ true ⌝ }
-    ensures { λ r. ⌜ Opens (ranOut (taskAt (imageOf (now (img .entry)) sizes) (now (columns .entry)) cfg seed) first) seed r ⌝ }
+    requires { ⌜ PatchWithin (imageOf (now bytes) (now words) sizes) (cfg .radius) (seed .«centre_x») (seed .«centre_y») ⌝ ∗ ⌜ here ≡ coefficients (imageOf (now bytes) (now words) sizes) (now columns) (cfg .radius) (seed .«centre_x») (seed .«centre_y») ⌝ ∗ ⌜ Solve.settled first ≡ true ⌝ }
+    ensures { λ r. ⌜ Opens (ranOut (taskAt (imageOf (now (bytes .entry)) (now (words .entry)) sizes) (now (columns .entry)) cfg seed) first) seed r ⌝ }
 {
     let radius = cfg.radius;
     let cx = seed.centre_x;
     let cy = seed.centre_y;
-    let ax = along_x(img, sizes, cx, cy, radius, columns, here);
-    let ay = along_y(img, sizes, cx, cy, radius, columns, here);
+    let ax = along_x(bytes, words, sizes, cx, cy, radius, columns, here);
+    let ay = along_y(bytes, words, sizes, cx, cy, radius, columns, here);
     if ax.found {
         if ay.found {
             let x = ax.coefs;
@@ -224,7 +227,8 @@ fn at_window(e: Ended) -> Ending
 
 // From the first fit, whose saddle is `first`.
 pub fn opened(
-    img: &[u8],
+    bytes: &[u8],
+    words: &[u16],
     sizes: Sizes,
     columns: &[f32; 1125],
     cfg: SaddlePointConfig,
@@ -232,13 +236,13 @@ pub fn opened(
     here: [f32; 5],
     first: PatchSaddle,
 ) -> Opened
-    requires { ⌜ PatchWithin (imageOf (now img) sizes) (cfg .radius) (seed .«centre_x») (seed .«centre_y») ⌝ ∗ ⌜ here ≡ coefficients (imageOf (now img) sizes) (now columns) (cfg .radius) (seed .«centre_x») (seed .«centre_y») ⌝ }
-    ensures { λ r. ⌜ Opens (ranOut (taskAt (imageOf (now (img .entry)) sizes) (now (columns .entry)) cfg seed) first) seed r ⌝ }
+    requires { ⌜ PatchWithin (imageOf (now bytes) (now words) sizes) (cfg .radius) (seed .«centre_x») (seed .«centre_y») ⌝ ∗ ⌜ here ≡ coefficients (imageOf (now bytes) (now words) sizes) (now columns) (cfg .radius) (seed .«centre_x») (seed .«centre_y») ⌝ }
+    ensures { λ r. ⌜ Opens (ranOut (taskAt (imageOf (now (bytes .entry)) (now (words .entry)) sizes) (now (columns .entry)) cfg seed) first) seed r ⌝ }
 {
     if solve::settled(first) {
-        return at_centre(img, sizes, columns, cfg, seed, here, first);
+        return at_centre(bytes, words, sizes, columns, cfg, seed, here, first);
     }
-    let e = steps::run(img, sizes, columns, cfg, seed, first);
+    let e = steps::run(bytes, words, sizes, columns, cfg, seed, first);
     if e.settled {
         return Opened::Open(at_window(e));
     }

@@ -28,7 +28,8 @@ ghost use Prim.Native.Nat.{_≤_, _<_};
 
 // The refiner of one seed with an operator that is lent.
 pub fn refine_with(
-    img: &[u8],
+    bytes: &[u8],
+    words: &[u16],
     sizes: Sizes,
     cfg: SaddlePointConfig,
     x: f32,
@@ -37,11 +38,20 @@ pub fn refine_with(
     columns: &[f32; 1125],
     overlap: &[f32; 225],
 ) -> Refined
-    ensures { λ r. ⌜ r ≡ refineLent (imageOf (now (img .entry)) sizes) cfg x y wanted (now (columns .entry)) (now (overlap .entry)) ⌝ }
+    ensures { λ r. ⌜ r ≡ refineLent (imageOf (now (bytes .entry)) (now (words .entry)) sizes) cfg x y wanted (now (columns .entry)) (now (overlap .entry)) ⌝ }
 {
-    let admitted = admit(img, sizes, cfg, x, y);
+    let admitted = admit(bytes, words, sizes, cfg, x, y);
     match admitted {
-        Admitted::Good(seed) => refine_lent(img, sizes, cfg, seed, wanted, columns, overlap),
+        Admitted::Good(seed) => refine_lent(
+            bytes,
+            words,
+            sizes,
+            cfg,
+            seed,
+            wanted,
+            columns,
+            overlap,
+        ),
         Admitted::Unmoved(why) => Refined::Unmoved(why, 0.0),
         Admitted::Refused(refusal) => Refined::Refused(refusal),
     }
@@ -49,18 +59,19 @@ pub fn refine_with(
 
 // The refiner of one seed; it builds its own operator, after the tests.
 pub fn refine(
-    img: &[u8],
+    bytes: &[u8],
+    words: &[u16],
     sizes: Sizes,
     cfg: SaddlePointConfig,
     x: f32,
     y: f32,
     wanted: bool,
 ) -> Refined
-    ensures { λ r. ⌜ r ≡ refineOf (imageOf (now (img .entry)) sizes) cfg x y wanted ⌝ }
+    ensures { λ r. ⌜ r ≡ refineOf (imageOf (now (bytes .entry)) (now (words .entry)) sizes) cfg x y wanted ⌝ }
 {
-    let admitted = admit(img, sizes, cfg, x, y);
+    let admitted = admit(bytes, words, sizes, cfg, x, y);
     match admitted {
-        Admitted::Good(seed) => refine_fresh(img, sizes, cfg, seed, wanted),
+        Admitted::Good(seed) => refine_fresh(bytes, words, sizes, cfg, seed, wanted),
         Admitted::Unmoved(why) => Refined::Unmoved(why, 0.0),
         Admitted::Refused(refusal) => Refined::Refused(refusal),
     }
@@ -68,16 +79,17 @@ pub fn refine(
 
 // A seed that passed the tests, with the operator of the settings' radius.
 fn refine_fresh(
-    img: &[u8],
+    bytes: &[u8],
+    words: &[u16],
     sizes: Sizes,
     cfg: SaddlePointConfig,
     seed: Seed,
     wanted: bool,
 ) -> Refined
-    requires { ⌜ PatchWithin (imageOf (now img) sizes) (cfg .radius) (seed .«centre_x») (seed .«centre_y») ⌝ }
-    ensures { λ r. ⌜ r ≡ withOperator (imageOf (now (img .entry)) sizes) cfg seed wanted (wayOf (cfg .radius)) ⌝ }
+    requires { ⌜ PatchWithin (imageOf (now bytes) (now words) sizes) (cfg .radius) (seed .«centre_x») (seed .«centre_y») ⌝ }
+    ensures { λ r. ⌜ r ≡ withOperator (imageOf (now (bytes .entry)) (now (words .entry)) sizes) cfg seed wanted (wayOf (cfg .radius)) ⌝ }
 {
-    let opened = open_fresh(img, sizes, cfg, seed);
+    let opened = open_fresh(bytes, words, sizes, cfg, seed);
     match opened {
         Opened::Open(g) => Refined::Accepted(close_fresh(cfg.radius, seed, wanted, g)),
         Opened::Done(answer) => answer,
@@ -85,14 +97,20 @@ fn refine_fresh(
 }
 
 // As far as the columns go; at radius 0 there is no operator.
-fn open_fresh(img: &[u8], sizes: Sizes, cfg: SaddlePointConfig, seed: Seed) -> Opened
-    requires { ⌜ PatchWithin (imageOf (now img) sizes) (cfg .radius) (seed .«centre_x») (seed .«centre_y») ⌝ }
-    ensures { λ r. ⌜ OpensFresh (imageOf (now (img .entry)) sizes) cfg seed r ⌝ }
+fn open_fresh(
+    bytes: &[u8],
+    words: &[u16],
+    sizes: Sizes,
+    cfg: SaddlePointConfig,
+    seed: Seed,
+) -> Opened
+    requires { ⌜ PatchWithin (imageOf (now bytes) (now words) sizes) (cfg .radius) (seed .«centre_x») (seed .«centre_y») ⌝ }
+    ensures { λ r. ⌜ OpensFresh (imageOf (now (bytes .entry)) (now (words .entry)) sizes) cfg seed r ⌝ }
 {
     let mut columns = [0.0f32; 1125];
     let operator = refine_operator::fit_columns(cfg.radius, &mut columns);
     match operator {
-        Operator::Built => open_seed(img, sizes, cfg, seed, &columns),
+        Operator::Built => open_seed(bytes, words, sizes, cfg, seed, &columns),
         Operator::Singular => Opened::Done(Refined::Unmoved(Why::IllConditioned, 0.0)),
         Operator::Refused(refusal) => Opened::Done(Refined::Refused(refusal)),
     }
@@ -179,11 +197,21 @@ fn is_place(x: f32, y: f32) -> bool
 }
 
 // The tests before the first fit.
-fn admit(img: &[u8], sizes: Sizes, cfg: SaddlePointConfig, x: f32, y: f32) -> Admitted
-    ensures { λ r. ⌜ r ≡ admitOf (imageOf (now (img .entry)) sizes) cfg x y ⌝ }
+fn admit(
+    bytes: &[u8],
+    words: &[u16],
+    sizes: Sizes,
+    cfg: SaddlePointConfig,
+    x: f32,
+    y: f32,
+) -> Admitted
+    ensures { λ r. ⌜ r ≡ admitOf (imageOf (now (bytes .entry)) (now (words .entry)) sizes) cfg x y ⌝ }
 {
-    if !imageview::is_image(img, sizes) {
+    if !imageview::is_image(bytes, words, sizes) {
         return Admitted::Refused(Refusal::BadImage);
+    }
+    if !imageview::in_range(bytes, words, sizes) {
+        return Admitted::Refused(Refusal::BadSample);
     }
     if 7 < cfg.radius {
         return Admitted::Refused(Refusal::BadRadius);
@@ -217,7 +245,8 @@ pub fn place_seed(sizes: Sizes, radius: usize, x: f32, y: f32) -> Admitted
 
 // A seed that passed the tests, with an operator that is lent; at radius 0 there is none, whatever is lent.
 fn refine_lent(
-    img: &[u8],
+    bytes: &[u8],
+    words: &[u16],
     sizes: Sizes,
     cfg: SaddlePointConfig,
     seed: Seed,
@@ -225,13 +254,13 @@ fn refine_lent(
     columns: &[f32; 1125],
     overlap: &[f32; 225],
 ) -> Refined
-    requires { ⌜ PatchWithin (imageOf (now img) sizes) (cfg .radius) (seed .«centre_x») (seed .«centre_y») ⌝ }
-    ensures { λ r. ⌜ r ≡ lentWith cfg (refineWith (imageOf (now (img .entry)) sizes) cfg seed wanted (now (columns .entry)) (now (overlap .entry))) ⌝ }
+    requires { ⌜ PatchWithin (imageOf (now bytes) (now words) sizes) (cfg .radius) (seed .«centre_x») (seed .«centre_y») ⌝ }
+    ensures { λ r. ⌜ r ≡ lentWith cfg (refineWith (imageOf (now (bytes .entry)) (now (words .entry)) sizes) cfg seed wanted (now (columns .entry)) (now (overlap .entry))) ⌝ }
 {
     if cfg.radius == 0 {
         return Refined::Unmoved(Why::IllConditioned, 0.0);
     }
-    let opened = open_seed(img, sizes, cfg, seed, columns);
+    let opened = open_seed(bytes, words, sizes, cfg, seed, columns);
     match opened {
         Opened::Open(g) => Refined::Accepted(closing::closed(seed, overlap, wanted, g)),
         Opened::Done(answer) => answer,
@@ -240,25 +269,26 @@ fn refine_lent(
 
 // A seed that passed the tests: the first fit decides acceptance.
 fn open_seed(
-    img: &[u8],
+    bytes: &[u8],
+    words: &[u16],
     sizes: Sizes,
     cfg: SaddlePointConfig,
     seed: Seed,
     columns: &[f32; 1125],
 ) -> Opened
-    requires { ⌜ PatchWithin (imageOf (now img) sizes) (cfg .radius) (seed .«centre_x») (seed .«centre_y») ⌝ }
-    ensures { λ r. ⌜ Opens (λ overlap wanted. refineWith (imageOf (now (img .entry)) sizes) cfg seed wanted (now (columns .entry)) overlap) seed r ⌝ }
+    requires { ⌜ PatchWithin (imageOf (now bytes) (now words) sizes) (cfg .radius) (seed .«centre_x») (seed .«centre_y») ⌝ }
+    ensures { λ r. ⌜ Opens (λ overlap wanted. refineWith (imageOf (now (bytes .entry)) (now (words .entry)) sizes) cfg seed wanted (now (columns .entry)) overlap) seed r ⌝ }
 {
     let radius = cfg.radius;
     let cx = seed.centre_x;
     let cy = seed.centre_y;
-    let here = fits::fit_patch(img, sizes, cx, cy, radius, columns);
+    let here = fits::fit_patch(bytes, words, sizes, cx, cy, radius, columns);
     let solved = solve::solve(cfg, here);
     match solved {
         Solved::Refused(flaw, det) => Opened::Done(Refined::Unmoved(Why::Flawed(flaw), det)),
         Solved::Saddle(f) => {
             if tries::near_seed(cfg, seed, f.ux, f.uy) {
-                return closing::opened(img, sizes, columns, cfg, seed, here, f);
+                return closing::opened(bytes, words, sizes, columns, cfg, seed, here, f);
             }
             Opened::Done(Refined::Unmoved(Why::Rejected, f.det_h))
         }

@@ -24,7 +24,7 @@ ghost use Rattle.refine_seed.specs.declared.Spot.the-variants.{At};
 ghost use Rattle.refine_seed.specs.Refine.{refineWith, lentWith, refineLent};
 ghost use Rattle.refine_seed.specs.StepsSpot.{Ready, seedAlone, firstFor, Fitted, Comes, Lands};
 
-// Where the patch about a seed begins in the image's bytes; 0 for a seed that does not pass its own tests.
+// Where the patch about a seed begins in the image's samples; 0 for a seed that does not pass its own tests.
 pub fn first_place(sizes: Sizes, radius: usize, x: f32, y: f32) -> usize
     requires { ⌜ (sizes .width ≤ 4096) × (sizes .height ≤ 4096) × (sizes .pitch ≤ 8192) ⌝ }
     ensures { λ r. ⌜ r ≡ firstFor (sizes .pitch) radius (seedAlone (sizes .width) (sizes .height) radius x y) ⌝ }
@@ -39,7 +39,8 @@ pub fn first_place(sizes: Sizes, radius: usize, x: f32, y: f32) -> usize
 
 // The spot of one seed with an operator that is lent and the seed's first fit, which a list works out for four seeds at once.
 pub fn spot_with(
-    img: &[u8],
+    bytes: &[u8],
+    words: &[u16],
     sizes: Sizes,
     cfg: SaddlePointConfig,
     x: f32,
@@ -47,12 +48,12 @@ pub fn spot_with(
     columns: &[f32; 1125],
     here: [f32; 5],
 ) -> Spot
-    requires { ⌜ Ready (imageOf (now img) sizes) cfg ⌝ ∗ ⌜ Fitted (imageOf (now img) sizes) (now columns) cfg x y here ⌝ }
-    ensures { λ r. ⌜ Lands (λ overlap wanted. refineLent (imageOf (now (img .entry)) sizes) cfg x y wanted (now (columns .entry)) overlap) r ⌝ }
+    requires { ⌜ Ready (imageOf (now bytes) (now words) sizes) cfg ⌝ ∗ ⌜ Fitted (imageOf (now bytes) (now words) sizes) (now columns) cfg x y here ⌝ }
+    ensures { λ r. ⌜ Lands (λ overlap wanted. refineLent (imageOf (now (bytes .entry)) (now (words .entry)) sizes) cfg x y wanted (now (columns .entry)) overlap) r ⌝ }
 {
     let placed = entry::place_seed(sizes, cfg.radius, x, y);
     match placed {
-        Admitted::Good(seed) => spot_lent(img, sizes, cfg, seed, columns, here),
+        Admitted::Good(seed) => spot_lent(bytes, words, sizes, cfg, seed, columns, here),
         Admitted::Unmoved(_) => Spot::Nowhere,
         Admitted::Refused(_) => Spot::Nowhere,
     }
@@ -60,40 +61,42 @@ pub fn spot_with(
 
 // A seed that passed the tests; at radius 0 there is no operator, whatever is lent.
 fn spot_lent(
-    img: &[u8],
+    bytes: &[u8],
+    words: &[u16],
     sizes: Sizes,
     cfg: SaddlePointConfig,
     seed: Seed,
     columns: &[f32; 1125],
     here: [f32; 5],
 ) -> Spot
-    requires { ⌜ PatchWithin (imageOf (now img) sizes) (cfg .radius) (seed .«centre_x») (seed .«centre_y») ⌝ ∗ ⌜ here ≡ coefficients (imageOf (now img) sizes) (now columns) (cfg .radius) (seed .«centre_x») (seed .«centre_y») ⌝ }
-    ensures { λ r. ⌜ Lands (λ overlap wanted. lentWith cfg (refineWith (imageOf (now (img .entry)) sizes) cfg seed wanted (now (columns .entry)) overlap)) r ⌝ }
+    requires { ⌜ PatchWithin (imageOf (now bytes) (now words) sizes) (cfg .radius) (seed .«centre_x») (seed .«centre_y») ⌝ ∗ ⌜ here ≡ coefficients (imageOf (now bytes) (now words) sizes) (now columns) (cfg .radius) (seed .«centre_x») (seed .«centre_y») ⌝ }
+    ensures { λ r. ⌜ Lands (λ overlap wanted. lentWith cfg (refineWith (imageOf (now (bytes .entry)) (now (words .entry)) sizes) cfg seed wanted (now (columns .entry)) overlap)) r ⌝ }
 {
     if cfg.radius == 0 {
         return Spot::Nowhere;
     }
-    spot_of_seed(img, sizes, cfg, seed, columns, here)
+    spot_of_seed(bytes, words, sizes, cfg, seed, columns, here)
 }
 
 // A seed that passed the tests: the first fit decides acceptance.
 fn spot_of_seed(
-    img: &[u8],
+    bytes: &[u8],
+    words: &[u16],
     sizes: Sizes,
     cfg: SaddlePointConfig,
     seed: Seed,
     columns: &[f32; 1125],
     here: [f32; 5],
 ) -> Spot
-    requires { ⌜ PatchWithin (imageOf (now img) sizes) (cfg .radius) (seed .«centre_x») (seed .«centre_y») ⌝ ∗ ⌜ here ≡ coefficients (imageOf (now img) sizes) (now columns) (cfg .radius) (seed .«centre_x») (seed .«centre_y») ⌝ }
-    ensures { λ r. ⌜ Lands (λ overlap wanted. refineWith (imageOf (now (img .entry)) sizes) cfg seed wanted (now (columns .entry)) overlap) r ⌝ }
+    requires { ⌜ PatchWithin (imageOf (now bytes) (now words) sizes) (cfg .radius) (seed .«centre_x») (seed .«centre_y») ⌝ ∗ ⌜ here ≡ coefficients (imageOf (now bytes) (now words) sizes) (now columns) (cfg .radius) (seed .«centre_x») (seed .«centre_y») ⌝ }
+    ensures { λ r. ⌜ Lands (λ overlap wanted. refineWith (imageOf (now (bytes .entry)) (now (words .entry)) sizes) cfg seed wanted (now (columns .entry)) overlap) r ⌝ }
 {
     let solved = solve::solve(cfg, here);
     match solved {
         Solved::Refused(_, _) => Spot::Nowhere,
         Solved::Saddle(f) => {
             if tries::near_seed(cfg, seed, f.ux, f.uy) {
-                return spot_from(img, sizes, columns, cfg, seed, f);
+                return spot_from(bytes, words, sizes, columns, cfg, seed, f);
             }
             Spot::Nowhere
         }
@@ -102,20 +105,21 @@ fn spot_of_seed(
 
 // From the first fit's saddle.
 fn spot_from(
-    img: &[u8],
+    bytes: &[u8],
+    words: &[u16],
     sizes: Sizes,
     columns: &[f32; 1125],
     cfg: SaddlePointConfig,
     seed: Seed,
     first: PatchSaddle,
 ) -> Spot
-    requires { ⌜ PatchWithin (imageOf (now img) sizes) (cfg .radius) (seed .«centre_x») (seed .«centre_y») ⌝ }
-    ensures { λ r. ⌜ Comes (taskAt (imageOf (now (img .entry)) sizes) (now (columns .entry)) cfg seed) first r ⌝ }
+    requires { ⌜ PatchWithin (imageOf (now bytes) (now words) sizes) (cfg .radius) (seed .«centre_x») (seed .«centre_y») ⌝ }
+    ensures { λ r. ⌜ Comes (taskAt (imageOf (now (bytes .entry)) (now (words .entry)) sizes) (now (columns .entry)) cfg seed) first r ⌝ }
 {
     if solve::settled(first) {
         return spot_at(seed, 0.0, 0.0, first);
     }
-    let e = steps::run(img, sizes, columns, cfg, seed, first);
+    let e = steps::run(bytes, words, sizes, columns, cfg, seed, first);
     if e.settled {
         let fit = e.fit;
         return spot_at(seed, e.ox, e.oy, fit);

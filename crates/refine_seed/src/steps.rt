@@ -125,15 +125,16 @@ fn halved(step: Step) -> Step
 
 // From the first fit's saddle, which is not settled.
 pub fn run(
-    img: &[u8],
+    bytes: &[u8],
+    words: &[u16],
     sizes: Sizes,
     columns: &[f32; 1125],
     cfg: SaddlePointConfig,
     seed: Seed,
     first: PatchSaddle,
 ) -> Ended
-    requires { ⌜ Sound (imageOf (now img) sizes) (cfg .radius) ⌝ ∗ ⌜ (seed .«centre_x» < 4096) × (seed .«centre_y» < 4096) ⌝ ∗ ⌜ Solve.settled first ≡ false ⌝ }
-    ensures { λ r. ⌜ Ends (taskAt (imageOf (now (img .entry)) sizes) (now (columns .entry)) cfg seed) first r ⌝ }
+    requires { ⌜ Sound (imageOf (now bytes) (now words) sizes) (cfg .radius) ⌝ ∗ ⌜ (seed .«centre_x» < 4096) × (seed .«centre_y» < 4096) ⌝ ∗ ⌜ Solve.settled first ≡ false ⌝ }
+    ensures { λ r. ⌜ Ends (taskAt (imageOf (now (bytes .entry)) (now (words .entry)) sizes) (now (columns .entry)) cfg seed) first r ⌝ }
 {
     let mut fits = no_fits();
     let mut bases = laid::no_bases();
@@ -145,10 +146,10 @@ pub fn run(
         let nx = step.ox + step.scale * step.x;
         let ny = step.oy + step.scale * step.y;
         let w = place::window_at(seed.centre_x, seed.centre_y, nx, ny);
-        let r = bases.ready(img, sizes, w, cfg.radius, columns, &mut flat);
+        let r = bases.ready(bytes, words, sizes, w, cfg.radius, columns, &mut flat);
         bases = r.bases;
         if r.further {
-            fits = fits.lay(img, sizes, w, cfg.radius, columns, &mut flat);
+            fits = fits.lay(bytes, words, sizes, w, cfg.radius, columns, &mut flat);
         }
         let corners = laid::corners_at(&flat, r.to);
         let c = tries::candidate(cfg, seed, fit, nx, ny, r.room, corners, w.tx, w.ty);

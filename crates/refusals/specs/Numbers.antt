@@ -1,7 +1,7 @@
 -- The number of each refusal; docs/RULES.md says when each is given.
 use Prim.Native.Nat.{ℕ}
 use Rattle.refusals.specs.declared.Refusal.{Refusal}
-use Rattle.refusals.specs.declared.Refusal.the-variants.{BadImage, BadRadius, BadLimit, BadRing, EmptyRoi, BadOut, TooMany, GridTooBig, BadScratch, BadLength, NoMagic, BadHeader, BadGraymapSize, TooShort, LeftOver, BadBoard, BadPlaces, BadList, NoSuchCorner}
+use Rattle.refusals.specs.declared.Refusal.the-variants.{BadImage, BadRadius, BadLimit, BadRing, EmptyRoi, BadOut, TooMany, GridTooBig, BadScratch, BadLength, NoMagic, BadHeader, BadGraymapSize, TooShort, LeftOver, BadSample, BadBuffer, BadBoard, BadPlaces, BadList, NoSuchCorner}
 
 abbrev pub numberOf : Refusal → ℕ
 numberOf BadImage = 10
@@ -19,6 +19,8 @@ numberOf BadHeader = 21
 numberOf BadGraymapSize = 22
 numberOf TooShort = 23
 numberOf LeftOver = 25
+numberOf BadSample = 26
+numberOf BadBuffer = 27
 numberOf BadBoard = 30
 numberOf BadPlaces = 31
 numberOf BadList = 32

@@ -87,7 +87,9 @@ fn fit_is(case: &[u8], patch: &[u8], radius: usize, pitch: usize) -> bool
         width: side,
         height: side,
         pitch,
+        deep: false,
     };
-    let coefs = fits::fit_patch(patch, sizes, radius, radius, radius, &columns);
+    let none = [0u16; 1];
+    let coefs = fits::fit_patch(patch, &none[0..0], sizes, radius, radius, radius, &columns);
     numbers::are(case, coefficients(case), coefs)
 }

@@ -1,27 +1,25 @@
 -- The call: the clamped region's size, the values by the ring itself, the list that is written, and the tests in their order.
 use mathlib.Core.Path.{_≡_, refl, sym, ap, _∙_, subst}
-use mathlib.Core.Logic.{⊎-elim}
 use mathlib.Core.Bool.{Bool, true, false, not, _&&_, _||_, cond}
-use mathlib.Core.List.{List, [], _∷_, _++_}
+use mathlib.Core.List.{List}
 use Prim.Native.Nat.{ℕ, zero, suc, _+_, _-_, _*_, _/_, _%_, min, _≤_, _<_}
-use native.Mathlib.Nat.{zero-add, le-trans, eq-or-lt-of-le, le-of-suc-le-suc}
-use native.Mathlib.Numerals.{add-one}
+use native.Mathlib.Nat.{zero-add, le-trans}
 use native.Mathlib.Omega.{arith}
 use lib.Dec.{T, leb}
 use lib.IntN.{ℤ, pos, negsuc, natAbs}
-use lib.ListN.{length, getD, length-append, List·getD-append}
-use lib.Seq.{ext-getD, getD-at}
+use lib.ListN.{length, getD}
+use lib.Seq.{ext-getD}
 use lib.Ieee.{Float}
 use borrow.Author.Tests.{le-leb, lt-leb, leb-false, eqb-true, eq-eqb, ne-eqb}
 use Rattle.shapes.proofs.TestLaws.{first-not, second-not}
 use Rattle.shapes.specs.Numbers.{plusZero}
 use Rattle.shapes.specs.Lists.{tabulated}
 use Rattle.shapes.proofs.ListLaws.{length-tabulated, getD-tabulated}
-use Rattle.imageview.specs.Image.{Image, isImage, pixel}
+use Rattle.imageview.specs.Image.{Image, isImage, inRange, pixel}
 use Rattle.response.specs.declared.Response.{Response}
 use Rattle.response.specs.declared.Response.the-variants.{Written, Refused}
 use Rattle.refusals.specs.declared.Refusal.{Refusal}
-use Rattle.refusals.specs.declared.Refusal.the-variants.{BadImage, BadRadius, BadRing, EmptyRoi, BadOut}
+use Rattle.refusals.specs.declared.Refusal.the-variants.{BadImage, BadSample, BadRadius, BadRing, EmptyRoi, BadOut}
 use Rattle.response.specs.Region.{Region, clamped, isEmpty, widthOf, heightOf, moved, ringSample, crossSample, ringFits, ringWithin, writtenAt, written}
 use Rattle.response.specs.Call.{Way, refused, wrote, wayOf, answerOf, outAfter, Done}
 use Rattle.pixel_response.specs.Steps.{Wrote}
@@ -178,14 +176,15 @@ written-is img ring offsets radius c out out' o high w e v =
 
 -- ---- the tests in their order
 module _ (img : Image) (ring : List ℤ) (radius : ℕ) (r : Region) (out : List Float) where
-  abbrev way : Bool → Bool → Bool → Bool → Bool → Way
-  way a b c d e =
+  abbrev way : Bool → Bool → Bool → Bool → Bool → Bool → Way
+  way a f b c d e =
       cond (not a) (refused BadImage)
+      (cond (not f) (refused BadSample)
       (cond (not b) (refused BadRadius)
       (cond (not c) (refused BadRing)
       (cond d (refused EmptyRoi)
       (cond (not e) (refused BadOut)
-      (wrote (clamped img r))))))
+      (wrote (clamped img r)))))))
 
   abbrev radiusFits : Bool
   radiusFits = leb 1 radius && leb radius 10
@@ -193,47 +192,51 @@ module _ (img : Image) (ring : List ℤ) (radius : ℕ) (r : Region) (out : List
   abbrev left : Way
   left = wayOf img ring radius r (length out)
 
-  is-way : left ≡ way (isImage img) radiusFits (ringWithin radius ring) (isEmpty r) (sizeFits img r (length out))
+  is-way : left ≡ way (isImage img) (inRange img) radiusFits (ringWithin radius ring) (isEmpty r) (sizeFits img r (length out))
   unfolding wayOf
   is-way = refl
 
-  to : (a b c d e : Bool) → isImage img ≡ a → radiusFits ≡ b → ringWithin radius ring ≡ c → isEmpty r ≡ d → sizeFits img r (length out) ≡ e → left ≡ way a b c d e
-  to a b c d e p q s t u =
+  to : (a f b c d e : Bool) → isImage img ≡ a → inRange img ≡ f → radiusFits ≡ b → ringWithin radius ring ≡ c → isEmpty r ≡ d → sizeFits img r (length out) ≡ e → left ≡ way a f b c d e
+  to a f b c d e p v q s t u =
       is-way
-      ∙ ap (λ (z : Bool). way z radiusFits (ringWithin radius ring) (isEmpty r) (sizeFits img r (length out))) p
-      ∙ ap (λ (z : Bool). way a z (ringWithin radius ring) (isEmpty r) (sizeFits img r (length out))) q
-      ∙ ap (λ (z : Bool). way a b z (isEmpty r) (sizeFits img r (length out))) s
-      ∙ ap (λ (z : Bool). way a b c z (sizeFits img r (length out))) t
-      ∙ ap (λ (z : Bool). way a b c d z) u
+      ∙ ap (λ (z : Bool). way z (inRange img) radiusFits (ringWithin radius ring) (isEmpty r) (sizeFits img r (length out))) p
+      ∙ ap (λ (z : Bool). way a z radiusFits (ringWithin radius ring) (isEmpty r) (sizeFits img r (length out))) v
+      ∙ ap (λ (z : Bool). way a f z (ringWithin radius ring) (isEmpty r) (sizeFits img r (length out))) q
+      ∙ ap (λ (z : Bool). way a f b z (isEmpty r) (sizeFits img r (length out))) s
+      ∙ ap (λ (z : Bool). way a f b c z (sizeFits img r (length out))) t
+      ∙ ap (λ (z : Bool). way a f b c d z) u
 
   refuse : (a : Refusal) → left ≡ refused a → Done img ring radius r out (Refused a) out
   refuse a e = record { answers = sym (ap answerOf e); leaves = sym (ap (outAfter img ring radius out) e) }
 
   pub bad-image : isImage img ≡ false → Done img ring radius r out (Refused BadImage) out
-  bad-image p = refuse BadImage (to false radiusFits (ringWithin radius ring) (isEmpty r) (sizeFits img r (length out)) p refl refl refl refl)
+  bad-image p = refuse BadImage (to false (inRange img) radiusFits (ringWithin radius ring) (isEmpty r) (sizeFits img r (length out)) p refl refl refl refl refl)
 
-  module _ (i : isImage img ≡ true) where
+  pub bad-sample : isImage img ≡ true → inRange img ≡ false → Done img ring radius r out (Refused BadSample) out
+  bad-sample i p = refuse BadSample (to true false radiusFits (ringWithin radius ring) (isEmpty r) (sizeFits img r (length out)) i p refl refl refl refl)
+
+  module _ (i : isImage img ≡ true) (f : inRange img ≡ true) where
     pub small-radius : radius < 1 → Done img ring radius r out (Refused BadRadius) out
-    small-radius h = refuse BadRadius (to true false (ringWithin radius ring) (isEmpty r) (sizeFits img r (length out)) i (ap (λ (z : Bool). z && leb radius 10) (lt-leb 1 radius h)) refl refl refl)
+    small-radius h = refuse BadRadius (to true true false (ringWithin radius ring) (isEmpty r) (sizeFits img r (length out)) i f (ap (λ (z : Bool). z && leb radius 10) (lt-leb 1 radius h)) refl refl refl)
 
     pub large-radius : 1 ≤ radius → 10 < radius → Done img ring radius r out (Refused BadRadius) out
     large-radius l h =
-        refuse BadRadius (to true false (ringWithin radius ring) (isEmpty r) (sizeFits img r (length out)) i (ap (λ (z : Bool). z && leb radius 10) (le-leb 1 radius l) ∙ lt-leb radius 10 h) refl refl refl)
+        refuse BadRadius (to true true false (ringWithin radius ring) (isEmpty r) (sizeFits img r (length out)) i f (ap (λ (z : Bool). z && leb radius 10) (le-leb 1 radius l) ∙ lt-leb radius 10 h) refl refl refl)
 
     module _ (low : 1 ≤ radius) (high : radius ≤ 10) where
       radius-fits : radiusFits ≡ true
       radius-fits = ap (λ (z : Bool). z && leb radius 10) (le-leb 1 radius low) ∙ le-leb radius 10 high
 
       pub bad-ring : ringWithin radius ring ≡ false → Done img ring radius r out (Refused BadRing) out
-      bad-ring q = refuse BadRing (to true true false (isEmpty r) (sizeFits img r (length out)) i radius-fits q refl refl)
+      bad-ring q = refuse BadRing (to true true true false (isEmpty r) (sizeFits img r (length out)) i f radius-fits q refl refl)
 
       module _ (w : ringWithin radius ring ≡ true) where
         pub empty-columns : r .x1 ≤ r .x0 → Done img ring radius r out (Refused EmptyRoi) out
-        empty-columns h = refuse EmptyRoi (to true true true true (sizeFits img r (length out)) i radius-fits w (ap (λ (z : Bool). z || leb (r .y1) (r .y0)) (le-leb (r .x1) (r .x0) h)) refl)
+        empty-columns h = refuse EmptyRoi (to true true true true true (sizeFits img r (length out)) i f radius-fits w (ap (λ (z : Bool). z || leb (r .y1) (r .y0)) (le-leb (r .x1) (r .x0) h)) refl)
 
         pub empty-lines : r .x0 < r .x1 → r .y1 ≤ r .y0 → Done img ring radius r out (Refused EmptyRoi) out
         empty-lines l h =
-            refuse EmptyRoi (to true true true true (sizeFits img r (length out)) i radius-fits w (ap (λ (z : Bool). z || leb (r .y1) (r .y0)) (lt-leb (r .x1) (r .x0) l) ∙ le-leb (r .y1) (r .y0) h) refl)
+            refuse EmptyRoi (to true true true true true (sizeFits img r (length out)) i f radius-fits w (ap (λ (z : Bool). z || leb (r .y1) (r .y0)) (lt-leb (r .x1) (r .x0) l) ∙ le-leb (r .y1) (r .y0) h) refl)
 
         pub settled : (offsets : List ℕ) (a : Response) (out' : List Float) → Offsets ring offsets → r .x0 < r .x1 → r .y0 < r .y1 → Clamped img offsets radius r out a out' → Done img ring radius r out a out'
         settled offsets a out' o h l c = go (sizeFits img r (length out)) refl
@@ -246,7 +249,7 @@ module _ (img : Image) (ring : List ℤ) (radius : ℕ) (r : Region) (out : List
 
             go : (b : Bool) → sizeFits img r (length out) ≡ b → Done img ring radius r out a out'
             go true e =
-                let y = to true true true false true i radius-fits w roomy e in
+                let y = to true true true true false true i f radius-fits w roomy e in
                 record {
                   answers = answer true e ∙ sym (ap answerOf y);
                   leaves =
@@ -254,5 +257,5 @@ module _ (img : Image) (ring : List ℤ) (radius : ℕ) (r : Region) (out : List
                       ∙ sym (ap (outAfter img ring radius out) y);
                 }
             go false e =
-                let y = to true true true false false i radius-fits w roomy e in
+                let y = to true true true true false false i f radius-fits w roomy e in
                 record { answers = answer false e ∙ sym (ap answerOf y); leaves = c .kept e ∙ sym (ap (outAfter img ring radius out) y) }

@@ -2,7 +2,7 @@
 use mathlib.Core.Path.{_≡_, refl, sym, ap, _∙_, subst}
 use mathlib.Core.Logic.{_⊎_, inl, inr, ⊎-elim}
 use mathlib.Core.List.{List, _++_}
-use Prim.Native.Nat.{ℕ, zero, suc, _+_, _-_, _≤_, _<_, zero-le, suc-le-suc}
+use Prim.Native.Nat.{ℕ, zero, suc, _+_, _-_, _*_, _≤_, _<_, zero-le, suc-le-suc}
 use native.Mathlib.Nat.{eq-or-lt-of-le, zero-add}
 use native.Mathlib.Omega.{arith}
 use lib.ListN.{length, getD, set, take, drop, length-set, length-append, length-drop, List·getD-append}
@@ -15,13 +15,13 @@ lt-or-le zero (suc b) = inl (suc-le-suc zero-le)
 lt-or-le (suc a) (suc b) = ⊎-elim (λ p. inl (suc-le-suc p)) (λ q. inr (suc-le-suc q)) (lt-or-le a b)
 
 -- the last of n + 1, or an earlier one
-last-or : (P : ℕ → Type 0) (n : ℕ) → P n → ((i : ℕ) → i < n → P i) → (i : ℕ) → i < n + 1 → P i
+pub last-or : (P : ℕ → Type 0) (n : ℕ) → P n → ((i : ℕ) → i < n → P i) → (i : ℕ) → i < n + 1 → P i
 last-or P n here all i h = ⊎-elim (λ e. subst P (sym e) here) (λ l. all i l) (eq-or-lt-of-le (omega arith))
 
-pub added-none : (b : ℕ) (f : ℕ → ℕ) (l : List ℕ) → Added 0 b f l l
+added-none : (b : ℕ) (f : ℕ → ℕ) (l : List ℕ) → Added 0 b f l l
 added-none b f l = record { same = refl; here = λ i h. omega arith; past = λ i h. refl; most = λ i h. omega arith }
 
-pub added-more : (n b : ℕ) (f : ℕ → ℕ) (before after : List ℕ) (v : ℕ) → n < length before → Added n b f before after → Bounded (f n) b v → Added (n + 1) b f before (set after n (getD after n 0 + v))
+added-more : (n b : ℕ) (f : ℕ → ℕ) (before after : List ℕ) (v : ℕ) → n < length before → Added n b f before after → Bounded (f n) b v → Added (n + 1) b f before (set after n (getD after n 0 + v))
 added-more n b f before after v l a q =
     record {
       same = length-set after n (getD after n 0 + v) ∙ a .same;
@@ -43,12 +43,24 @@ added-cong n b f g before after e a =
       most = λ i h. subst (λ (z : ℕ). z ≤ b) (e i h) (a .most i h);
     }
 
-pub quarter-none : (a b c d : ℕ → ℕ) (square edge sum : List ℕ) → AddedQuarter 0 a b c d square edge sum square edge sum
-quarter-none a b c d square edge sum =
+pub quarter-none : (P : ℕ) (a b c d : ℕ → ℕ) (square edge sum : List ℕ) → AddedQuarter P 0 a b c d square edge sum square edge sum
+quarter-none P a b c d square edge sum =
     record {
-      squares = added-none 510 (λ i. squareOf (a i) (b i) (c i) (d i)) square;
-      edges = added-none 510 (λ i. edgesOf (a i) (b i) (c i) (d i)) edge;
-      sums = added-none 1020 (λ i. sumOf (a i) (b i) (c i) (d i)) sum;
+      squares = added-none (2 * (P - 1)) (λ i. squareOf (a i) (b i) (c i) (d i)) square;
+      edges = added-none (2 * (P - 1)) (λ i. edgesOf (a i) (b i) (c i) (d i)) edge;
+      sums = added-none (4 * (P - 1)) (λ i. sumOf (a i) (b i) (c i) (d i)) sum;
+    }
+
+-- one more pixel has its quarter
+pub quarter-more : (P n : ℕ) (a b c d : ℕ → ℕ) (square edge sum square' edge' sum' : List ℕ) (x y z : ℕ) → n < length square → n < length edge → n < length sum
+    → AddedQuarter P n a b c d square edge sum square' edge' sum'
+    → Bounded (squareOf (a n) (b n) (c n) (d n)) (2 * (P - 1)) x → Bounded (edgesOf (a n) (b n) (c n) (d n)) (2 * (P - 1)) y → Bounded (sumOf (a n) (b n) (c n) (d n)) (4 * (P - 1)) z
+    → AddedQuarter P (n + 1) a b c d square edge sum (set square' n (getD square' n 0 + x)) (set edge' n (getD edge' n 0 + y)) (set sum' n (getD sum' n 0 + z))
+quarter-more P n a b c d square edge sum square' edge' sum' x y z h k l q u v w =
+    record {
+      squares = added-more n (2 * (P - 1)) (λ i. squareOf (a i) (b i) (c i) (d i)) square square' x h (q .squares) u;
+      edges = added-more n (2 * (P - 1)) (λ i. edgesOf (a i) (b i) (c i) (d i)) edge edge' y k (q .edges) v;
+      sums = added-more n (4 * (P - 1)) (λ i. sumOf (a i) (b i) (c i) (d i)) sum sum' z l (q .sums) w;
     }
 
 module _ {A : Type 0} (d : A) where

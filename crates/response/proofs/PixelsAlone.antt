@@ -12,10 +12,10 @@ use borrow.Author.Tests.{leb-true, ltb-true}
 use Rattle.shapes.specs.Numbers.{plusZero}
 use Rattle.shapes.proofs.ListLaws.{tabulated-cong}
 use Rattle.shapes.proofs.TestLaws.{first-of, second-of}
-use Rattle.refusals.specs.declared.Refusal.the-variants.{BadImage, BadRadius, BadRing, EmptyRoi, BadOut}
-use Rattle.imageview.specs.Image.{Image, pixel, isImage}
+use Rattle.refusals.specs.declared.Refusal.the-variants.{BadImage, BadSample, BadRadius, BadRing, EmptyRoi, BadOut}
+use Rattle.imageview.specs.Image.{Image, pixel, isImage, inRange}
 use Rattle.imageview.specs.Same.{SamePixels, unpadded}
-use Rattle.imageview.proofs.SameLaws.{sizedAs, sized-is}
+use Rattle.imageview.proofs.SameLaws.{sizedAs, sized-is, in-range}
 use Rattle.imageview.proofs.SameLaws.{alike as images-alike}
 use Rattle.imageview.proofs.Unpadded.{shows-unpadded}
 use Rattle.pixel_response.specs.Samples.{responseOf}
@@ -100,26 +100,30 @@ module _ (a b : Image) (s : SamePixels a b) (ring : List ℤ) (radius : ℕ) (r 
       (cond (not (eqb (length out) (widthOf (clamped a r) * heightOf (clamped a r)))) (refused BadOut)
       (wrote (clamped a r)))))
 
-  abbrev wayWith : Bool → Way
-  wayWith i = cond (not i) (refused BadImage) (rest (leb 1 radius && leb radius 10) (ringWithin radius ring))
+  abbrev wayWith : Bool → Bool → Way
+  wayWith i f = cond (not i) (refused BadImage) (cond (not f) (refused BadSample) (rest (leb 1 radius && leb radius 10) (ringWithin radius ring)))
 
-  of-a : wayOf a ring radius r (length out) ≡ wayWith (isImage a)
+  of-a : wayOf a ring radius r (length out) ≡ wayWith (isImage a) (inRange a)
   unfolding wayOf
   of-a = refl
 
-  of-sized : wayOf (sizedAs a b) ring radius r (length out) ≡ wayWith (isImage (sizedAs a b))
+  of-sized : wayOf (sizedAs a b) ring radius r (length out) ≡ wayWith (isImage (sizedAs a b)) (inRange (sizedAs a b))
   unfolding wayOf
   of-sized = refl
 
   way-same : wayOf a ring radius r (length out) ≡ wayOf b ring radius r (length out)
-  way-same = of-a ∙ ap wayWith (images-alike a b s) ∙ sym of-sized ∙ ap (λ (v : Image). wayOf v ring radius r (length out)) (sized-is a b s)
+  way-same =
+      of-a ∙ ap (λ (z : Bool). wayWith z (inRange a)) (images-alike a b s) ∙ ap (wayWith (isImage (sizedAs a b))) (in-range a b s)
+      ∙ sym of-sized ∙ ap (λ (v : Image). wayOf v ring radius r (length out)) (sized-is a b s)
 
   -- a way that writes has a ring that passed its tests
-  buffers : (i fits within : Bool) → (fits ≡ true → within ≡ true → (g : Region) → written a ring radius g ≡ written b ring radius g) → outAfter a ring radius out (cond (not i) (refused BadImage) (rest fits within)) ≡ outAfter b ring radius out (cond (not i) (refused BadImage) (rest fits within))
-  buffers false fits within h = refl
-  buffers true false within h = refl
-  buffers true true false h = refl
-  buffers true true true h = inner (isEmpty r) (eqb (length out) (widthOf (clamped a r) * heightOf (clamped a r)))
+  buffers : (i f fits within : Bool) → (fits ≡ true → within ≡ true → (g : Region) → written a ring radius g ≡ written b ring radius g)
+      → outAfter a ring radius out (cond (not i) (refused BadImage) (cond (not f) (refused BadSample) (rest fits within))) ≡ outAfter b ring radius out (cond (not i) (refused BadImage) (cond (not f) (refused BadSample) (rest fits within)))
+  buffers false f fits within h = refl
+  buffers true false fits within h = refl
+  buffers true true false within h = refl
+  buffers true true true false h = refl
+  buffers true true true true h = inner (isEmpty r) (eqb (length out) (widthOf (clamped a r) * heightOf (clamped a r)))
     where
       inner : (e f : Bool) → outAfter a ring radius out (cond e (refused EmptyRoi) (cond (not f) (refused BadOut) (wrote (clamped a r)))) ≡ outAfter b ring radius out (cond e (refused EmptyRoi) (cond (not f) (refused BadOut) (wrote (clamped a r))))
       inner true f = refl
@@ -132,7 +136,7 @@ module _ (a b : Image) (s : SamePixels a b) (ring : List ℤ) (radius : ℕ) (r 
   leaves-same : outAfter a ring radius out (wayOf a ring radius r (length out)) ≡ outAfter b ring radius out (wayOf b ring radius r (length out))
   leaves-same =
       ap (outAfter a ring radius out) of-a
-      ∙ buffers (isImage a) (leb 1 radius && leb radius 10) (ringWithin radius ring) alike
+      ∙ buffers (isImage a) (inRange a) (leb 1 radius && leb radius 10) (ringWithin radius ring) alike
       ∙ ap (outAfter b ring radius out) (sym of-a ∙ way-same)
 
 pub by-pixels : ByPixels

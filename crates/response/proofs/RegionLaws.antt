@@ -3,7 +3,7 @@ use mathlib.Core.Path.{_≡_, refl, sym, ap, _∙_, subst}
 use mathlib.Core.Logic.{_⊎_, ⊎-elim}
 use mathlib.Core.Bool.{Bool, true, false, _&&_, cond}
 use mathlib.Core.List.{List, _++_}
-use Prim.Native.Nat.{ℕ, suc, _+_, _-_, _*_, _/_, _%_, _≤_, _<_}
+use Prim.Native.Nat.{ℕ, suc, _+_, _-_, _*_, _/_, _%_, _≤_, _<_, suc-le-suc}
 use native.Mathlib.Nat.{zero-add, zero-mul, mul-le-mul-right, mul-comm, suc-mul, add-assoc}
 use native.Mathlib.Numerals.{add-one}
 use native.Mathlib.Omega.{arith}
@@ -13,11 +13,11 @@ use lib.ListN.{length, getD, take, drop, replicate}
 use lib.Ieee.{Float}
 use borrow.Author.Tests.{lt-ltb, le-ltb, le-leb, lt-leb}
 use Rattle.shapes.specs.Numbers.{plusZero}
-use Rattle.imageview.specs.Image.{Image}
-use Rattle.imageview.proofs.ImageLaws.{index}
+use Rattle.imageview.specs.Image.{Image, pixel}
+use Rattle.imageview.proofs.ImageLaws.{index, low}
 use Rattle.response.specs.Region.{ringFits}
-use Rattle.pixel_response.specs.Steps.{Wrote}
-use Rattle.response.specs.StepsStarts.{sampleOf, valueAt, Reach, startOf, Startable, startedAt, Started}
+use Rattle.pixel_response.specs.Steps.{listed, Wrote}
+use Rattle.response.specs.StepsStarts.{sampleOf, valueAt, Reach, DeepBelow, startOf, Startable, startedAt, Started}
 use Rattle.response.specs.StepsFrame.{insideAt, shiftedAt, From, To, Framed}
 use Rattle.pixel_response.proofs.PixelLaws.{response-cong}
 use Rattle.response.proofs.PassLaws.{lt-or-le, wrote-none, wrote-cong, wrote-next, part-count}
@@ -35,6 +35,9 @@ module _ (img offsets : List ℕ) (pitch x y : ℕ) (starts : List ℕ) (w : Wro
 
   pub reaches : (n : ℕ) → Started img offsets pitch x y n → Reach img starts n
   reaches n s k h = subst (λ (z : ℕ). z + n ≤ length img) (sym (start-is k h)) (s k h)
+
+  pub stays-below : (deep : Bool) (n : ℕ) → DeepBelow deep img (startOf offsets pitch x y) n → DeepBelow deep img (listed starts) n
+  stays-below deep n b e k h i l = subst (λ (z : ℕ). getD img (z + i) 0 < 4096) (sym (start-is k h)) (b e k h i l)
 
   sample-is : ((k : ℕ) → k < 42 → (10 ≤ x + getD offsets k 0) × (10 ≤ y + getD offsets k 0)) → (i k : ℕ) → k < 21 → sampleOf img starts i k ≡ getD img (startOf offsets pitch (x + i) y k) 0
   sample-is clear i k h = ap (λ (z : ℕ). getD img z 0) (ap (λ (z : ℕ). z + i) (start-is k h) ∙ start-along offsets pitch x y k i (clear (2 * k) (omega arith) .0))
@@ -181,6 +184,14 @@ module _ (img : Image) (offsets : List ℕ) (radius x0 y : ℕ) where
       pub started-all : Started (img .samples) offsets (img .pitch) (x0 + from) y (to - from)
       started-all k h =
           index img (g .image) (x0 + from + getD offsets (2 * k) 0 - 10) (y + getD offsets (2 * k + 1) 0 - 10) (to - from) (columns k h) (lines k h)
+
+      pub started-below : DeepBelow (img .deep) (img .samples) (startOf offsets (img .pitch) (x0 + from) y) (to - from)
+      unfolding pixel
+      started-below e k h i l =
+          let u = x0 + from + getD offsets (2 * k) 0 - 10 in
+          let v = y + getD offsets (2 * k + 1) 0 - 10 in
+          subst (λ (z : ℕ). getD (img .samples) z 0 < 4096) (sym (add-assoc (v * img .pitch) u i))
+          (suc-le-suc (low img (g .range) e (u + i) v (omega (arith, columns k h)) (lines k h)))
 
 -- ---- row after row
 grid : (f : ℕ → ℕ → Float) (r w i : ℕ) → i < w → f i r ≡ f ((r * w + i) % w) ((r * w + i) / w)

@@ -7,9 +7,9 @@ use lib.Dec.{leb, eqb}
 use lib.IntN.{ℤ}
 use lib.ListN.{length}
 use lib.Ieee.{Float}
-use Rattle.imageview.specs.Image.{Image, isImage}
+use Rattle.imageview.specs.Image.{Image, isImage, inRange}
 use Rattle.refusals.specs.declared.Refusal.{Refusal}
-use Rattle.refusals.specs.declared.Refusal.the-variants.{BadImage, BadRadius, BadRing, EmptyRoi, BadOut}
+use Rattle.refusals.specs.declared.Refusal.the-variants.{BadImage, BadSample, BadRadius, BadRing, EmptyRoi, BadOut}
 use Rattle.refusals.specs.Numbers as Refusals
 use Rattle.response.specs.declared.Roi.{Roi}
 use Rattle.response.specs.declared.Response.{Response}
@@ -32,11 +32,12 @@ unfoldable pub wayOf : Image → List ℤ → ℕ → Region → ℕ → Way
 wayOf img ring radius r room =
     let c = clamped img r in
     cond (not (isImage img)) (refused BadImage)
+    (cond (not (inRange img)) (refused BadSample)
     (cond (not (leb 1 radius && leb radius 10)) (refused BadRadius)
     (cond (not (ringWithin radius ring)) (refused BadRing)
     (cond (isEmpty r) (refused EmptyRoi)
     (cond (not (eqb room (widthOf c * heightOf c))) (refused BadOut)
-    (wrote c)))))
+    (wrote c))))))
 
 abbrev pub answerOf : Way → Response
 answerOf (refused r) = Refused r

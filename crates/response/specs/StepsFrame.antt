@@ -7,7 +7,7 @@ use lib.Dec.{leb, ltb, eqb}
 use lib.ListN.{length}
 use lib.Ieee.{Float}
 use Rattle.shapes.specs.Numbers.{plusZero}
-use Rattle.imageview.specs.Image.{Image}
+use Rattle.imageview.specs.Image.{Image, inRange}
 use Rattle.imageview.specs.Steps.{Tested}
 use Rattle.refusals.specs.declared.Refusal.the-variants.{BadOut}
 use Rattle.response.specs.declared.Response.{Response}
@@ -35,9 +35,10 @@ pub record To (x0 w width radius from to : ℕ) : Type 0 where
   pub inside : (i : ℕ) → i < to → from ≤ i → x0 + i + radius < width
   pub past : (i : ℕ) → to ≤ i → i < w → width ≤ x0 + i + radius
 
--- a region's columns lie in an image that is one, and its ring within the radius
+-- a region's columns lie in an image that is one and has samples in range, and its ring within the radius
 pub record Framed (img : Image) (offsets : List ℕ) (radius x0 w : ℕ) : Type 0 where
   pub image : Tested img
+  pub range : inRange img ≡ true
   pub radius-most : radius ≤ 10
   pub around : Around radius offsets
   pub right : x0 + w ≤ img .width

@@ -1,15 +1,16 @@
 -- Where the 21 samples of a pixel stand in an image: the ring's sixteen, and the cross's five. Components are unsigned here, 10 added to each.
 use mathlib.Core.Path.{_≡_}
-use mathlib.Core.Bool.{cond}
+use mathlib.Core.Bool.{Bool, true, cond}
 use mathlib.Core.List.{List, [], _∷_}
 use Prim.Native.Nat.{ℕ, _+_, _-_, _*_, _≤_, _<_}
 use lib.Dec.{leb}
 use lib.IntN.{ℤ, pos, natAbs}
 use lib.ListN.{length, getD}
 use lib.Ieee.{Float}
+use Rattle.pixel_response.specs.Near.{Under}
 use Rattle.pixel_response.specs.Samples.{responseOf}
 use Rattle.response.specs.Region.{moved}
-use Rattle.pixel_response.specs.Steps.{crossOf, AddedQuarter, Wrote}
+use Rattle.pixel_response.specs.Steps.{listed, crossOf, AddedQuarter, Wrote}
 
 -- a component plus 10, or 255 where it is outside -10..=10
 unfoldable pub offsetOf : ℤ → ℕ
@@ -49,6 +50,17 @@ startedAt img offsets pitch x y = responseOf (λ k. getD img (startOf offsets pi
 abbrev pub Started : List ℕ → List ℕ → ℕ → ℕ → ℕ → ℕ → Type 0
 Started img offsets pitch x y n = (k : ℕ) → k < 21 → startOf offsets pitch x y k + n ≤ length img
 
+-- no element is above 4095, the greatest sample of a deep image; and none of the n elements from each of 21 starts on
+abbrev pub Low : List ℕ → Type 0
+Low l = Under 4096 (length l) (listed l)
+
+abbrev pub Below : List ℕ → (ℕ → ℕ) → ℕ → Type 0
+Below img start n = (k : ℕ) → k < 21 → Under 4096 n (λ i. getD img (start k + i) 0)
+
+-- the same where the image is deep; bytes need no test
+abbrev pub DeepBelow : Bool → List ℕ → (ℕ → ℕ) → ℕ → Type 0
+DeepBelow deep img start n = deep ≡ true → Below img start n
+
 -- ---- pixels side by side: sample k of pixel i stands i past start k; the first 16 starts are the ring's, the rest the cross's
 abbrev pub sampleOf : List ℕ → List ℕ → ℕ → ℕ → ℕ
 sampleOf img starts i k = getD img (getD starts k 0 + i) 0
@@ -66,9 +78,9 @@ pub record Part (img starts : List ℕ) (k at n : ℕ) (part : List ℕ) : Type 
   pub each : (i : ℕ) → i < n → getD part i 0 ≡ sampleOf img starts (at + i) k
 
 -- quarter k added, and the cross written, for the n pixels from `at` on
-abbrev pub SampledQuarter : List ℕ → List ℕ → ℕ → ℕ → ℕ → List ℕ → List ℕ → List ℕ → List ℕ → List ℕ → List ℕ → Type 0
-SampledQuarter img starts k at n =
-    AddedQuarter n (λ i. sampleOf img starts (at + i) k) (λ i. sampleOf img starts (at + i) (k + 4)) (λ i. sampleOf img starts (at + i) (k + 8)) (λ i. sampleOf img starts (at + i) (k + 12))
+abbrev pub SampledQuarter : ℕ → List ℕ → List ℕ → ℕ → ℕ → ℕ → List ℕ → List ℕ → List ℕ → List ℕ → List ℕ → List ℕ → Type 0
+SampledQuarter P img starts k at n =
+    AddedQuarter P n (λ i. sampleOf img starts (at + i) k) (λ i. sampleOf img starts (at + i) (k + 4)) (λ i. sampleOf img starts (at + i) (k + 8)) (λ i. sampleOf img starts (at + i) (k + 12))
 
 abbrev pub SampledCross : List ℕ → List ℕ → ℕ → ℕ → List ℕ → List ℕ → Type 0
 SampledCross img starts at n =

@@ -1,11 +1,11 @@
 // The ChESS response of an image over a region, after `response.rs`.
-ghost use mathlib.Core.Path.{_≡_};
 ghost use Rattle.imageview.specs.Image.{imageOf};
 ghost use Rattle.response.specs.Call.{Done, regionOf};
 
 mod region;
 mod ring;
 mod row;
+mod row_deep;
 
 use imageview::Sizes;
 use refusals::Refusal;
@@ -25,19 +25,24 @@ pub enum Response {
 }
 
 // The response over the region, written to `out`, which has the size of the region that is left within the image. The ring is sixteen
-// pairs (dx, dy); +0.0 is written where the pixel has not the radius of pixels on all four sides.
-pub fn chess_response_u8_patch(
-    img: &[u8],
+// pairs (dx, dy); +0.0 is written where the pixel has not the radius of pixels on all four sides. After `chess_response_u8_patch` of the Rust, for
+// either width of a sample.
+pub fn chess_response_patch(
+    bytes: &[u8],
+    words: &[u16],
     sizes: Sizes,
     ring: &[i32; 32],
     radius: usize,
     roi: Roi,
     out: &mut [f32],
 ) -> Response
-    ensures { λ r. ⌜ Done (imageOf (now (img .entry)) sizes) (now (ring .entry)) radius (regionOf roi) (now (out .entry)) r (now (out .exit)) ⌝ }
+    ensures { λ r. ⌜ Done (imageOf (now (bytes .entry)) (now (words .entry)) sizes) (now (ring .entry)) radius (regionOf roi) (now (out .entry)) r (now (out .exit)) ⌝ }
 {
-    if !imageview::is_image(img, sizes) {
+    if !imageview::is_image(bytes, words, sizes) {
         return Response::Refused(Refusal::BadImage);
+    }
+    if !imageview::in_range(bytes, words, sizes) {
+        return Response::Refused(Refusal::BadSample);
     }
     if radius < 1 {
         return Response::Refused(Refusal::BadRadius);
@@ -55,5 +60,5 @@ pub fn chess_response_u8_patch(
     if roi.y1 <= roi.y0 {
         return Response::Refused(Refusal::EmptyRoi);
     }
-    region::write_clamped(img, sizes, &offsets, radius, roi, out)
+    region::write_clamped(bytes, words, sizes, &offsets, radius, roi, out)
 }

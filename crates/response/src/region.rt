@@ -3,11 +3,11 @@ ghost use mathlib.Core.Path.{_≡_};
 ghost use Prim.Native.Nat.{_+_, _-_, _*_, _/_, _%_, min, _≤_, _<_};
 ghost use lib.ListN.{length};
 ghost use Rattle.shapes.specs.Numbers.{plusZero, lesser};
-ghost use Rattle.imageview.specs.Image.{imageOf};
+ghost use Rattle.imageview.specs.Image.{imageOf, samplesOf};
 ghost use Rattle.response.specs.Region.{widthOf, heightOf};
 ghost use Rattle.response.specs.Call.{regionOf};
 ghost use Rattle.pixel_response.specs.Steps.{Wrote};
-ghost use Rattle.response.specs.StepsStarts.{Started, Startable};
+ghost use Rattle.response.specs.StepsStarts.{DeepBelow, startOf, Started, Startable};
 ghost use Rattle.response.specs.StepsFrame.{From, To, Framed, insideAt, shiftedAt, Clamped};
 use crate::Response;
 use crate::Roi;
@@ -57,7 +57,8 @@ fn to_column(x0: usize, w: usize, width: usize, radius: usize, from: usize) -> u
 
 // A row in which the ring fits in the columns from `from` up to `to`.
 fn row_inside(
-    img: &[u8],
+    bytes: &[u8],
+    words: &[u16],
     sizes: Sizes,
     offsets: &[u8; 42],
     x0: usize,
@@ -68,19 +69,21 @@ fn row_inside(
 )
     requires { ⌜ (from < to) × (to ≤ length (now out)) × (x0 + from ≤ 4096) ⌝ }
     requires { ⌜ Startable (now offsets) (sizes .width) (sizes .pitch) (x0 + from) y ⌝ }
-    requires { ⌜ Started (now img) (now offsets) (sizes .pitch) (x0 + from) y (to - from) ⌝ }
-    ensures { λ _. ⌜ Wrote plusZero (length (now (out .entry))) 0 (insideAt (now (img .entry)) (now (offsets .entry)) (sizes .pitch) x0 y from to) (now (out .entry)) (now (out .exit)) ⌝ }
+    requires { ⌜ Started (samplesOf (now bytes) (now words) (sizes .deep)) (now offsets) (sizes .pitch) (x0 + from) y (to - from) ⌝ }
+    requires { ⌜ DeepBelow (sizes .deep) (samplesOf (now bytes) (now words) (sizes .deep)) (startOf (now offsets) (sizes .pitch) (x0 + from) y) (to - from) ⌝ }
+    ensures { λ _. ⌜ Wrote plusZero (length (now (out .entry))) 0 (insideAt (samplesOf (now (bytes .entry)) (now (words .entry)) (sizes .deep)) (now (offsets .entry)) (sizes .pitch) x0 y from to) (now (out .entry)) (now (out .exit)) ⌝ }
 {
     let n = out.len();
     let starts = ring::starts_of(offsets, sizes, x0 + from, y);
     fill(&mut out[0..from]);
-    row::write_row(img, &starts, &mut out[from..to]);
+    row::write_row(bytes, words, sizes.deep, &starts, &mut out[from..to]);
     fill(&mut out[to..n]);
 }
 
 // A row of the region, whose columns in which the ring fits go from `from` up to `to`.
 fn region_row(
-    img: &[u8],
+    bytes: &[u8],
+    words: &[u16],
     sizes: Sizes,
     offsets: &[u8; 42],
     radius: usize,
@@ -90,11 +93,11 @@ fn region_row(
     to: usize,
     out: &mut [f32],
 )
-    requires { ⌜ Framed (imageOf (now img) sizes) (now offsets) radius x0 (length (now out)) ⌝ }
+    requires { ⌜ Framed (imageOf (now bytes) (now words) sizes) (now offsets) radius x0 (length (now out)) ⌝ }
     requires { ⌜ From x0 (length (now out)) radius from ⌝ }
     requires { ⌜ To x0 (length (now out)) (sizes .width) radius from to ⌝ }
     requires { ⌜ y < sizes .height ⌝ }
-    ensures { λ _. ⌜ Wrote plusZero (length (now (out .entry))) 0 (λ i. shiftedAt (imageOf (now (img .entry)) sizes) (now (offsets .entry)) radius (x0 + i) y) (now (out .entry)) (now (out .exit)) ⌝ }
+    ensures { λ _. ⌜ Wrote plusZero (length (now (out .entry))) 0 (λ i. shiftedAt (imageOf (now (bytes .entry)) (now (words .entry)) sizes) (now (offsets .entry)) radius (x0 + i) y) (now (out .entry)) (now (out .exit)) ⌝ }
 {
     if y < radius {
         fill(out);
@@ -108,12 +111,13 @@ fn region_row(
         fill(out);
         return;
     }
-    row_inside(img, sizes, offsets, x0, y, from, to, out);
+    row_inside(bytes, words, sizes, offsets, x0, y, from, to, out);
 }
 
 // The region of w columns from x0 on and h rows from y0 on.
 pub fn write_region(
-    img: &[u8],
+    bytes: &[u8],
+    words: &[u16],
     sizes: Sizes,
     offsets: &[u8; 42],
     radius: usize,
@@ -123,9 +127,9 @@ pub fn write_region(
     h: usize,
     out: &mut [f32],
 )
-    requires { ⌜ Framed (imageOf (now img) sizes) (now offsets) radius x0 w ⌝ }
+    requires { ⌜ Framed (imageOf (now bytes) (now words) sizes) (now offsets) radius x0 w ⌝ }
     requires { ⌜ (y0 + h ≤ sizes .height) × (length (now out) ≡ w * h) ⌝ }
-    ensures { λ _. ⌜ Wrote plusZero (length (now (out .entry))) 0 (λ i. shiftedAt (imageOf (now (img .entry)) sizes) (now (offsets .entry)) radius (x0 + i % w) (y0 + i / w)) (now (out .entry)) (now (out .exit)) ⌝ }
+    ensures { λ _. ⌜ Wrote plusZero (length (now (out .entry))) 0 (λ i. shiftedAt (imageOf (now (bytes .entry)) (now (words .entry)) sizes) (now (offsets .entry)) radius (x0 + i % w) (y0 + i / w)) (now (out .entry)) (now (out .exit)) ⌝ }
 {
     let from = from_column(x0, w, radius);
     let to = to_column(x0, w, sizes.width, radius, from);
@@ -134,7 +138,8 @@ pub fn write_region(
         let at = r * w;
         let end = at + w;
         region_row(
-            img,
+            bytes,
+            words,
             sizes,
             offsets,
             radius,
@@ -181,15 +186,16 @@ fn height_of(x0: usize, y0: usize, x1: usize, y1: usize) -> usize
 
 // The region that is left of the roi within the image, if the lent response has its size.
 pub fn write_clamped(
-    img: &[u8],
+    bytes: &[u8],
+    words: &[u16],
     sizes: Sizes,
     offsets: &[u8; 42],
     radius: usize,
     roi: Roi,
     out: &mut [f32],
 ) -> Response
-    requires { ⌜ Framed (imageOf (now img) sizes) (now offsets) radius 0 0 ⌝ }
-    ensures { λ r. ⌜ Clamped (imageOf (now (img .entry)) sizes) (now (offsets .entry)) radius (regionOf roi) (now (out .entry)) r (now (out .exit)) ⌝ }
+    requires { ⌜ Framed (imageOf (now bytes) (now words) sizes) (now offsets) radius 0 0 ⌝ }
+    ensures { λ r. ⌜ Clamped (imageOf (now (bytes .entry)) (now (words .entry)) sizes) (now (offsets .entry)) radius (regionOf roi) (now (out .entry)) r (now (out .exit)) ⌝ }
 {
     let x0 = lesser(roi.x0, sizes.width);
     let y0 = lesser(roi.y0, sizes.height);
@@ -202,7 +208,7 @@ pub fn write_clamped(
     if room != size {
         return Response::Refused(Refusal::BadOut);
     }
-    write_region(img, sizes, offsets, radius, x0, y0, w, h, out);
+    write_region(bytes, words, sizes, offsets, radius, x0, y0, w, h, out);
     Response::Written {
         width: w,
         height: h,

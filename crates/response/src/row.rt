@@ -5,7 +5,9 @@ ghost use lib.ListN.{length};
 ghost use Rattle.shapes.specs.Numbers.{plusZero};
 ghost use Rattle.pixel_response.specs.Samples.{valueOf};
 ghost use Rattle.pixel_response.specs.Steps.{listed, crossOf, AddedQuarter, Spare, Abreast, Wrote};
-ghost use Rattle.response.specs.StepsStarts.{Reach, Part, SampledQuarter, SampledCross, valueAt};
+ghost use Rattle.imageview.specs.Image.{samplesOf};
+ghost use Rattle.response.specs.StepsStarts.{DeepBelow, Reach, Part, SampledQuarter, SampledCross, valueAt};
+use crate::row_deep;
 use pixel_response::pixel;
 
 // Adds one quarter of the ring, its square, its edges and its sum.
@@ -19,8 +21,8 @@ fn add_quarter(
     sum: &mut [u16; 64],
 )
     requires { ⌜ Abreast (now a) (now b) (now c) (now d) ⌝ }
-    requires { ⌜ Spare (length (now a)) (now square) (now edge) (now sum) ⌝ }
-    ensures { λ _. ⌜ AddedQuarter (length (now (a .entry))) (listed (now (a .entry))) (listed (now (b .entry))) (listed (now (c .entry))) (listed (now (d .entry))) (now (square .entry)) (now (edge .entry)) (now (sum .entry)) (now (square .exit)) (now (edge .exit)) (now (sum .exit)) ⌝ }
+    requires { ⌜ Spare 256 (length (now a)) (now square) (now edge) (now sum) ⌝ }
+    ensures { λ _. ⌜ AddedQuarter 256 (length (now (a .entry))) (listed (now (a .entry))) (listed (now (b .entry))) (listed (now (c .entry))) (listed (now (d .entry))) (now (square .entry)) (now (edge .entry)) (now (sum .entry)) (now (square .exit)) (now (edge .exit)) (now (sum .exit)) ⌝ }
 {
     let n = a.len();
     let mut i: usize = 0;
@@ -60,7 +62,7 @@ fn write_cross(a: &[u8], b: &[u8], c: &[u8], d: &[u8], e: &[u8], five: &mut [u16
 }
 
 // The values of the sums.
-fn write_values(
+pub fn write_values(
     square: &[u16; 64],
     edge: &[u16; 64],
     sum: &[u16; 64],
@@ -106,8 +108,8 @@ fn quarter(
 )
     requires { ⌜ (k < 4) × (n ≤ 64) ⌝ }
     requires { ⌜ Reach (now img) (now starts) (at + n) ⌝ }
-    requires { ⌜ Spare n (now square) (now edge) (now sum) ⌝ }
-    ensures { λ _. ⌜ SampledQuarter (now (img .entry)) (now (starts .entry)) k at n (now (square .entry)) (now (edge .entry)) (now (sum .entry)) (now (square .exit)) (now (edge .exit)) (now (sum .exit)) ⌝ }
+    requires { ⌜ Spare 256 n (now square) (now edge) (now sum) ⌝ }
+    ensures { λ _. ⌜ SampledQuarter 256 (now (img .entry)) (now (starts .entry)) k at n (now (square .entry)) (now (edge .entry)) (now (sum .entry)) (now (square .exit)) (now (edge .exit)) (now (sum .exit)) ⌝ }
 {
     let a = part(img, starts, k, at, n);
     let b = part(img, starts, k + 4, at, n);
@@ -132,7 +134,7 @@ fn cross(img: &[u8], starts: &[usize; 21], at: usize, n: usize, five: &mut [u16;
 }
 
 // The values of the pixels from `at` on.
-fn block(img: &[u8], starts: &[usize; 21], at: usize, out: &mut [f32])
+fn block_bytes(img: &[u8], starts: &[usize; 21], at: usize, out: &mut [f32])
     requires { ⌜ length (now out) ≤ 64 ⌝ }
     requires { ⌜ Reach (now img) (now starts) (at + length (now out)) ⌝ }
     ensures { λ _. ⌜ Wrote plusZero (length (now (out .entry))) 0 (λ i. valueAt (now (img .entry)) (now (starts .entry)) (at + i)) (now (out .entry)) (now (out .exit)) ⌝ }
@@ -151,6 +153,20 @@ fn block(img: &[u8], starts: &[usize; 21], at: usize, out: &mut [f32])
     write_values(&square, &edge, &sum, &five, out);
 }
 
+// The same, by the depth of the samples.
+fn block(bytes: &[u8], words: &[u16], deep: bool, starts: &[usize; 21], at: usize, out: &mut [f32])
+    requires { ⌜ length (now out) ≤ 64 ⌝ }
+    requires { ⌜ Reach (samplesOf (now bytes) (now words) deep) (now starts) (at + length (now out)) ⌝ }
+    requires { ⌜ DeepBelow deep (samplesOf (now bytes) (now words) deep) (listed (now starts)) (at + length (now out)) ⌝ }
+    ensures { λ _. ⌜ Wrote plusZero (length (now (out .entry))) 0 (λ i. valueAt (samplesOf (now (bytes .entry)) (now (words .entry)) deep) (now (starts .entry)) (at + i)) (now (out .entry)) (now (out .exit)) ⌝ }
+{
+    if deep {
+        row_deep::block(words, starts, at, out);
+        return;
+    }
+    block_bytes(bytes, starts, at, out);
+}
+
 // Where the pixels from `at` on that are taken together end.
 fn block_end(at: usize, n: usize) -> usize
     requires { ⌜ at < n ⌝ }
@@ -160,15 +176,16 @@ fn block_end(at: usize, n: usize) -> usize
 }
 
 // The values of the pixels whose samples stand at the starts and past them, block by block.
-pub fn write_row(img: &[u8], starts: &[usize; 21], out: &mut [f32])
-    requires { ⌜ Reach (now img) (now starts) (length (now out)) ⌝ }
-    ensures { λ _. ⌜ Wrote plusZero (length (now (out .entry))) 0 (valueAt (now (img .entry)) (now (starts .entry))) (now (out .entry)) (now (out .exit)) ⌝ }
+pub fn write_row(bytes: &[u8], words: &[u16], deep: bool, starts: &[usize; 21], out: &mut [f32])
+    requires { ⌜ Reach (samplesOf (now bytes) (now words) deep) (now starts) (length (now out)) ⌝ }
+    requires { ⌜ DeepBelow deep (samplesOf (now bytes) (now words) deep) (listed (now starts)) (length (now out)) ⌝ }
+    ensures { λ _. ⌜ Wrote plusZero (length (now (out .entry))) 0 (valueAt (samplesOf (now (bytes .entry)) (now (words .entry)) deep) (now (starts .entry))) (now (out .entry)) (now (out .exit)) ⌝ }
 {
     let n = out.len();
     let mut at: usize = 0;
     while at < n {
         let end = block_end(at, n);
-        block(img, starts, at, &mut out[at..end]);
+        block(bytes, words, deep, starts, at, &mut out[at..end]);
         at = end;
     }
 }

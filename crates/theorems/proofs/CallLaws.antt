@@ -15,17 +15,17 @@ use lib.Ieee.Scale.{finite}
 use Rattle.shapes.proofs.ListLaws.{length-tabulated}
 use Rattle.shapes.specs.Numbers.{plusZero}
 use Rattle.refusals.specs.declared.Refusal.{Refusal}
-use Rattle.refusals.specs.declared.Refusal.the-variants.{BadImage, BadRadius, BadRing, EmptyRoi, BadLimit, BadLength, TooMany, BadOut}
+use Rattle.refusals.specs.declared.Refusal.the-variants.{BadImage, BadSample, BadRadius, BadRing, EmptyRoi, BadLimit, BadLength, TooMany, BadOut}
 use Rattle.corners.proofs.CornerLaws.{length-flat, corners-flat}
-use Rattle.imageview.specs.Image.{Image, isImage, sizesFit}
+use Rattle.imageview.specs.Image.{Image, isImage, inRange, sizesFit}
 use Rattle.corners.specs.declared.Corner.{Corner}
 use Rattle.corners.specs.Corners.{tooMany, cornersOf, flat, cornerAt}
 use Rattle.corners.specs.Corners as C
 use Rattle.response.specs.declared.Response.the-variants.{Written}
 use Rattle.response.specs.Region.{Region, clamped, isEmpty, widthOf, heightOf, ringWithin, written}
-use Rattle.response.specs.Demand.{Bytes, DemandThree}
+use Rattle.response.specs.Demand.{PixelsBelow, DemandThree}
 use Rattle.response.specs.Call as R
-use Rattle.response.proofs.DemandThree.{call-keeps}
+use Rattle.response.proofs.DemandThree.{bytes-keep}
 use Rattle.peaks.specs.declared.Peaks.the-variants.{Found}
 use Rattle.peaks.specs.Peak.{Scan}
 use Rattle.peaks.specs.Call as P
@@ -75,11 +75,12 @@ module _ {img : Image} {ring : List ℤ} {radius : ℕ} {out : List Float} {widt
   unfolding R.wayOf
   response-tests =
       test (not (isImage img)) BadImage
+      (test (not (inRange img)) BadSample
       (test (not (leb 1 radius && leb radius 10)) BadRadius
       (test (not (ringWithin radius ring)) BadRing
       (test (isEmpty (whole img)) EmptyRoi
       (test (not (eqb (length out) (widthOf (clamped img (whole img)) * heightOf (clamped img (whole img))))) BadOut
-      (through refl)))))
+      (through refl))))))
 
   responds : R.wayOf img ring radius (whole img) (length out) ≡ R.wrote (whole img)
   responds = passed R.answerOf response-tests (d .answers) (λ r e. let z : _≡_ {A = ℕ} 0 1 = cc in omega arith) ∙ ap R.wrote (whole-clamped img)
@@ -88,8 +89,8 @@ module _ {img : Image} {ring : List ℤ} {radius : ℕ} {out : List Float} {widt
   unfolding written
   sized c = ap length (d .leaves ∙ ap (R.outAfter img ring radius out) responds) ∙ length-tabulated (widthOf (whole img) * heightOf (whole img)) _ ∙ area-is c
 
-  pub keeps : Bytes img → DemandThree img ring radius (whole img) values
-  keeps b = call-keeps img ring radius (whole img) (whole img) out (Written width height) values b d responds
+  pub keeps : PixelsBelow 256 img → DemandThree 256 img ring radius (whole img) values
+  keeps b = bytes-keep img ring radius (whole img) (whole img) out (Written width height) values b d responds
 
 -- ---- the peaks: each record is that of a pixel
 module _ {s : Scan} {out : List Float} {n : ℕ} {out' : List Float} (d : P.Done s out (Found n) out') where
@@ -130,12 +131,13 @@ module _ {img : Image} {cfg : SaddlePointConfig} {corners out : List Float} {m :
   unfolding L.wayOf
   refine-tests =
       test (not (isImage img)) BadImage
+      (test (not (inRange img)) BadSample
       (test (not (leb (cfg .radius) 7)) BadRadius
       (test (not (goodLimits cfg)) BadLimit
       (test (not (C.whole (length corners))) BadLength
       (test (tooMany (length corners)) TooMany
       (test (ltb (length out) (length corners)) BadOut
-      (through refl))))))
+      (through refl)))))))
 
   refines : L.wayOf img cfg corners (length out) ≡ L.wrote recs
   refines = passed L.answerOf refine-tests (d .answers) (λ r e. let z : _≡_ {A = ℕ} 0 1 = cc in omega arith)

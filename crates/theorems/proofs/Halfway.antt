@@ -35,7 +35,7 @@ numbered s x y k a b h l e f =
     back x c a h e = omega arith
 
 -- ---- a pixel that is above all of its window but itself and another is a peak exactly where it beats that one
-module _ {img : Image} {ring : List ℤ} {radius : ℕ} {values : List Float} (window refine cluster : ℕ) (threshold : Float) (d : DemandThree img ring radius (whole img) values) (size : length values ≡ img .height * img .width) (x y a b : ℕ) where
+module _ {P : ℕ} {img : Image} {ring : List ℤ} {radius : ℕ} {values : List Float} (window refine cluster : ℕ) (threshold : Float) (d : DemandThree P img ring radius (whole img) values) (size : length values ≡ img .height * img .width) (x y a b : ℕ) where
   abbrev s : Scan
   s = scanAbove threshold img radius values window refine cluster
 
@@ -86,7 +86,7 @@ module _ {img : Image} {ring : List ℤ} {radius : ℕ} {values : List Float} (w
         by false e = sym (not-highest s x y (loses e))
 
 -- ---- of two numbers, v is above w or at most w, and not both
-valued : (v : Float) {plus minus : ℕ} → Near 256 v plus minus → lt v (inf false) ≡ true
+valued : (v : Float) {P plus minus : ℕ} → Near P v plus minus → lt v (inf false) ≡ true
 unfolding lt
 valued nan n = absurd (n .size)
 valued (inf t) n = absurd (n .size)
@@ -105,7 +105,7 @@ exchanged (first e f) = second f e
 exchanged (second e f) = first f e
 
 pub halfway-is-one : HalfwayIsOne
-halfway-is-one img ring radius values window refine cluster threshold d size x y a b here there other near most most' above above' many many' =
+halfway-is-one P img ring radius values window refine cluster threshold d size x y a b here there other near most most' above above' many many' =
     ⊎-elim
     (λ l. one-of (valueAt s x y) (valueAt s a b) v w (mine ∙ beats-before s j (valueAt s x y) (valueAt s a b) l) (others ∙ beats-after s i (valueAt s a b) (valueAt s x y) (omega (arith, m))))
     (λ g. ⊎-elim (λ e. absurd (other (itself s x y a b (near .0) (near .1) (near .2) (near .3) (sym e))))

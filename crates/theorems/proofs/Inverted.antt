@@ -1,33 +1,30 @@
 -- The response of an inverted board, and of samples that are all moved by one number: N depends on neither, and two values that stand for one N are alike.
 use mathlib.Core.Path.{_≡_, refl, sym, ap, _∙_, subst}
 use mathlib.Core.Logic.{_⊎_, inl, inr, ⊎-elim}
-use mathlib.Core.Bool.{Bool, true, false, not, _&&_, cond}
+use mathlib.Core.Bool.{Bool, true, false, cond}
 use mathlib.Core.List.{List}
 use Prim.Native.Nat.{ℕ, zero, suc, _+_, _-_, _*_, _%_, _^_, _≤_, _<_}
 use native.Mathlib.Omega.{arith}
-use lib.Dec.{T, leb, ltb}
+use lib.Dec.{T, ltb}
 use lib.IntN.{ℤ}
 use lib.ListN.{length, getD}
 use lib.Ieee.{Float, ofInt, sub, mul, div, lt}
 use lib.Ieee.Bits.{is-true}
 use lib.Ieee.Exact.{HasValue}
-use borrow.Author.Tests.{leb-true}
 use Rattle.floats.specs.Magnitude.{magnitude}
 use Rattle.floats.proofs.OrderLaws.{lt-asym}
 use Rattle.shapes.specs.Numbers.{plusZero}
-use Rattle.shapes.proofs.TestLaws.{first-of}
-use Rattle.refusals.specs.declared.Refusal.the-variants.{BadImage, BadRadius, BadRing}
-use Rattle.imageview.specs.Image.{Image, pixel, isImage}
+use Rattle.imageview.specs.Image.{Image, pixel}
 use Rattle.pixel_response.specs.Samples.{squareSum, edgeSum, ringSum, crossSum, responseOf}
-use Rattle.pixel_response.specs.Near.{ByAtMost, Near}
+use Rattle.pixel_response.specs.Near.{ByAtMost, Near, Stands, Orders}
+use Rattle.pixel_response.proofs.DemandLaws.{stands-256, orders-256, stands-4096, orders-4096}
 use Rattle.pixel_response.proofs.PixelLaws.{gain-cong, loss-cong}
 use Rattle.pixel_response.proofs.Inversion.{gain-inverted, loss-inverted, gain-shifted, loss-shifted}
-use Rattle.response.specs.Region.{Region, ringFits, ringSample, crossSample, ringWithin}
-use Rattle.response.specs.Call.{Way, refused, wrote, wayOf}
-use Rattle.response.specs.Demand.{Bytes, columnAt, rowAt, fitsAt, gainAt, lossAt}
-use Rattle.response.proofs.DemandThree.{call-keeps}
+use Rattle.response.specs.Region.{Region, ringFits, ringSample, crossSample}
+use Rattle.response.specs.Demand.{PixelsBelow, columnAt, rowAt, fitsAt, gainAt, lossAt}
+use Rattle.response.proofs.DemandThree.{Passed, passed, call-keeps}
 use Rattle.response.proofs.PixelsAlone.{ring-holds, cross-holds, fits-same}
-use Rattle.theorems.specs.Inverted.{DifferBy, Alike, SameThere, BothWrote, InvertedAlike, MovedAlike}
+use Rattle.theorems.specs.Inverted.{DifferBy, Alike, SameThere, BothWrote, InvertedAlike, InvertedBytes, InvertedDeep, MovedAlike, MovedBytes, MovedDeep}
 
 -- ---- two values that stand for one N
 apart-units : (P : ℕ) (s t : Bool) (a b g l g' l' : ℕ) → g + l' ≡ g' + l → ByAtMost (40 * P) s (5 * a) g l → ByAtMost (40 * P) t (5 * b) g' l' → DifferBy (16 * P) s a t b
@@ -82,47 +79,28 @@ module _ (P : ℕ) (v w : Float) (g l g' l' : ℕ) (e : g + l' ≡ g' + l) (n : 
       scaled : g * 2 ^ 22 + l' * 2 ^ 22 ≡ g' * 2 ^ 22 + l * 2 ^ 22
       scaled = omega arith
 
--- ---- a call that writes has a ring that passed its tests
-module _ (img : Image) (ring : List ℤ) (radius : ℕ) (r c : Region) (room : ℕ) (way : wayOf img ring radius r room ≡ wrote c) where
-  abbrev Passed : Type 0
-  Passed = (1 ≤ radius) × (ringWithin radius ring ≡ true)
-
-  passed : Passed
-  unfolding wayOf
-  passed = by (isImage img) (leb 1 radius && leb radius 10) (ringWithin radius ring) _ refl refl way
-    where
-      by : (i f w : Bool) (rest : Way) → (leb 1 radius && leb radius 10) ≡ f → ringWithin radius ring ≡ w → cond (not i) (refused BadImage) (cond (not f) (refused BadRadius) (cond (not w) (refused BadRing) rest)) ≡ wrote c → Passed
-      by false f w rest p q e = absurd (let z : _≡_ {A = ℕ} 0 1 = cc in omega arith)
-      by true false w rest p q e = absurd (let z : _≡_ {A = ℕ} 0 1 = cc in omega arith)
-      by true true false rest p q e = absurd (let z : _≡_ {A = ℕ} 0 1 = cc in omega arith)
-      by true true true rest p q e = (leb-true 1 radius (first-of (leb 1 radius) (leb radius 10) p), q)
-
--- ---- two calls: one law serves both claims
-module _ (a b : Image) (wide : a .width ≡ b .width) (high : a .height ≡ b .height) (bytes : Bytes a) (bytes' : Bytes b) (ring : List ℤ) (radius : ℕ) (c : Region) (out out' : List Float) (both : BothWrote a b ring radius c out out') (i : ℕ) (fits : fitsAt a radius c i) where
-  same-there : gainAt b ring c i ≡ gainAt a ring c i → lossAt b ring c i ≡ lossAt a ring c i → SameThere a b ring c i (getD out i plusZero) (getD out' i plusZero)
+-- ---- two calls: one law serves both claims, of samples below P
+module _ (P : ℕ) (stands : Stands P) (orders : Orders P) (a b : Image) (wide : a .width ≡ b .width) (high : a .height ≡ b .height) (under : PixelsBelow P a) (under' : PixelsBelow P b) (ring : List ℤ) (radius : ℕ) (c : Region) (out out' : List Float) (both : BothWrote a b ring radius c out out') (i : ℕ) (fits : fitsAt a radius c i) where
+  same-there : gainAt b ring c i ≡ gainAt a ring c i → lossAt b ring c i ≡ lossAt a ring c i → SameThere P a b ring c i (getD out i plusZero) (getD out' i plusZero)
   same-there g l =
       let n : gainAt a ring c i + lossAt b ring c i ≡ gainAt b ring c i + lossAt a ring c i = cc in
       record {
         same = n;
-        alike = one-n 256 (getD out i plusZero) (getD out' i plusZero) (gainAt a ring c i) (lossAt a ring c i) (gainAt b ring c i) (lossAt b ring c i) n
-            (call-keeps a ring radius (both .region) c (both .old) (both .answer) out bytes (both .done) (both .way) .stands i fits)
-            (call-keeps b ring radius (both .region) c (both .old') (both .answer') out' bytes' (both .done') (both .way') .stands i
+        alike = one-n P (getD out i plusZero) (getD out' i plusZero) (gainAt a ring c i) (lossAt a ring c i) (gainAt b ring c i) (lossAt b ring c i) n
+            (call-keeps P stands orders a ring radius (both .region) c (both .old) (both .answer) out under (both .done) (both .way) .stands i fits)
+            (call-keeps P stands orders b ring radius (both .region) c (both .old') (both .answer') out' under' (both .done') (both .way') .stands i
             (fits .0, subst T (sym (fits-same a b (sym wide) (sym high) radius (columnAt c i) (rowAt c i))) (fits .1)));
       }
 
-byte : (img : Image) → Bytes img → (x y : ℕ) → pixel img x y ≤ 255
-unfolding pixel
-byte img bytes x y = omega (arith, bytes (y * img .pitch + x))
+-- m - p, of a sample p of at most m
+abbrev Inverse : ℕ → ℕ → ℕ → Type 0
+Inverse m p q = (p ≤ m) × (q ≡ m - p)
 
--- 255 - p, of a byte p
-abbrev Inverse : ℕ → ℕ → Type 0
-Inverse p q = (p ≤ 255) × (q ≡ 255 - p)
-
-pub inverted-alike : InvertedAlike
-inverted-alike a b v bytes bytes' ring radius c out out' both i fits =
-    same-there a b (v .width) (v .height) bytes bytes' ring radius c out out' both i fits
-    (gain-cong s' d' (λ k. 255 - s k) (λ k. 255 - d k) (λ k h. rings k .1) (λ k h. crosses k .1) ∙ gain-inverted 255 s d (λ k h. rings k .0) (λ k h. crosses k .0))
-    (loss-cong s' d' (λ k. 255 - s k) (λ k. 255 - d k) (λ k h. rings k .1) (λ k h. crosses k .1) ∙ loss-inverted 255 s d (λ k h. rings k .0) (λ k h. crosses k .0))
+pub inverted-alike : (m : ℕ) → Stands (m + 1) → Orders (m + 1) → InvertedAlike m
+inverted-alike m stands orders a b v under under' ring radius c out out' both i fits =
+    same-there (m + 1) stands orders a b (v .width) (v .height) under under' ring radius c out out' both i fits
+    (gain-cong s' d' (λ k. m - s k) (λ k. m - d k) (λ k h. rings k .1) (λ k h. crosses k .1) ∙ gain-inverted m s d (λ k h. rings k .0) (λ k h. crosses k .0))
+    (loss-cong s' d' (λ k. m - s k) (λ k. m - d k) (λ k h. rings k .1) (λ k h. crosses k .1) ∙ loss-inverted m s d (λ k h. rings k .0) (λ k h. crosses k .0))
   where
     x : ℕ
     x = columnAt c i
@@ -142,22 +120,31 @@ inverted-alike a b v bytes bytes' ring radius c out out' both i fits =
     d' : ℕ → ℕ
     d' = crossSample b x y
 
-    pixels : (x y : ℕ) → x < a .width → y < a .height → Inverse (pixel a x y) (pixel b x y)
-    pixels x y h k = (byte a bytes x y, v .inverts x y h k)
+    pixels : (x y : ℕ) → x < a .width → y < a .height → Inverse m (pixel a x y) (pixel b x y)
+    pixels x y h k = (omega (arith, under x y h k), v .inverts x y h k)
+
+    tests : Passed a ring radius
+    tests = passed a ring radius (both .region) c (length (both .old)) (both .way)
 
     clear : ringFits a radius x y ≡ true
     clear = is-true (ringFits a radius x y) (fits .1)
 
-    rings : (k : ℕ) → Inverse (s k) (s' k)
-    rings = ring-holds Inverse a b pixels radius x y clear ring (passed a ring radius (both .region) c (length (both .old)) (both .way) .1)
+    rings : (k : ℕ) → Inverse m (s k) (s' k)
+    rings = ring-holds (Inverse m) a b pixels radius x y clear ring (tests .within)
 
-    crosses : (k : ℕ) → Inverse (d k) (d' k)
-    crosses = cross-holds Inverse a b pixels radius x y clear (passed a ring radius (both .region) c (length (both .old)) (both .way) .0)
+    crosses : (k : ℕ) → Inverse m (d k) (d' k)
+    crosses = cross-holds (Inverse m) a b pixels radius x y clear (tests .some)
+
+pub inverted-bytes : InvertedBytes
+inverted-bytes = inverted-alike 255 stands-256 orders-256
+
+pub inverted-deep : InvertedDeep
+inverted-deep = inverted-alike 4095 stands-4096 orders-4096
 
 -- the one image's samples raised by down are the other's raised by up
-pub moved-alike : MovedAlike
-moved-alike a b wide high bytes bytes' ring radius c out out' both up down i fits m =
-    same-there a b wide high bytes bytes' ring radius c out out' both i fits
+pub moved-alike : (P : ℕ) → Stands P → Orders P → MovedAlike P
+moved-alike P stands orders a b wide high under under' ring radius c out out' both up down i fits m =
+    same-there P stands orders a b wide high under under' ring radius c out out' both i fits
     (sym (gain-shifted down s' d') ∙ gain-cong (λ k. s' k + down) (λ k. d' k + down) (λ k. s k + up) (λ k. d k + up) (m .ring-by) (m .cross-by) ∙ gain-shifted up s d)
     (sym (loss-shifted down s' d') ∙ loss-cong (λ k. s' k + down) (λ k. d' k + down) (λ k. s k + up) (λ k. d k + up) (m .ring-by) (m .cross-by) ∙ loss-shifted up s d)
   where
@@ -172,6 +159,12 @@ moved-alike a b wide high bytes bytes' ring radius c out out' both up down i fit
 
     d' : ℕ → ℕ
     d' = crossSample b (columnAt c i) (rowAt c i)
+
+pub moved-bytes : MovedBytes
+moved-bytes = moved-alike 256 stands-256 orders-256
+
+pub moved-deep : MovedDeep
+moved-deep = moved-alike 4096 stands-4096 orders-4096
 
 -- ---- closed cases: the values do differ, here by 2 ^ -13; quarters of the ring in turn, and a cross of two samples and three
 abbrev shown : ℕ → ℕ → ℕ → ℕ → Float

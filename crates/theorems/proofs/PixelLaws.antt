@@ -94,10 +94,10 @@ module _ (img : Image) (radius : ℕ) (values : List Float) (window refine : ℕ
     unfolding valueAt
     value-is = getD-inside values (index img a b) nan plusZero (subst (λ (n : ℕ). index img a b < n) (sym size) (in-area c))
 
-    pub stands-at : {ring : List ℤ} → DemandThree img ring radius (whole img) values → Near 256 (valueAt scan a b) (gain (ringSample img ring a b)) (loss (ringSample img ring a b) (crossSample img a b))
-    stands-at {ring} d =
-        subst (λ (v : Float). Near 256 v (gain (ringSample img ring a b)) (loss (ringSample img ring a b) (crossSample img a b))) (sym value-is)
-        (subst₂ (λ (g l : ℕ). Near 256 (getD values (index img a b) plusZero) g l) (gain-is c ring) (loss-is c ring) (d .stands (index img a b) (fits c)))
+    pub stands-at : {P : ℕ} {ring : List ℤ} → DemandThree P img ring radius (whole img) values → Near P (valueAt scan a b) (gain (ringSample img ring a b)) (loss (ringSample img ring a b) (crossSample img a b))
+    stands-at {P} {ring} d =
+        subst (λ (v : Float). Near P v (gain (ringSample img ring a b)) (loss (ringSample img ring a b) (crossSample img a b))) (sym value-is)
+        (subst₂ (λ (g l : ℕ). Near P (getD values (index img a b) plusZero) g l) (gain-is c ring) (loss-is c ring) (d .stands (index img a b) (fits c)))
 
 -- ---- inside the border
 pub record Framed (s : Scan) (x y : ℕ) : Type 0 where
@@ -125,7 +125,7 @@ pub framed-clear : {img : Image} {radius : ℕ} {values : List Float} {window re
 framed-clear f = record { left = omega (arith, f .left); right = omega (arith, f .right); above = omega (arith, f .above); below = omega (arith, f .below) }
 
 -- ---- the window of a pixel inside the border: what has a smaller N is beaten
-module _ {img : Image} {ring : List ℤ} {radius : ℕ} {values : List Float} (window refine cluster : ℕ) (threshold : Float) (d : DemandThree img ring radius (whole img) values) (size : length values ≡ img .height * img .width) (x y : ℕ) where
+module _ {P : ℕ} {img : Image} {ring : List ℤ} {radius : ℕ} {values : List Float} (window refine cluster : ℕ) (threshold : Float) (d : DemandThree P img ring radius (whole img) values) (size : length values ≡ img .height * img .width) (x y : ℕ) where
   abbrev around : Scan
   around = scan img radius values window refine threshold cluster
 

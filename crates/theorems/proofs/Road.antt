@@ -10,7 +10,7 @@ use Rattle.theorems.proofs.PixelLaws.{stands-at, framed, framed-clear, 
 
 pub strongest-is-peak : StrongestIsPeak
 unfolding lt valueAt
-strongest-is-peak img ring radius values window refine cluster d size x y here most p c =
+strongest-is-peak P img ring radius values window refine cluster d size x y here most p c =
     let s = scanAt img radius values window refine cluster in
     sym (peak-by s x y here (stands-at img radius values window refine plusZero cluster size (framed-clear (framed s x y here)) d .above p)
     (highest-by s x y (λ j h n. beats-exceeded window refine cluster plusZero d size x y here j h (most j h n)))) ∙ c

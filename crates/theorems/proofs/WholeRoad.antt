@@ -29,8 +29,8 @@ use Rattle.theorems.proofs.RecordLaws.{Each, whole-records, record-at, 
 use Rattle.theorems.proofs.CallLaws.{sized, keeps, scanned-records, moved-records, Again, merges, ties}
 
 -- N is above zero where the value that stands for it is
-positive-of : {v : Float} {plus minus : ℕ} → Near 256 v plus minus → lt plusZero v ≡ true → minus < plus
-positive-of {v} {plus} {minus} n h = by (lt-or-le minus plus)
+positive-of : {P : ℕ} {v : Float} {plus minus : ℕ} → Near P v plus minus → lt plusZero v ≡ true → minus < plus
+positive-of {P} {v} {plus} {minus} n h = by (lt-or-le minus plus)
   where
     by : (minus < plus) ⊎ (plus ≤ minus) → minus < plus
     by (inl l) = l

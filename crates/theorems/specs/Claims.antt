@@ -1,6 +1,7 @@
 -- From an image to the peaks of its response: a pixel inside the border whose exact response is above zero and above that of every other pixel of its
 -- window is a peak at threshold 0, if enough of the window is positive. And a corner halfway between two pixels: where the exact responses of both, equal or not, are
--- above that of every other pixel of either window, exactly one of them is a peak. The proofs are in proofs/Road.antt and proofs/Halfway.antt.
+-- above that of every other pixel of either window, exactly one of them is a peak. Both hold whatever the limit P of the samples for which the buffer keeps demand 3.
+-- The proofs are in proofs/Road.antt and proofs/Halfway.antt.
 use mathlib.Core.Path.{_≡_}
 use mathlib.Core.Bool.{Bool, true, false}
 use mathlib.Core.List.{List}
@@ -37,8 +38,8 @@ scanAt = scanAbove plusZero
 
 abbrev pub StrongestIsPeak : Type 0
 StrongestIsPeak =
-    (img : Image) (ring : List ℤ) (radius : ℕ) (values : List Float) (window refine cluster : ℕ)
-    → DemandThree img ring radius (whole img) values
+    (P : ℕ) (img : Image) (ring : List ℤ) (radius : ℕ) (values : List Float) (window refine cluster : ℕ)
+    → DemandThree P img ring radius (whole img) values
     → length values ≡ img .height * img .width
     → let scan = scanAt img radius values window refine cluster in
     (x y : ℕ) → inside scan x y ≡ true
@@ -66,8 +67,8 @@ pub data ExactlyOne (p q : Bool) : Type 0 where
 
 abbrev pub HalfwayIsOne : Type 0
 HalfwayIsOne =
-    (img : Image) (ring : List ℤ) (radius : ℕ) (values : List Float) (window refine cluster : ℕ) (threshold : Float)
-    → DemandThree img ring radius (whole img) values
+    (P : ℕ) (img : Image) (ring : List ℤ) (radius : ℕ) (values : List Float) (window refine cluster : ℕ) (threshold : Float)
+    → DemandThree P img ring radius (whole img) values
     → length values ≡ img .height * img .width
     → let scan = scanAbove threshold img radius values window refine cluster in
     (x y a b : ℕ) → inside scan x y ≡ true → inside scan a b ≡ true → Other x y a b → InWindow window x y a b

@@ -1,5 +1,5 @@
 -- A board printed inverted, white on black, and a pixel whose 21 samples are all moved by one number: N is the same, the written values have the same sign,
--- and they differ by at most 1/1024. That their bits are the same is not claimed. The proofs are in proofs/Inverted.antt.
+-- and they differ by at most 1/1024 for bytes and 1/64 for twelve bits. That their bits are the same is not claimed. The proofs are in proofs/Inverted.antt.
 use mathlib.Core.Path.{_≡_}
 use mathlib.Core.Bool.{Bool, true, false}
 use mathlib.Core.List.{List}
@@ -13,7 +13,7 @@ use Rattle.imageview.specs.Image.{Image, pixel}
 use Rattle.response.specs.declared.Response.{Response}
 use Rattle.response.specs.Region.{Region, ringSample, crossSample}
 use Rattle.response.specs.Call.{wrote, wayOf, Done}
-use Rattle.response.specs.Demand.{Bytes, columnAt, rowAt, fitsAt, gainAt, lossAt}
+use Rattle.response.specs.Demand.{PixelsBelow, columnAt, rowAt, fitsAt, gainAt, lossAt}
 
 -- ---- two written values
 -- ±a and ±b, with the signs s and t (true: negative), differ by at most d
@@ -23,7 +23,7 @@ DifferBy d true a true b = (a ≤ b + d) × (b ≤ a + d)
 DifferBy d false a true b = a + b ≤ d
 DifferBy d true a false b = a + b ≤ d
 
--- of one sign, and at most 16 · P units of 2 ^ -22 apart, for samples below P: 1/1024 for bytes
+-- of one sign, and at most 16 · P units of 2 ^ -22 apart, for samples below P: 1/1024 for bytes, 1/64 for twelve bits
 pub record Alike (P : ℕ) (v w : Float) : Type 0 where
   pub above : lt plusZero v ≡ lt plusZero w
   pub below : lt v plusZero ≡ lt w plusZero
@@ -36,9 +36,9 @@ pub record Alike (P : ℕ) (v w : Float) : Type 0 where
   pub close : DifferBy (16 * P) negative units negative' units'
 
 -- N of the element i is the same in both images, and what is written for it is alike
-pub record SameThere (a b : Image) (ring : List ℤ) (c : Region) (i : ℕ) (v w : Float) : Type 0 where
+pub record SameThere (P : ℕ) (a b : Image) (ring : List ℤ) (c : Region) (i : ℕ) (v w : Float) : Type 0 where
   pub same : gainAt a ring c i + lossAt b ring c i ≡ gainAt b ring c i + lossAt a ring c i
-  pub alike : Alike 256 v w
+  pub alike : Alike P v w
 
 -- ---- two images of one size of which the second shows m - p where the first shows p
 pub record Inverts (m : ℕ) (a b : Image) : Type 0 where
@@ -58,20 +58,33 @@ pub record BothWrote (a b : Image) (ring : List ℤ) (radius : ℕ) (c : Region)
   pub done' : Done b ring radius region old' answer' out'
   pub way' : wayOf b ring radius region (length old') ≡ wrote c
 
--- at every pixel whose ring fits
-abbrev pub InvertedAlike : Type 0
-InvertedAlike =
-    (a b : Image) → Inverts 255 a b → Bytes a → Bytes b
+-- at every pixel whose ring fits, for samples of at most m
+abbrev pub InvertedAlike : ℕ → Type 0
+InvertedAlike m =
+    (a b : Image) → Inverts m a b → PixelsBelow (m + 1) a → PixelsBelow (m + 1) b
     → (ring : List ℤ) (radius : ℕ) (c : Region) (out out' : List Float) → BothWrote a b ring radius c out out'
-    → (i : ℕ) → fitsAt a radius c i → SameThere a b ring c i (getD out i plusZero) (getD out' i plusZero)
+    → (i : ℕ) → fitsAt a radius c i → SameThere (m + 1) a b ring c i (getD out i plusZero) (getD out' i plusZero)
 
--- ---- the 21 samples of one pixel, all moved by one number, up - down; both images are of bytes, so none leaves 0..=255
+-- the instances: bytes, and words of twelve bits
+abbrev pub InvertedBytes : Type 0
+InvertedBytes = InvertedAlike 255
+
+abbrev pub InvertedDeep : Type 0
+InvertedDeep = InvertedAlike 4095
+
+-- ---- the 21 samples of one pixel, all moved by one number, up - down; the pixels of both images are below P, so none leaves that range
 pub record Moves (up down : ℕ) (a b : Image) (ring : List ℤ) (x y : ℕ) : Type 0 where
   pub ring-by : (k : ℕ) → k < 16 → ringSample b ring x y k + down ≡ ringSample a ring x y k + up
   pub cross-by : (k : ℕ) → k < 5 → crossSample b x y k + down ≡ crossSample a x y k + up
 
-abbrev pub MovedAlike : Type 0
-MovedAlike =
-    (a b : Image) → a .width ≡ b .width → a .height ≡ b .height → Bytes a → Bytes b
+abbrev pub MovedAlike : ℕ → Type 0
+MovedAlike P =
+    (a b : Image) → a .width ≡ b .width → a .height ≡ b .height → PixelsBelow P a → PixelsBelow P b
     → (ring : List ℤ) (radius : ℕ) (c : Region) (out out' : List Float) → BothWrote a b ring radius c out out'
-    → (up down i : ℕ) → fitsAt a radius c i → Moves up down a b ring (columnAt c i) (rowAt c i) → SameThere a b ring c i (getD out i plusZero) (getD out' i plusZero)
+    → (up down i : ℕ) → fitsAt a radius c i → Moves up down a b ring (columnAt c i) (rowAt c i) → SameThere P a b ring c i (getD out i plusZero) (getD out' i plusZero)
+
+abbrev pub MovedBytes : Type 0
+MovedBytes = MovedAlike 256
+
+abbrev pub MovedDeep : Type 0
+MovedDeep = MovedAlike 4096

@@ -15,7 +15,7 @@ use Rattle.corners.specs.Corners.{cornersOf, cornerAt}
 use Rattle.corners.specs.Corners as C
 use Rattle.response.specs.declared.Response.the-variants.{Written}
 use Rattle.response.specs.Call as R
-use Rattle.response.specs.Demand.{Bytes}
+use Rattle.response.specs.Demand.{PixelsBelow}
 use Rattle.peaks.specs.declared.Peaks.the-variants.{Found}
 use Rattle.peaks.specs.Peak.{Scan, valueAt, isPeak}
 use Rattle.peaks.specs.Call as P
@@ -67,7 +67,7 @@ pub record Left : Type 0 where
 
 -- Each call did its work, whatever its buffers held before.
 pub record Road (s : Settings) (img : Image) (left : Left) : Type 0 where
-  pub bytes : Bytes img
+  pub bytes : PixelsBelow 256 img
   pub out : List Float
   pub width : ℕ
   pub height : ℕ

@@ -10,7 +10,7 @@ use response::Roi;
 ghost use mathlib.Core.Path.{_≡_};
 ghost use Prim.Native.Nat.{_+_, _*_, _≤_};
 ghost use lib.ListN.{length, take, drop};
-ghost use Rattle.imageview.specs.Image.{imageOf, sizesOf, isImage};
+ghost use Rattle.imageview.specs.Image.{byteImage, isImage};
 ghost use Rattle.response.specs.Call.{Done, regionOf};
 ghost use Rattle.refine_seed.specs.Refine.{refineOf};
 ghost use Rattle.view.specs.Seen.{imageIn};
@@ -123,7 +123,7 @@ pub fn refine_bytes(
     y: f32,
     wanted: bool,
 ) -> Refined
-    ensures { λ r. ⌜ r ≡ refineOf (imageOf (now («data» .entry)) (sizesOf width height pitch)) cfg x y wanted ⌝ }
+    ensures { λ r. ⌜ r ≡ refineOf (byteImage (now («data» .entry)) width height pitch) cfg x y wanted ⌝ }
 {
     refine(from_u8_slice(data, width, height, pitch), cfg, x, y, wanted)
 }

@@ -1,23 +1,26 @@
-// What a view is taken apart for: the calls on bytes and plain numbers. The sizes are put together here, since a walk by hand would go through that too.
+// What a view is taken apart for: the calls on bytes, with no words beside them, and plain numbers. The sizes are put together here, since a walk by hand would go through that too.
 use imageview::Sizes;
 use refine_formulas::SaddlePointConfig;
 use refine_seed::Refined;
 use response::Response;
 use response::Roi;
 ghost use mathlib.Core.Path.{_≡_};
-ghost use Rattle.imageview.specs.Image.{imageOf, sizesOf, isImage};
+ghost use Rattle.imageview.specs.Image.{byteImage, isImage};
 ghost use Rattle.response.specs.Call.{Done, regionOf};
 ghost use Rattle.refine_seed.specs.Refine.{refineOf};
 
 pub fn is_image(img: &[u8], width: usize, height: usize, pitch: usize) -> bool
-    ensures { λ r. ⌜ r ≡ isImage (imageOf (now (img .entry)) (sizesOf width height pitch)) ⌝ }
+    ensures { λ r. ⌜ r ≡ isImage (byteImage (now (img .entry)) width height pitch) ⌝ }
 {
+    let none = [0u16; 1];
     imageview::is_image(
         img,
+        &none[0..0],
         Sizes {
             width,
             height,
             pitch,
+            deep: false,
         },
     )
 }
@@ -32,14 +35,17 @@ pub fn response(
     roi: Roi,
     out: &mut [f32],
 ) -> Response
-    ensures { λ r. ⌜ Done (imageOf (now (img .entry)) (sizesOf width height pitch)) (now (ring .entry)) radius (regionOf roi) (now (out .entry)) r (now (out .exit)) ⌝ }
+    ensures { λ r. ⌜ Done (byteImage (now (img .entry)) width height pitch) (now (ring .entry)) radius (regionOf roi) (now (out .entry)) r (now (out .exit)) ⌝ }
 {
-    response::chess_response_u8_patch(
+    let none = [0u16; 1];
+    response::chess_response_patch(
         img,
+        &none[0..0],
         Sizes {
             width,
             height,
             pitch,
+            deep: false,
         },
         ring,
         radius,
@@ -58,14 +64,17 @@ pub fn refine(
     y: f32,
     wanted: bool,
 ) -> Refined
-    ensures { λ r. ⌜ r ≡ refineOf (imageOf (now (img .entry)) (sizesOf width height pitch)) cfg x y wanted ⌝ }
+    ensures { λ r. ⌜ r ≡ refineOf (byteImage (now (img .entry)) width height pitch) cfg x y wanted ⌝ }
 {
+    let none = [0u16; 1];
     refine_seed::refine(
         img,
+        &none[0..0],
         Sizes {
             width,
             height,
             pitch,
+            deep: false,
         },
         cfg,
         x,

@@ -1,12 +1,11 @@
 -- `graymap::sized` meets its contract: each refusal is one law of the tests past the header.
 use mathlib.Core.Path.{_≡_, sym, _∙_}
 use mathlib.Core.Bool.{true}
-use lib.Dec.{leb}
 use lib.ListN.{length, drop}
 use borrow.Author.Needs.{needs}
-use borrow.Author.Tests.{leb-true, not-true, not-false}
-use Rattle.shapes.proofs.TestLaws.{second-of}
-use Rattle.graymap.proofs.CallLaws.{isMaximum, bad-maximum, bad-size, good-size}
+use borrow.Author.Tests.{not-true, not-false}
+use Rattle.graymap.specs.Call.{isMaximum}
+use Rattle.graymap.proofs.CallLaws.{bad-maximum, bad-size, good-size}
 use Rattle.graymap.proofs.sized.Statement.{statement}
 use Rattle.graymap.proofs.sized.Tie as tie
 
@@ -20,34 +19,30 @@ returns : tie.Need-returns
 returns c =
     let a = c .before .before .before .before .args in
     let t = c .before .before .is-maximum in
-    sym (bad-maximum (length (a .file .now)) (a .width) (a .height) (a .maximum) (drop (a .start) (a .file .now)) (sym (t .ensures) ∙ not-true (t .result) (c .if1 .taken)))
+    sym (bad-maximum (a .deep) (length (a .file .now)) (a .width) (a .height) (a .maximum) (drop (a .start) (a .file .now)) (sym (t .ensures) ∙ not-true (t .result) (c .if1 .taken)))
 
 -- the maximum passed
-passes : (c : tie.Else1) → isMaximum (c .before .before .before .before .args .maximum) ≡ true
+passes : (c : tie.Else1) → let a = c .before .before .before .before .args in isMaximum (a .deep) (a .maximum) ≡ true
 passes c = let t = c .before .before .is-maximum in sym (t .ensures) ∙ not-false (t .result) (c .if1 .left)
 
 returns-2 : tie.Need-returns-2
 returns-2 c =
     let a = c .before .before .before .before .before .args in
     let t = c .before .before .is-size in
-    sym (bad-size (length (a .file .now)) (a .width) (a .height) (a .maximum) (drop (a .start) (a .file .now)) (passes (c .before)) (sym (t .ensures) ∙ not-true (t .result) (c .if2 .taken)))
+    sym (bad-size (a .deep) (length (a .file .now)) (a .width) (a .height) (a .maximum) (drop (a .start) (a .file .now)) (passes (c .before)) (sym (t .ensures) ∙ not-true (t .result) (c .if2 .taken)))
 
 judged-requires : tie.Need-judged-requires
 judged-requires c κs =
     let s = c .before .before .before .before .before in
     let t = c .before .before .is-size in
-    let m = s .args .maximum in (
-      s .pre,
-      sym (t .ensures) ∙ not-false (t .result) (c .if2 .left),
-      leb-true m 255 (second-of (leb 1 m) (leb m 255) (passes (c .before))),
-    )
+    (s .pre, sym (t .ensures) ∙ not-false (t .result) (c .if2 .left), passes (c .before))
 
 returns-3 : tie.Need-returns-3
 returns-3 c =
     let a = c .before .before .before .before .before .before .args in
     let t = c .before .before .before .is-size in
     c .judged .ensures
-    ∙ sym (good-size (length (a .file .now)) (a .width) (a .height) (a .maximum) (drop (a .start) (a .file .now)) (passes (c .before .before)) (sym (t .ensures) ∙ not-false (t .result) (c .before .if2 .left)))
+    ∙ sym (good-size (a .deep) (length (a .file .now)) (a .width) (a .height) (a .maximum) (drop (a .start) (a .file .now)) (passes (c .before .before)) (sym (t .ensures) ∙ not-false (t .result) (c .before .if2 .left)))
 
 pub sized-spec : {M : Type 1} → statement M
 sized-spec = tie.close (tie.spec is-maximum-requires is-size-requires returns returns-2 judged-requires returns-3)

@@ -1,11 +1,10 @@
 -- `imageview::patch_row` meets its contract: the part is as long as it was asked.
-use mathlib.Core.Path.{_≡_, ap}
-use mathlib.Core.List.{List}
-use Prim.Native.Nat.{ℕ, _+_, _-_, _*_}
-use native.Mathlib.Omega.{arith}
+use mathlib.Core.Path.{ap}
+use Prim.Native.Nat.{ℕ, _+_, _*_}
 use denote.Ref.{now}
 use lib.ListN.{take, drop}
 use borrow.Author.Needs.{needs}
+use Rattle.imageview.proofs.ImageLaws.{cut}
 use Rattle.imageview.proofs.patch_row.Statement.{statement}
 use Rattle.imageview.proofs.patch_row.Tie as tie
 
@@ -27,14 +26,11 @@ part-result-start c = search needs
 part-result-end : tie.Need-part-result-end
 part-result-end c = search needs
 
-length-is : (from count : ℕ) → from + count - from ≡ count
-length-is from count = omega arith
-
 returns : tie.Need-returns
 returns c =
     let s = c .before .args in
     let from = s .y * s .pitch + s .x0 in
-    ap (λ (n : ℕ). take n (drop from (now (s .img)))) (length-is from (s .side))
+    ap (λ (n : ℕ). take n (drop from (now (s .img)))) (cut from (s .side))
 
 pub patch-row-spec : {M : Type 1} → statement M
 patch-row-spec =

@@ -9,13 +9,13 @@ use Rattle.pixel_response.proofs.chess_response_at_u8.Statement.{statem
 use Rattle.pixel_response.proofs.chess_response_at_u8.Tie as tie
 
 abbrev Inv-loop : tie.InvT-loop
-Inv-loop ring cross square₀ edge₀ sum₀ k₀ square edge sum k = (k ≤ 4) × Quarters (listed ring) k square edge sum
+Inv-loop ring cross square₀ edge₀ sum₀ k₀ square edge sum k = (k ≤ 4) × Quarters 256 (listed ring) k square edge sum
 
 abbrev μ-loop : tie.MeasureT-loop
 μ-loop ring cross square₀ edge₀ sum₀ k₀ square edge sum k = 4 - k
 
 loop-holds : tie.Need-loop-holds Inv-loop μ-loop
-loop-holds c = (lit≤ tt, none (listed (c .args .ring .now)))
+loop-holds c = (lit≤ tt, none 256 (listed (c .args .ring .now)))
 
 element-copy-out-a : tie.Need-element-copy-out-a Inv-loop μ-loop
 element-copy-out-a c = omega arith
@@ -66,7 +66,7 @@ loop-again : tie.Need-loop-again Inv-loop μ-loop
 loop-again c =
     let p = c .before .before .before .before .before .before .before .before in (
       omega arith,
-      more (listed (p .before .args .ring .now)) (p .loop .k) (p .loop .square) (p .loop .edge) (p .loop .sum) (c .before .before .square-of .result) (c .before .edges-of .result) (c .sum-of .result)
+      more 256 (listed (p .before .args .ring .now)) (p .loop .k) (p .loop .square) (p .loop .edge) (p .loop .sum) (c .before .before .square-of .result) (c .before .edges-of .result) (c .sum-of .result)
           (p .loop .inv .1) (c .before .before .square-of .ensures) (c .before .edges-of .ensures) (c .sum-of .ensures),
     )
 
@@ -95,7 +95,7 @@ returns : tie.Need-returns Inv-loop μ-loop
 returns c =
     let p = c .before .before .before .before .before .before .before .before in
     c .value-of .ensures
-    ∙ all (listed (p .before .args .ring .now)) (listed (p .before .args .cross .now)) (p .loop .k) (p .loop .square) (p .loop .edge) (p .loop .sum) (c .before .cross-of .result)
+    ∙ all 256 (listed (p .before .args .ring .now)) (listed (p .before .args .cross .now)) (p .loop .k) (p .loop .square) (p .loop .edge) (p .loop .sum) (c .before .cross-of .result)
     (omega arith) (p .loop .inv .1) (c .before .cross-of .ensures .is)
 
 pub chess-response-at-u8-spec : {M : Type 1} → statement M

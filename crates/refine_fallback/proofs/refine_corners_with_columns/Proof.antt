@@ -19,8 +19,8 @@ enum-told c = search needs
 
 refine-both-requires : tie.Need-refine-both-requires
 refine-both-requires c κs =
-    let a = c .before .before .before .before .before .before .before .before .before .args in
-    let img = imageOf (a .img .now) (a .sizes) in
+    let a = c .before .before .before .before .before .before .before .before .before .before .args in
+    let img = imageOf (a .bytes .now) (a .words .now) (a .sizes) in
     let good = sym (c .before .before .before .before .test .ensures) ∙ c .before .before .enum-told .given .1 in
     let len = length (a .corners .now) in
     let room = length (a .out .now) in
@@ -29,8 +29,8 @@ refine-both-requires c κs =
 
 returns : tie.Need-returns
 returns c =
-    let a = c .before .before .before .before .before .before .before .before .args in
-    let img = imageOf (a .img .now) (a .sizes) in
+    let a = c .before .before .before .before .before .before .before .before .before .args in
+    let img = imageOf (a .bytes .now) (a .words .now) (a .sizes) in
     refuses (lentFor img (a .first) (a .first-columns .now) (a .corners .now)) (lentFor img (a .second) (a .second-columns .now) (a .corners .now)) img (a .first) (a .second) (a .corners .now) (a .out .now) (a .passes .now) (c .before .tested .given .0 .0) (sym (c .before .before .before .test .ensures) ∙ c .before .tested .given .1)
 
 same-length : tie.Need-same-length
@@ -41,8 +41,8 @@ same-length-2 c = search needs
 
 returns-2 : tie.Need-returns-2
 returns-2 c =
-    let a = c .before .before .before .before .before .before .before .before .before .before .before .before .before .before .args in
-    let img = imageOf (a .img .now) (a .sizes) in
+    let a = c .before .before .before .before .before .before .before .before .before .before .before .before .before .before .before .args in
+    let img = imageOf (a .bytes .now) (a .words .now) (a .sizes) in
     let w = c .before .before .before .before .refine-both in
     refines (lentFor img (a .first) (a .first-columns .now) (a .corners .now)) (lentFor img (a .second) (a .second-columns .now) (a .corners .now)) img (a .first) (a .second) (a .corners .now) (a .out .now) (a .passes .now) (sym (c .before .before .before .before .before .before .before .before .before .test .ensures) ∙ c .before .before .before .before .before .before .before .enum-told .given .1) (w .result) _ _ (w .ensures)
 

@@ -41,7 +41,7 @@ use denote.Triple.Spec.{Meets, tripleOf}
 use denote.Triple.Table.{entered, cited}
 use denote.Triple.Walked.{says, Stays, stay-none, stay-none-slice, walkOf, goes-none, goes-none-slice, Walks, ends-at, walked, walk-meets}
 use denote.Exit.{yes}
-use Rattle.imageview.specs.Image.{imageOf, sizesOf}
+use Rattle.imageview.specs.Image.{byteImage}
 use Rattle.refine_formulas.specs.declared.SaddlePointConfig.{SaddlePointConfig}
 use Rattle.refine_formulas.proofs.SaddlePointConfig as G
 use Rattle.refine_formulas.proofs.SaddlePointConfig.Laws as G′
@@ -95,7 +95,7 @@ module _ {M : Type 1} (𝓤 : URA M) (H : Heap 𝓤) (A : Atoms 𝓤) (W : Given
   vals = (v ∷ [], (vint w64 w ∷ [], (vint w64 h ∷ [], (vint w64 pitch ∷ [], furtherVals cfg x y wanted))))
 
   abbrev found : Refined
-  found = refineOf (imageOf (now s) (sizesOf w h pitch)) cfg x y wanted
+  found = refineOf (byteImage (now s) w h pitch) cfg x y wanted
 
   -- the view that is made, and the lifetime of its type as a local of a body has it
   abbrev made : ImageView

@@ -92,6 +92,48 @@ pub fn settle(refiner: &mut SaddlePointRefiner, cfg: SaddlePointConfig, reports:
     refiner.reports_covariance = reports;
 }
 
+/// Twelve-bit samples for the Rust's own estimator, which reads an image through
+/// its private `Pixels` (W-212): rows without padding.
+pub struct Words<'a> {
+    pub width: usize,
+    pub height: usize,
+    pub words: &'a [u16],
+}
+
+impl Pixels for Words<'_> {
+    fn supports(&self, x: i32, y: i32, radius: i32) -> bool {
+        let within = |v: i32, size: usize| v >= radius && i64::from(v) + i64::from(radius) < size as i64;
+        within(x, self.width) && within(y, self.height)
+    }
+
+    fn read_patch(&self, x: i32, y: i32, radius: i32, out: &mut [f32]) {
+        let side = 2 * radius + 1;
+        for (k, v) in out.iter_mut().enumerate() {
+            let (dx, dy) = (k as i32 % side - radius, k as i32 / side - radius);
+            *v = f32::from(self.words[(y + dy) as usize * self.width + (x + dx) as usize]);
+        }
+    }
+}
+
+/// What the estimator says of a seed: the place, the score, whether it converged,
+/// and the covariance.
+pub type Estimated = ([f32; 2], f32, bool, Option<[f32; 3]>);
+
+/// The Rust's estimator on words: as `refine` calls it, without the edge width.
+pub fn refine_words(
+    refiner: &mut SaddlePointRefiner,
+    words: &Words<'_>,
+    seed: [f32; 2],
+) -> Result<Estimated, (f32, RefineStatus)> {
+    let centre = seed.map(|v| v.round() as i32);
+    if !words.supports(centre[0], centre[1], refiner.cfg.radius) {
+        return Err((0.0, RefineStatus::OutOfBounds));
+    }
+    let e = refiner.estimate(words, centre, seed, MAX_STEPS, STEP_TOL)?;
+    let covariance = e.covariance.map(|c| [c.xx, c.xy, c.yy]);
+    Ok((e.xy, e.score, e.converged, covariance))
+}
+
 /// The refiner's estimate alone, without the edge width that `refine` works
 /// out beside a covariance; the centre's patch must lie inside the image.
 pub fn estimate(
@@ -182,6 +224,18 @@ impl Mirror {
         }
     }
 
+    /// The same on words.
+    pub fn run_words(
+        &self,
+        words: &Words<'_>,
+        seed: [f32; 2],
+    ) -> Result<Mirrored, (f32, RefineStatus)> {
+        match &self.op {
+            Some(op) => mirror_with(op, &self.cfg, words, seed),
+            None => Err((0.0, RefineStatus::IllConditioned)),
+        }
+    }
+
     /// The greatest offset of a candidate, 0 where no seed is accepted.
     pub fn reach(&self, image: &ImageView<'_>, seed: [f32; 2]) -> f32 {
         self.run(image, seed).map_or(0.0, |m| m.reach)
@@ -192,7 +246,7 @@ impl Mirror {
 fn mirror_with(
     op: &FitOperator,
     cfg: &SaddlePointConfig,
-    image: &ImageView<'_>,
+    image: &impl Pixels,
     seed: [f32; 2],
 ) -> Result<Mirrored, (f32, RefineStatus)> {
     let side = (2 * cfg.radius + 1) as usize;

@@ -1,8 +1,6 @@
 -- `pixel_response::pixel::edges_of` meets its contract.
-use mathlib.Core.Path.{ap, _∙_}
-use Prim.Native.Nat.{ℕ, _+_}
-use Rattle.pixel_response.specs.Samples.{apart}
-use Rattle.pixel_response.specs.Steps.{edgesOf}
+use mathlib.Core.Path.{_∙_}
+use Rattle.pixel_response.proofs.PixelLaws.{edges-from}
 use borrow.Author.Needs.{needs}
 use Rattle.pixel_response.proofs.pixel.edges_of.Statement.{statement}
 use Rattle.pixel_response.proofs.pixel.edges_of.Tie as tie
@@ -17,11 +15,11 @@ both-requires : tie.Need-both-requires
 both-requires c κs = search needs
 
 returns : tie.Need-returns
-unfolding edgesOf
 returns c =
+    let a = c .before .before .before .args in
     let l = c .before .before .apart-u8 in
     let r = c .before .apart-u82 in
-    record { is = c .both .ensures .is ∙ ap (λ (z : ℕ). z + r .result) (l .ensures) ∙ ap (λ (z : ℕ). apart (c .before .before .before .args .a) (c .before .before .before .args .c) + z) (r .ensures); most = c .both .ensures .most }
+    record { is = c .both .ensures .is ∙ edges-from (a .a) (a .b) (a .c) (a .d) (l .result) (r .result) (l .ensures) (r .ensures); most = c .both .ensures .most }
 
 pub edges-of-spec : {M : Type 1} → statement M
 edges-of-spec = tie.close (tie.spec apart-u8-requires apart-u8-requires-2 both-requires returns)

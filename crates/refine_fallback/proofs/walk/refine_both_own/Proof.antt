@@ -13,8 +13,8 @@ build-requires-2 c κs = search needs
 
 refine-both-requires : tie.Need-refine-both-requires
 refine-both-requires c κs =
-    let s = c .before .before .before .before .before .before .before .before .before .before .before .before in
-    let img = imageOf (s .args .img .now) (s .args .sizes) in
+    let s = c .before .before .before .before .before .before .before .before .before .before .before .before .before in
+    let img = imageOf (s .args .bytes .now) (s .args .words .now) (s .args .sizes) in
     (s .pre .0, (c .before .before .before .before .before .before .build .ensures .ready img (s .pre .1 .0), c .before .before .before .before .build2 .ensures .ready img (s .pre .1 .1)))
 
 same-length : tie.Need-same-length
@@ -25,9 +25,9 @@ same-length-2 c = search needs
 
 returns : tie.Need-returns
 returns c =
-    let a = c .before .before .before .before .before .before .before .before .before .before .before .before .before .before .before .before .before .args in
+    let a = c .before .before .before .before .before .before .before .before .before .before .before .before .before .before .before .before .before .before .args in
     let w = c .before .before .before .before .refine-both in
-    serves-both (imageOf (a .img .now) (a .sizes)) (a .first) (a .second) _ _ _ _ (a .corners .now) (a .out .now) (a .passes .now) (w .result) _ _ (c .before .before .before .before .before .before .before .before .before .before .before .build .ensures) (c .before .before .before .before .before .before .before .before .before .build2 .ensures) (w .ensures)
+    serves-both (imageOf (a .bytes .now) (a .words .now) (a .sizes)) (a .first) (a .second) _ _ _ _ (a .corners .now) (a .out .now) (a .passes .now) (w .result) _ _ (c .before .before .before .before .before .before .before .before .before .before .before .build .ensures) (c .before .before .before .before .before .before .before .before .before .build2 .ensures) (w .ensures)
 
 pub refine-both-own-spec : {M : Type 1} → statement M
 refine-both-own-spec = tie.close (tie.spec build-requires build-requires-2 refine-both-requires same-length same-length-2 returns)

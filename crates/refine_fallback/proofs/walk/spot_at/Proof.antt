@@ -15,14 +15,14 @@ use Rattle.refine_fallback.proofs.walk.spot_at.Tie as tie
 
 first-fits-requires : tie.Need-first-fits-requires
 first-fits-requires c κs =
-    let s = c .before .before .before .before in
+    let s = c .before .before .before .before .before in
     (s .pre .1 .0, (s .pre .1 .1 .long, omega (arith, s .pre .0)))
 
-group : (c : tie.Joined1) → FirstFits (imageOf (c .before .before .before .args .img .now) (c .before .before .before .args .sizes)) (c .before .before .before .args .cfg) (c .before .before .before .args .columns .now) (c .before .before .before .args .corners .now) (c .before .before .before .args .i / 4) (c .if1 .flat)
+group : (c : tie.Joined1) → FirstFits (imageOf (c .before .before .before .before .args .bytes .now) (c .before .before .before .before .args .words .now) (c .before .before .before .before .args .sizes)) (c .before .before .before .before .args .cfg) (c .before .before .before .before .args .columns .now) (c .before .before .before .before .args .corners .now) (c .before .before .before .before .args .i / 4) (c .if1 .flat)
 group c =
-    let s = c .before .before .before in
+    let s = c .before .before .before .before in
     let a = s .args in
-    let img = imageOf (a .img .now) (a .sizes) in
+    let img = imageOf (a .bytes .now) (a .words .now) (a .sizes) in
     ⊎-elim
     (λ w. subst (FirstFits img (a .cfg) (a .columns .now) (a .corners .now) (a .i / 4)) (sym (w .3)) (w .2 .ensures))
     (λ w. subst (FirstFits img (a .cfg) (a .columns .now) (a .corners .now) (a .i / 4)) (sym (w .1)) (held-for img (a .cfg) (a .columns .now) (a .corners .now) (a .i / 4) (a .held) (a .flat .now) (s .pre .1 .1) (w .0 .left) (omega (arith, s .pre .0))))
@@ -55,16 +55,16 @@ shared-slice-read-spot-with-2 c = search needs
 spot-with-requires : tie.Need-spot-with-requires
 spot-with-requires c κs =
     let j = c .before .before .before .before in
-    let s = j .before .before .before in
+    let s = j .before .before .before .before in
     let a = s .args in
-    let img = imageOf (a .img .now) (a .sizes) in
+    let img = imageOf (a .bytes .now) (a .words .now) (a .sizes) in
     (s .pre .1 .0, subst (Fitted img (a .columns .now) (a .cfg) (entry (a .corners .now) (3 * a .i)) (entry (a .corners .now) (3 * a .i + 1))) (sym (c .before .before .coefs-at .ensures)) (this-group img (a .cfg) (a .columns .now) (a .corners .now) (a .i) (j .if1 .flat) (group j) (s .pre .0)))
 
 returns : tie.Need-returns
 returns c =
     let j = c .before .before .before .before .before in
-    let a = j .before .before .before .args in
-    (spot-lent (imageOf (a .img .now) (a .sizes)) (a .cfg) (a .columns .now) (a .corners .now) (a .i) (c .spot-with .result) (c .spot-with .ensures), group j)
+    let a = j .before .before .before .before .args in
+    (spot-lent (imageOf (a .bytes .now) (a .words .now) (a .sizes)) (a .cfg) (a .columns .now) (a .corners .now) (a .i) (c .spot-with .result) (c .spot-with .ensures), group j)
 
 pub spot-at-spec : {M : Type 1} → statement M
 spot-at-spec =

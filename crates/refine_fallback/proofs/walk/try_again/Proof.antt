@@ -18,15 +18,15 @@ spot-at-requires c κs = search needs
 
 returns : tie.Need-returns
 returns c =
-    let s = c .before .before .before .before in
+    let s = c .before .before .before .before .before in
     let a = s .args in
-    (first-kept (a .spot) (lentFor (imageOf (a .img .now) (a .sizes)) (a .cfg) (a .columns .now) (a .corners .now) (a .i)) (c .enum-told .given .0 .0) (c .enum-told .given .0 .1 .0) (c .enum-told .given .1), s .pre .1 .1)
+    (first-kept (a .spot) (lentFor (imageOf (a .bytes .now) (a .words .now) (a .sizes)) (a .cfg) (a .columns .now) (a .corners .now) (a .i)) (c .enum-told .given .0 .0) (c .enum-told .given .0 .1 .0) (c .enum-told .given .1), s .pre .1 .1)
 
 returns-2 : tie.Need-returns-2
 returns-2 c =
     let e = c .before .before in
-    let a = e .before .before .before .before .args in
-    let img = imageOf (a .img .now) (a .sizes) in
+    let a = e .before .before .before .before .before .args in
+    let img = imageOf (a .bytes .now) (a .words .now) (a .sizes) in
     (second-tried (a .spot) (lentFor img (a .cfg) (a .columns .now) (a .corners .now) (a .i)) (c .spot-at .result) (e .enum-told2 .given .1) (c .spot-at .ensures .0), now-held img (a .cfg) (a .columns .now) (a .corners .now) (a .i / 4) _ (c .spot-at .ensures .1))
 
 pub try-again-spec : {M : Type 1} → statement M

@@ -15,9 +15,9 @@ ending-requires c κs = search needs
 
 returns : tie.Need-returns
 returns c =
-    let s = c .before .before .before .before in
+    let s = c .before .before .before .before .before in
     let a = s .args in
-    prepared-further (imageOf (a .img .now) (a .sizes)) (a .columns .now) (a .radius) (a .x) (a .y) (a .self) (c .ending .result) (a .flat .now) (s .pre .0) (s .pre .1) (c .ending .ensures)
+    prepared-further (imageOf (a .bytes .now) (a .words .now) (a .sizes)) (a .columns .now) (a .radius) (a .x) (a .y) (a .self) (c .ending .result) (a .flat .now) (s .pre .0) (s .pre .1) (c .ending .ensures)
 
 fit-about-requires : tie.Need-fit-about-requires
 fit-about-requires c κs = search needs
@@ -30,14 +30,14 @@ at-requires c κs = search needs
 
 returns-2 : tie.Need-returns-2
 returns-2 c =
-    let s = c .before .before .before .before .before .before .before .before .before in
+    let s = c .before .before .before .before .before .before .before .before .before .before in
     let a = s .args in
     let l = c .before .before .fit-about .ensures in
-    let flat = c .before .before .fit-about .last .1 .1 .1 .1 .1 .1 .0 in
-    prepared-there (imageOf (a .img .now) (a .sizes)) (a .columns .now) (a .radius) (a .x) (a .y) (c .before .ending2 .result) true 20 flat (c .at .result) (c .at .ensures)
+    let flat = c .before .before .fit-about .last .1 .1 .1 .1 .1 .1 .1 .0 in
+    prepared-there (imageOf (a .bytes .now) (a .words .now) (a .sizes)) (a .columns .now) (a .radius) (a .x) (a .y) (c .before .ending2 .result) true 20 flat (c .at .result) (c .at .ensures)
     (record {
       is = l .is;
-      held = subst (λ (v : Bases). Held (imageOf (a .img .now) (a .sizes)) (a .columns .now) (a .radius) v flat) (sym (c .before .ending2 .ensures)) (held-last (imageOf (a .img .now) (a .sizes)) (a .columns .now) (a .radius) (a .x) (a .y) (a .self) (a .flat .now) flat (s .pre .1) l);
+      held = subst (λ (v : Bases). Held (imageOf (a .bytes .now) (a .words .now) (a .sizes)) (a .columns .now) (a .radius) v flat) (sym (c .before .ending2 .ensures)) (held-last (imageOf (a .bytes .now) (a .words .now) (a .sizes)) (a .columns .now) (a .radius) (a .x) (a .y) (a .self) (a .flat .now) flat (s .pre .1) l);
       low = omega arith;
     })
 
@@ -52,14 +52,14 @@ at-requires-2 c κs = search needs
 
 returns-3 : tie.Need-returns-3
 returns-3 c =
-    let s = c .before .before .before .before .before .before .before .before .before in
+    let s = c .before .before .before .before .before .before .before .before .before .before in
     let a = s .args in
     let l = c .before .before .fit-about2 .ensures in
-    let flat = c .before .before .fit-about2 .last .1 .1 .1 .1 .1 .1 .0 in
-    prepared-there (imageOf (a .img .now) (a .sizes)) (a .columns .now) (a .radius) (a .x) (a .y) (c .before .beginning .result) true 0 flat (c .at2 .result) (c .at2 .ensures)
+    let flat = c .before .before .fit-about2 .last .1 .1 .1 .1 .1 .1 .1 .0 in
+    prepared-there (imageOf (a .bytes .now) (a .words .now) (a .sizes)) (a .columns .now) (a .radius) (a .x) (a .y) (c .before .beginning .result) true 0 flat (c .at2 .result) (c .at2 .ensures)
     (record {
       is = l .is;
-      held = subst (λ (v : Bases). Held (imageOf (a .img .now) (a .sizes)) (a .columns .now) (a .radius) v flat) (sym (c .before .beginning .ensures)) (held-first (imageOf (a .img .now) (a .sizes)) (a .columns .now) (a .radius) (a .x) (a .y) (a .self) (a .flat .now) flat l (c .before .before .before .before .before .before .if1 .left));
+      held = subst (λ (v : Bases). Held (imageOf (a .bytes .now) (a .words .now) (a .sizes)) (a .columns .now) (a .radius) v flat) (sym (c .before .beginning .ensures)) (held-first (imageOf (a .bytes .now) (a .words .now) (a .sizes)) (a .columns .now) (a .radius) (a .x) (a .y) (a .self) (a .flat .now) flat l (c .before .before .before .before .before .before .if1 .left));
       low = omega arith;
     })
 

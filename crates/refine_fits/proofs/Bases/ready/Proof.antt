@@ -20,33 +20,33 @@ at-requires c κs = search needs
 
 returns : tie.Need-returns
 returns c =
-    let s = c .before .before .before .before in
+    let s = c .before .before .before .before .before in
     let a = s .args in
-    prepared-there (imageOf (a .img .now) (a .sizes)) (a .columns .now) (a .radius) (a .w .«base_x») (a .w .«base_y») (a .self) false 0 (a .flat .now) (c .at .result) (c .at .ensures)
+    prepared-there (imageOf (a .bytes .now) (a .words .now) (a .sizes)) (a .columns .now) (a .radius) (a .w .«base_x») (a .w .«base_y») (a .self) false 0 (a .flat .now) (c .at .result) (c .at .ensures)
     (record {
-      is = lacks (imageOf (a .img .now) (a .sizes)) (a .columns .now) (a .radius) (a .w .«base_x») (a .w .«base_y») (sym (c .before .before .has-room .ensures) ∙ not-true (c .before .before .has-room .result) (c .before .if1 .taken));
+      is = lacks (imageOf (a .bytes .now) (a .words .now) (a .sizes)) (a .columns .now) (a .radius) (a .w .«base_x») (a .w .«base_y») (sym (c .before .before .has-room .ensures) ∙ not-true (c .before .before .has-room .result) (c .before .if1 .taken));
       held = s .pre .1 .0;
       low = omega arith;
     })
 
 -- past the test there is room
-room : (c : tie.Else1) → FourWithin (imageOf (c .before .before .before .args .img .now) (c .before .before .before .args .sizes)) (c .before .before .before .args .radius) (c .before .before .before .args .w .«base_x») (c .before .before .before .args .w .«base_y»)
+room : (c : tie.Else1) → FourWithin (imageOf (c .before .before .before .before .args .bytes .now) (c .before .before .before .before .args .words .now) (c .before .before .before .before .args .sizes)) (c .before .before .before .before .args .radius) (c .before .before .before .before .args .w .«base_x») (c .before .before .before .before .args .w .«base_y»)
 room c =
-    let s = c .before .before .before in
+    let s = c .before .before .before .before in
     let a = s .args in
-    roomy (imageOf (a .img .now) (a .sizes)) (a .columns .now) (a .radius) (a .w .«base_x») (a .w .«base_y») (s .pre .0) (sym (c .before .has-room .ensures) ∙ not-false (c .before .has-room .result) (c .if1 .left))
+    roomy (imageOf (a .bytes .now) (a .words .now) (a .sizes)) (a .columns .now) (a .radius) (a .w .«base_x») (a .w .«base_y») (s .pre .0) (sym (c .before .has-room .ensures) ∙ not-false (c .before .has-room .result) (c .if1 .left))
 
 at-requires-2 : tie.Need-at-requires-2
 at-requires-2 c κs = search needs
 
 returns-2 : tie.Need-returns-2
 returns-2 c =
-    let s = c .before .before .before .before .before .before .before .before .before in
+    let s = c .before .before .before .before .before .before .before .before .before .before in
     let a = s .args in
     let same = and-eq-true-iff (eqb (a .self .x0) (a .w .«base_x»)) (eqb (a .self .y0) (a .w .«base_y»)) .0 (c .before .if2 .taken) in
-    prepared-there (imageOf (a .img .now) (a .sizes)) (a .columns .now) (a .radius) (a .w .«base_x») (a .w .«base_y») (a .self) true 0 (a .flat .now) (c .at2 .result) (c .at2 .ensures)
+    prepared-there (imageOf (a .bytes .now) (a .words .now) (a .sizes)) (a .columns .now) (a .radius) (a .w .«base_x») (a .w .«base_y») (a .self) true 0 (a .flat .now) (c .at2 .result) (c .at2 .ensures)
     (record {
-      is = again (imageOf (a .img .now) (a .sizes)) (a .columns .now) (a .radius) (a .w .«base_x») (a .w .«base_y») (a .self .x0) (a .self .y0) _ (room (c .before .before .before .before .before .before)) (eqb-true (a .self .x0) (a .w .«base_x») (same .0)) (eqb-true (a .self .y0) (a .w .«base_y») (same .1)) (s .pre .1 .0 .first);
+      is = again (imageOf (a .bytes .now) (a .words .now) (a .sizes)) (a .columns .now) (a .radius) (a .w .«base_x») (a .w .«base_y») (a .self .x0) (a .self .y0) _ (room (c .before .before .before .before .before .before)) (eqb-true (a .self .x0) (a .w .«base_x») (same .0)) (eqb-true (a .self .y0) (a .w .«base_y») (same .1)) (s .pre .1 .0 .first);
       held = s .pre .1 .0;
       low = omega arith;
     })
@@ -56,18 +56,18 @@ at-requires-3 c κs = search needs
 
 returns-3 : tie.Need-returns-3
 returns-3 c =
-    let s = c .before .before .before .before .before .before .before .before .before .before .before .before .before .before in
+    let s = c .before .before .before .before .before .before .before .before .before .before .before .before .before .before .before in
     let a = s .args in
     let same = and-eq-true-iff (eqb (a .self .x1) (a .w .«base_x»)) (eqb (a .self .y1) (a .w .«base_y»)) .0 (c .before .if3 .taken) in
-    prepared-there (imageOf (a .img .now) (a .sizes)) (a .columns .now) (a .radius) (a .w .«base_x») (a .w .«base_y») (a .self) true 20 (a .flat .now) (c .at3 .result) (c .at3 .ensures)
+    prepared-there (imageOf (a .bytes .now) (a .words .now) (a .sizes)) (a .columns .now) (a .radius) (a .w .«base_x») (a .w .«base_y») (a .self) true 20 (a .flat .now) (c .at3 .result) (c .at3 .ensures)
     (record {
-      is = again (imageOf (a .img .now) (a .sizes)) (a .columns .now) (a .radius) (a .w .«base_x») (a .w .«base_y») (a .self .x1) (a .self .y1) _ (room (c .before .before .before .before .before .before .before .before .before .before .before)) (eqb-true (a .self .x1) (a .w .«base_x») (same .0)) (eqb-true (a .self .y1) (a .w .«base_y») (same .1)) (s .pre .1 .0 .last);
+      is = again (imageOf (a .bytes .now) (a .words .now) (a .sizes)) (a .columns .now) (a .radius) (a .w .«base_x») (a .w .«base_y») (a .self .x1) (a .self .y1) _ (room (c .before .before .before .before .before .before .before .before .before .before .before)) (eqb-true (a .self .x1) (a .w .«base_x») (same .0)) (eqb-true (a .self .y1) (a .w .«base_y») (same .1)) (s .pre .1 .0 .last);
       held = s .pre .1 .0;
       low = omega arith;
     })
 
 add-requires : tie.Need-add-requires
-add-requires c κs = (room (c .before .before .before .before .before .before .before .before .before .before .before), c .before .before .before .before .before .before .before .before .before .before .before .before .before .before .pre .1 .0)
+add-requires c κs = (room (c .before .before .before .before .before .before .before .before .before .before .before), c .before .before .before .before .before .before .before .before .before .before .before .before .before .before .before .pre .1 .0)
 
 returns-4 : tie.Need-returns-4
 returns-4 c = search needs

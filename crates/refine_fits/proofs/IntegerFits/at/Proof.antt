@@ -20,9 +20,9 @@ fit-in-requires c κs = search needs
 
 returns : tie.Need-returns
 returns c =
-    let s = c .before .before .before .before .before .before .before .before in
+    let s = c .before .before .before .before .before .before .before .before .before in
     let a = s .args in
-    let img : Image = imageOf (a .img .now) (a .sizes) in
+    let img : Image = imageOf (a .bytes .now) (a .words .now) (a .sizes) in
     record {
       coefs = c .fit-in .ensures ∙ hit img (a .columns .now) (a .radius) (a .x) (a .y) (c .before .before .before .before .slot-of .result) (a .t1) (s .pre .1) (c .before .before .before .before .slot-of .ensures) (c .before .before .before .if1 .taken);
       kept = s .pre .1;
@@ -42,9 +42,9 @@ one-more-requires c κs = search needs
 
 returns-2 : tie.Need-returns-2
 returns-2 c =
-    let s = c .before .before .before .before .before .before .before .before .before .before .before in
+    let s = c .before .before .before .before .before .before .before .before .before .before .before .before in
     let a = s .args in
-    let img : Image = imageOf (a .img .now) (a .sizes) in
+    let img : Image = imageOf (a .bytes .now) (a .words .now) (a .sizes) in
     let coefs = c .before .before .before .before .before .fit-patch in
     record {
       coefs = coefs .ensures;

@@ -20,11 +20,11 @@ lay-four-requires c κs = search needs
 
 returns : tie.Need-returns
 returns c =
-    let s = c .before .before .before .before .before .before .before in
+    let s = c .before .before .before .before .before .before .before .before in
     let a = s .args in
     record {
       kept = c .before .before .before .before .before .look .ensures .kept;
-      laid = laid-kept (imageOf (a .img .now) (a .sizes)) (a .columns .now) (a .radius) (a .w .«base_x») (a .w .«base_y») (a .flat .now) _ (c .before .before .before .before .before .look .result) (s .pre .0) (c .before .before .before .before .before .look .ensures) (c .lay-four .ensures ∙ ap (λ (v : Sums). fourWritten (sumIn v) 20 (a .flat .now)) (c .before .side-by-side .ensures));
+      laid = laid-kept (imageOf (a .bytes .now) (a .words .now) (a .sizes)) (a .columns .now) (a .radius) (a .w .«base_x») (a .w .«base_y») (a .flat .now) _ (c .before .before .before .before .before .look .result) (s .pre .0) (c .before .before .before .before .before .look .ensures) (c .lay-four .ensures ∙ ap (λ (v : Sums). fourWritten (sumIn v) 20 (a .flat .now)) (c .before .side-by-side .ensures));
     }
 
 pub lay-spec : {M : Type 1} → statement M

@@ -10,44 +10,44 @@ use Rattle.refine_fits.proofs.fits.fit_about.Tie as tie
 first-place-requires : tie.Need-first-place-requires
 first-place-requires c κs = search needs
 
-add-t12 : tie.Need-add-t12
-add-t12 c =
-    let s = c .before .before in
-    let a = s .args in
-    omega (arith, c .first-place .ensures, s .pre .0 .right, s .pre .0 .below, s .pre .0 .sound .image .sized .width-most, s .pre .0 .sound .image .sized .height-most, s .pre .0 .sound .image .pitch-most, place-most (a .sizes .pitch) (a .radius) (a .y) (omega (arith, s .pre .0 .below, s .pre .0 .sound .image .sized .height-most)) (s .pre .0 .sound .image .pitch-most))
-
 add-t13 : tie.Need-add-t13
 add-t13 c =
-    let s = c .before .before in
+    let s = c .before .before .before in
     let a = s .args in
     omega (arith, c .first-place .ensures, s .pre .0 .right, s .pre .0 .below, s .pre .0 .sound .image .sized .width-most, s .pre .0 .sound .image .sized .height-most, s .pre .0 .sound .image .pitch-most, place-most (a .sizes .pitch) (a .radius) (a .y) (omega (arith, s .pre .0 .below, s .pre .0 .sound .image .sized .height-most)) (s .pre .0 .sound .image .pitch-most))
 
 add-t14 : tie.Need-add-t14
 add-t14 c =
-    let s = c .before .before in
+    let s = c .before .before .before in
     let a = s .args in
     omega (arith, c .first-place .ensures, s .pre .0 .right, s .pre .0 .below, s .pre .0 .sound .image .sized .width-most, s .pre .0 .sound .image .sized .height-most, s .pre .0 .sound .image .pitch-most, place-most (a .sizes .pitch) (a .radius) (a .y) (omega (arith, s .pre .0 .below, s .pre .0 .sound .image .sized .height-most)) (s .pre .0 .sound .image .pitch-most))
 
 add-t15 : tie.Need-add-t15
 add-t15 c =
-    let s = c .before .before in
+    let s = c .before .before .before in
+    let a = s .args in
+    omega (arith, c .first-place .ensures, s .pre .0 .right, s .pre .0 .below, s .pre .0 .sound .image .sized .width-most, s .pre .0 .sound .image .sized .height-most, s .pre .0 .sound .image .pitch-most, place-most (a .sizes .pitch) (a .radius) (a .y) (omega (arith, s .pre .0 .below, s .pre .0 .sound .image .sized .height-most)) (s .pre .0 .sound .image .pitch-most))
+
+add-t16 : tie.Need-add-t16
+add-t16 c =
+    let s = c .before .before .before in
     let a = s .args in
     omega (arith, c .first-place .ensures, s .pre .0 .right, s .pre .0 .below, s .pre .0 .sound .image .sized .width-most, s .pre .0 .sound .image .sized .height-most, s .pre .0 .sound .image .pitch-most, place-most (a .sizes .pitch) (a .radius) (a .y) (omega (arith, s .pre .0 .below, s .pre .0 .sound .image .sized .height-most)) (s .pre .0 .sound .image .pitch-most))
 
 fit-four-requires : tie.Need-fit-four-requires
 fit-four-requires c κs =
-    let s = c .before .before .before in
+    let s = c .before .before .before .before in
     let a = s .args in
-    (s .pre .1, inside-four (imageOf (a .img .now) (a .sizes)) (a .radius) (a .x) (a .y) (c .before .first-place .result) (s .pre .0) (c .before .first-place .ensures))
+    (s .pre .1, inside-four (imageOf (a .bytes .now) (a .words .now) (a .sizes)) (a .radius) (a .x) (a .y) (c .before .first-place .result) (s .pre .0) (c .before .first-place .ensures))
 
 returns : tie.Need-returns
 returns c =
-    let s = c .before .before .before .before in
+    let s = c .before .before .before .before .before in
     let a = s .args in
-    laid-about (imageOf (a .img .now) (a .sizes)) (a .columns .now) (a .radius) (a .x) (a .y) (a .to) (a .flat .now) (c .fit-four .last .1 .1 .1 .1 .1 .0) (s .pre .0) (s .pre .1 .1)
-    (c .fit-four .ensures ∙ firsts-are (imageOf (a .img .now) (a .sizes)) (a .columns .now) (a .radius) (a .x) (a .y) (c .before .before .first-place .result) (a .to) (a .flat .now) (c .before .before .first-place .ensures))
+    laid-about (imageOf (a .bytes .now) (a .words .now) (a .sizes)) (a .columns .now) (a .radius) (a .x) (a .y) (a .to) (a .flat .now) (c .fit-four .last .1 .1 .1 .1 .1 .1 .1 .0) (s .pre .0) (s .pre .1 .1)
+    (c .fit-four .ensures ∙ firsts-are (imageOf (a .bytes .now) (a .words .now) (a .sizes)) (a .columns .now) (a .radius) (a .x) (a .y) (c .before .before .first-place .result) (a .to) (a .flat .now) (c .before .before .first-place .ensures))
 
 pub fit-about-spec : {M : Type 1} → statement M
 fit-about-spec =
     tie.close
-    (tie.spec first-place-requires add-t12 add-t13 add-t14 add-t15 fit-four-requires returns)
+    (tie.spec first-place-requires add-t13 add-t14 add-t15 add-t16 fit-four-requires returns)

@@ -1,24 +1,23 @@
 -- `refine_fits::fits::fit_patch` meets its contract. After some rows the sums have these rows' samples.
-use mathlib.Core.Path.{_≡_, sym, ap, _∙_, subst}
+use mathlib.Core.Path.{_≡_, ap, _∙_}
 use Prim.Native.Nat.{ℕ, _+_, _-_, _*_, _≤_}
 use native.Mathlib.Omega.{arith}
-use lib.ListN.{length}
 use lib.IntN.{pos}
 use lib.Ieee.{ofBits, ofInt, binary32}
 use Rattle.imageview.specs.Image.{imageOf}
 use Rattle.refine_operator.specs.Basis as Basis
 use Rattle.refine_fits.specs.StepsAdding.{sumsOf}
 use Rattle.refine_patch.proofs.RowLaws.{numbered}
-use Rattle.refine_fits.proofs.FitLaws.{sums-none, row-done, all-rows, centre-sample, row-within, centre-within, part-length}
+use Rattle.refine_fits.proofs.FitLaws.{sums-none, row-done, all-rows, centre-sample, row-within, centre-within}
 use Rattle.refine_fits.proofs.fits.fit_patch.Statement.{statement}
 use Rattle.refine_fits.proofs.fits.fit_patch.Tie as tie
 
 abbrev Inv-loop : tie.InvT-loop
-Inv-loop img sizes x y radius columns side centre sums₀ row₀ sums row =
-    (row ≤ 2 * radius + 1) × (sums ≡ sumsOf (imageOf img sizes) columns radius x y (row * Basis.side radius))
+Inv-loop bytes words sizes x y radius columns side centre sums₀ row₀ sums row =
+    (row ≤ 2 * radius + 1) × (sums ≡ sumsOf (imageOf bytes words sizes) columns radius x y (row * Basis.side radius))
 
 abbrev μ-loop : tie.MeasureT-loop
-μ-loop img sizes x y radius columns side centre sums₀ row₀ sums row = side - row
+μ-loop bytes words sizes x y radius columns side centre sums₀ row₀ sums row = side - row
 
 mul-side : tie.Need-mul-side Inv-loop μ-loop
 mul-side c = omega arith
@@ -28,8 +27,8 @@ add-side c = omega arith
 
 sample-requires : tie.Need-sample-requires Inv-loop μ-loop
 sample-requires c κs =
-    let a = c .before .args in
-    centre-within (imageOf (a .img .now) (a .sizes)) (a .radius) (a .x) (a .y) (c .before .pre)
+    let a = c .before .before .args in
+    centre-within (imageOf (a .bytes .now) (a .words .now) (a .sizes)) (a .radius) (a .x) (a .y) (c .before .before .pre)
 
 int-to-float-centre : tie.Need-int-to-float-centre Inv-loop μ-loop
 int-to-float-centre c = tt
@@ -37,42 +36,29 @@ int-to-float-centre c = tt
 loop-holds : tie.Need-loop-holds Inv-loop μ-loop
 unfolding ofBits
 loop-holds c =
-    let a = c .before .before .before .args in
-    (omega arith, sums-none (imageOf (a .img .now) (a .sizes)) (a .columns .now) (a .radius) (a .x) (a .y))
+    let a = c .before .before .before .before .args in
+    (omega arith, sums-none (imageOf (a .bytes .now) (a .words .now) (a .sizes)) (a .columns .now) (a .radius) (a .x) (a .y))
 
-sub-patch-row : tie.Need-sub-patch-row Inv-loop μ-loop
-sub-patch-row c = c .before .before .before .before .before .pre .left
+sub-add-patch-row : tie.Need-sub-add-patch-row Inv-loop μ-loop
+sub-add-patch-row c = c .before .before .before .before .before .before .pre .left
 
-sub-patch-row-2 : tie.Need-sub-patch-row-2 Inv-loop μ-loop
-sub-patch-row-2 c = c .before .before .before .before .before .pre .above
+sub-add-patch-row-2 : tie.Need-sub-add-patch-row-2 Inv-loop μ-loop
+sub-add-patch-row-2 c = c .before .before .before .before .before .before .pre .above
 
-add-patch-row : tie.Need-add-patch-row Inv-loop μ-loop
-add-patch-row c = omega (arith, c .before .before .before .before .before .fits .y, c .before .before .before .before .before .pre)
+add-add-patch-row : tie.Need-add-add-patch-row Inv-loop μ-loop
+add-add-patch-row c = omega (arith, c .before .before .before .before .before .before .fits .y, c .before .before .before .before .before .before .pre)
 
-patch-row-requires : tie.Need-patch-row-requires Inv-loop μ-loop
-patch-row-requires c κs =
-    let s = c .before .before .before .before .before in
-    let a = s .args in
-    row-within (imageOf (a .img .now) (a .sizes)) (a .radius) (a .x) (a .y) (c .before .loop .row) (s .pre) (c .loop-test .taken)
-
-mul-add-row : tie.Need-mul-add-row Inv-loop μ-loop
-mul-add-row c =
+mul-add-patch-row : tie.Need-mul-add-patch-row Inv-loop μ-loop
+mul-add-patch-row c =
     let s = c .before .before .before .before .before .before in
-    omega (arith, numbered (s .args .radius) (c .before .before .loop .row) (s .pre .sound .small) (c .before .loop-test .taken))
+    omega (arith, numbered (s .args .radius) (c .before .loop .row) (s .pre .sound .small) (c .loop-test .taken))
 
--- the part has as many samples as the patch has columns
-whole : (c : tie.After-patch-row Inv-loop μ-loop) → length (c .patch-row .result .now) ≡ Basis.side (c .before .before .before .before .before .before .args .radius)
-whole c =
+add-patch-row-requires : tie.Need-add-patch-row-requires Inv-loop μ-loop
+add-patch-row-requires c κs =
     let s = c .before .before .before .before .before .before in
     let a = s .args in
-    let img = imageOf (a .img .now) (a .sizes) in
-    part-length img ((a .y - a .radius + c .before .before .loop .row) * a .sizes .pitch + (a .x - a .radius)) (Basis.side (a .radius)) (c .patch-row .result .now) (row-within img (a .radius) (a .x) (a .y) (c .before .before .loop .row) (s .pre) (c .before .loop-test .taken)) (c .patch-row .ensures)
-
-add-row-requires : tie.Need-add-row-requires Inv-loop μ-loop
-add-row-requires c κs =
-    let s = c .before .before .before .before .before .before in
-    let row = c .before .before .loop .row in
-    subst (λ (n : ℕ). row * Basis.side (s .args .radius) + n ≤ 225) (sym (whole c)) (numbered (s .args .radius) row (s .pre .sound .small) (c .before .loop-test .taken))
+    let row = c .before .loop .row in
+    (row-within (imageOf (a .bytes .now) (a .words .now) (a .sizes)) (a .radius) (a .x) (a .y) row (s .pre) (c .loop-test .taken), numbered (a .radius) row (s .pre .sound .small) (c .loop-test .taken))
 
 add-row : tie.Need-add-row Inv-loop μ-loop
 add-row c = omega (arith, c .before .before .before .before .before .before .before .pre .sound .small)
@@ -84,16 +70,16 @@ loop-again : tie.Need-loop-again Inv-loop μ-loop
 loop-again c =
     let s = c .before .before .before .before .before .before .before in
     let a = s .args in
-    let l = c .before .before .before .loop in
-    let img = imageOf (a .img .now) (a .sizes) in
-    (omega arith, row-done img (a .columns .now) (a .radius) (a .x) (a .y) (l .row) (c .before .patch-row .result .now) _ (l .sums) (c .add-row .result) (l .inv .1) (c .before .patch-row .ensures) (whole (c .before)) (ap (λ (v : ℕ). ofInt binary32 (pos v)) (c .before .before .before .before .before .sample .ensures) ∙ centre-sample img (a .radius) (a .x) (a .y) (s .pre .left) (s .pre .above)) (c .add-row .ensures))
+    let l = c .before .before .loop in
+    let img = imageOf (a .bytes .now) (a .words .now) (a .sizes) in
+    (omega arith, row-done img (a .columns .now) (a .radius) (a .x) (a .y) (l .row) _ (l .sums) (c .add-patch-row .result) (l .inv .1) (ap (λ (v : ℕ). ofInt binary32 (pos v)) (c .before .before .before .before .sample .ensures) ∙ centre-sample img (a .radius) (a .x) (a .y) (s .pre .left) (s .pre .above)) (c .add-patch-row .ensures))
 
 returns : tie.Need-returns Inv-loop μ-loop
 returns c =
-    let s = c .before .before .before .before .before in
+    let s = c .before .before .before .before .before .before in
     let a = s .args in
     let l = c .before .loop in
-    all-rows (imageOf (a .img .now) (a .sizes)) (a .columns .now) (a .radius) (a .x) (a .y) (l .row) (l .sums) (let e : l .row ≡ 2 * a .radius + 1 = omega arith in e) (l .inv .1)
+    all-rows (imageOf (a .bytes .now) (a .words .now) (a .sizes)) (a .columns .now) (a .radius) (a .x) (a .y) (l .row) (l .sums) (let e : l .row ≡ 2 * a .radius + 1 = omega arith in e) (l .inv .1)
 
 pub fit-patch-spec : {M : Type 1} → statement M
 fit-patch-spec =
@@ -106,12 +92,11 @@ fit-patch-spec =
     sample-requires
     int-to-float-centre
     loop-holds
-    sub-patch-row
-    sub-patch-row-2
-    add-patch-row
-    patch-row-requires
-    mul-add-row
-    add-row-requires
+    sub-add-patch-row
+    sub-add-patch-row-2
+    add-add-patch-row
+    mul-add-patch-row
+    add-patch-row-requires
     add-row
     loop-less
     loop-again

@@ -19,7 +19,7 @@ enum-told c = search needs
 
 refine-all-requires : tie.Need-refine-all-requires
 refine-all-requires c κs =
-    let s = c .before .before .before .before .before .before .before .before .before in
+    let s = c .before .before .before .before .before .before .before .before .before .before in
     let f = c .before .before .before .before .fit-columns in
     (s .pre .0, (record { overlap = overlapAfter [] (wayOf (s .args .cfg .radius)); same = λ img x y wanted. lent-is-built img (s .args .cfg) x y wanted _ [] _ _ _ (with-overlap (s .args .cfg .radius) _ [] _ _ (f .ensures)) (c .before .before .enum-told .given .1) }, s .pre .1))
 
@@ -37,14 +37,14 @@ returns c = search needs
 
 returns-2 : tie.Need-returns-2
 returns-2 c =
-    let a = c .before .before .before .before .before .before .before .args in
-    let img = imageOf (a .img .now) (a .sizes) in
+    let a = c .before .before .before .before .before .before .before .before .args in
+    let img = imageOf (a .bytes .now) (a .words .now) (a .sizes) in
     empty (spotFor img (a .cfg) (a .corners .now)) (a .corners .now) (a .out .now) (nowhere img (a .cfg) (a .corners .now) (λ x y. none-singular img (a .cfg) x y false _ [] _ _ _ (with-overlap (a .cfg .radius) _ [] _ _ (c .before .before .fit-columns .ensures)) (c .enum-told2 .given .1)))
 
 returns-3 : tie.Need-returns-3
 returns-3 c =
-    let a = c .before .before .before .before .before .before .before .args in
-    let img = imageOf (a .img .now) (a .sizes) in
+    let a = c .before .before .before .before .before .before .before .before .args in
+    let img = imageOf (a .bytes .now) (a .words .now) (a .sizes) in
     empty (spotFor img (a .cfg) (a .corners .now)) (a .corners .now) (a .out .now) (nowhere img (a .cfg) (a .corners .now) (λ x y. none-refused img (a .cfg) x y false _ [] _ _ _ (with-overlap (a .cfg .radius) _ [] _ _ (c .before .before .fit-columns .ensures)) _ (c .enum-told3 .given .1)))
 
 pub refine-list-spec : {M : Type 1} → statement M

@@ -22,9 +22,9 @@ difference-requires c κs = search needs
 
 returns : tie.Need-returns
 returns c =
-    let s = c .before .before .before .before .before in
+    let s = c .before .before .before .before .before .before in
     let a = s .args in
-    y-next (imageOf (a .img .now) (a .sizes)) (a .columns .now) (a .radius) (a .x) (a .y) (s .pre .0) (a .here) (c .before .fit-patch .result) (c .difference .result) (s .pre .1) (c .before .before .if1 .taken) (c .before .fit-patch .ensures) (c .difference .ensures)
+    y-next (imageOf (a .bytes .now) (a .words .now) (a .sizes)) (a .columns .now) (a .radius) (a .x) (a .y) (s .pre .0) (a .here) (c .before .fit-patch .result) (c .difference .result) (s .pre .1) (c .before .before .if1 .taken) (c .before .fit-patch .ensures) (c .difference .ensures)
 
 sub-fit-patch : tie.Need-sub-fit-patch
 sub-fit-patch c = search needs
@@ -37,15 +37,15 @@ difference-requires-2 c κs = search needs
 
 returns-2 : tie.Need-returns-2
 returns-2 c =
-    let s = c .before .before .before .before .before .before in
+    let s = c .before .before .before .before .before .before .before in
     let a = s .args in
-    y-before (imageOf (a .img .now) (a .sizes)) (a .columns .now) (a .radius) (a .x) (a .y) (s .pre .0) (a .here) (c .before .fit-patch2 .result) (c .difference2 .result) (s .pre .1) (c .before .before .before .if1 .left) (c .before .before .if2 .taken) (c .before .fit-patch2 .ensures) (c .difference2 .ensures)
+    y-before (imageOf (a .bytes .now) (a .words .now) (a .sizes)) (a .columns .now) (a .radius) (a .x) (a .y) (s .pre .0) (a .here) (c .before .fit-patch2 .result) (c .difference2 .result) (s .pre .1) (c .before .before .before .if1 .left) (c .before .before .if2 .taken) (c .before .fit-patch2 .ensures) (c .difference2 .ensures)
 
 returns-3 : tie.Need-returns-3
 returns-3 c =
-    let s = c .before .before .before .before in
+    let s = c .before .before .before .before .before in
     let a = s .args in
-    y-none (imageOf (a .img .now) (a .sizes)) (a .columns .now) (a .radius) (a .x) (a .y) (s .pre .0) (a .here) (c .before .if1 .left) (c .if2 .left)
+    y-none (imageOf (a .bytes .now) (a .words .now) (a .sizes)) (a .columns .now) (a .radius) (a .x) (a .y) (s .pre .0) (a .here) (c .before .if1 .left) (c .if2 .left)
 
 pub along-y-spec : {M : Type 1} → statement M
 along-y-spec =

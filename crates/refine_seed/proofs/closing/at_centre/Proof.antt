@@ -21,38 +21,38 @@ sensitivity-requires c κs = search needs
 returns : tie.Need-returns
 unfolding ofBits
 returns c =
-    let s = c .before .before .before .before .before .before .before .before .before in
+    let s = c .before .before .before .before .before .before .before .before .before .before in
     let a = s .args in
     let x = c .before .before .before .before .before .before .before .along-x in
     let y = c .before .before .before .before .before .before .along-y in
     let j = c .before .saddle-jacobian in
-    with-slope (imageOf (a .img .now) (a .sizes)) (a .columns .now) (a .cfg) (a .seed) (a .first) (x .result) (y .result) (x .ensures) (y .ensures) (s .pre .1 .1) (j .result) (c .sensitivity .result) (c .before .before .before .before .before .if1 .taken) (c .before .before .before .before .if2 .taken) (j .ensures) (c .sensitivity .ensures)
+    with-slope (imageOf (a .bytes .now) (a .words .now) (a .sizes)) (a .columns .now) (a .cfg) (a .seed) (a .first) (x .result) (y .result) (x .ensures) (y .ensures) (s .pre .1 .1) (j .result) (c .sensitivity .result) (c .before .before .before .before .before .if1 .taken) (c .before .before .before .before .if2 .taken) (j .ensures) (c .sensitivity .ensures)
 
 unsloped-requires : tie.Need-unsloped-requires
 unsloped-requires c κs =
-    let s = c .before .before .before .before .before in
+    let s = c .before .before .before .before .before .before in
     (column (s .pre .0), row (s .pre .0))
 
 returns-2 : tie.Need-returns-2
 returns-2 c =
-    let s = c .before .before .before .before .before .before in
+    let s = c .before .before .before .before .before .before .before in
     let a = s .args in
     let x = c .before .before .before .before .along-x in
     let y = c .before .before .before .along-y in
-    no-slope-y (imageOf (a .img .now) (a .sizes)) (a .columns .now) (a .cfg) (a .seed) (a .first) (x .result) (y .result) (x .ensures) (y .ensures) (s .pre .1 .1) (c .unsloped .result) (c .before .before .if1 .taken) (c .before .if2 .left) (c .unsloped .ensures)
+    no-slope-y (imageOf (a .bytes .now) (a .words .now) (a .sizes)) (a .columns .now) (a .cfg) (a .seed) (a .first) (x .result) (y .result) (x .ensures) (y .ensures) (s .pre .1 .1) (c .unsloped .result) (c .before .before .if1 .taken) (c .before .if2 .left) (c .unsloped .ensures)
 
 unsloped-requires-2 : tie.Need-unsloped-requires-2
 unsloped-requires-2 c κs =
-    let s = c .before .before .before .before in
+    let s = c .before .before .before .before .before in
     (column (s .pre .0), row (s .pre .0))
 
 returns-3 : tie.Need-returns-3
 returns-3 c =
-    let s = c .before .before .before .before .before in
+    let s = c .before .before .before .before .before .before in
     let a = s .args in
     let x = c .before .before .before .along-x in
     let y = c .before .before .along-y in
-    no-slope-x (imageOf (a .img .now) (a .sizes)) (a .columns .now) (a .cfg) (a .seed) (a .first) (x .result) (y .result) (x .ensures) (y .ensures) (s .pre .1 .1) (c .unsloped2 .result) (c .before .if1 .left) (c .unsloped2 .ensures)
+    no-slope-x (imageOf (a .bytes .now) (a .words .now) (a .sizes)) (a .columns .now) (a .cfg) (a .seed) (a .first) (x .result) (y .result) (x .ensures) (y .ensures) (s .pre .1 .1) (c .unsloped2 .result) (c .before .if1 .left) (c .unsloped2 .ensures)
 
 pub at-centre-spec : {M : Type 1} → statement M
 at-centre-spec =

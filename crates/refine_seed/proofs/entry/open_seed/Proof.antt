@@ -25,24 +25,24 @@ opened-requires c κs = search needs
 
 returns : tie.Need-returns
 returns c =
-    let a = c .before .before .before .before .before .before .before .before .before .args in
+    let a = c .before .before .before .before .before .before .before .before .before .before .args in
     let fit = c .before .before .before .before .before .before .before .fit-patch in
     let solved = c .before .before .before .before .before .before .solve in
-    opens-accepted (imageOf (a .img .now) (a .sizes)) (a .columns .now) (a .cfg) (a .seed) (fit .result) _ (solved .result) (fit .ensures) (solved .ensures) (c .before .before .before .before .solved2 .given .0 .0) (c .before .before .near-seed .result) (c .opened .result) (c .before .before .before .before .solved2 .given .1) (c .before .before .near-seed .ensures) (c .before .if1 .taken) (c .opened .ensures)
+    opens-accepted (imageOf (a .bytes .now) (a .words .now) (a .sizes)) (a .columns .now) (a .cfg) (a .seed) (fit .result) _ (solved .result) (fit .ensures) (solved .ensures) (c .before .before .before .before .solved2 .given .0 .0) (c .before .before .near-seed .result) (c .opened .result) (c .before .before .before .before .solved2 .given .1) (c .before .before .near-seed .ensures) (c .before .if1 .taken) (c .opened .ensures)
 
 returns-2 : tie.Need-returns-2
 returns-2 c =
-    let a = c .before .before .before .before .before .before .args in
+    let a = c .before .before .before .before .before .before .before .args in
     let fit = c .before .before .before .before .fit-patch in
     let solved = c .before .before .before .solve in
-    opens-refused (imageOf (a .img .now) (a .sizes)) (a .columns .now) (a .cfg) (a .seed) (fit .result) _ (solved .result) (fit .ensures) (solved .ensures) (c .before .solved .given .0 .0) (c .before .solved .given .0 .1 .0) (c .before .solved .given .1)
+    opens-refused (imageOf (a .bytes .now) (a .words .now) (a .sizes)) (a .columns .now) (a .cfg) (a .seed) (fit .result) _ (solved .result) (fit .ensures) (solved .ensures) (c .before .solved .given .0 .0) (c .before .solved .given .0 .1 .0) (c .before .solved .given .1)
 
 returns-3 : tie.Need-returns-3
 returns-3 c =
-    let a = c .before .before .before .before .before .before .before .before .args in
+    let a = c .before .before .before .before .before .before .before .before .before .args in
     let fit = c .before .before .before .before .before .before .fit-patch in
     let solved = c .before .before .before .before .before .solve in
-    opens-rejected (imageOf (a .img .now) (a .sizes)) (a .columns .now) (a .cfg) (a .seed) (fit .result) _ (solved .result) (fit .ensures) (solved .ensures) (c .before .before .before .solved2 .given .0 .0) (c .before .near-seed .result) (c .before .before .before .solved2 .given .1) (c .before .near-seed .ensures) (c .if1 .left)
+    opens-rejected (imageOf (a .bytes .now) (a .words .now) (a .sizes)) (a .columns .now) (a .cfg) (a .seed) (fit .result) _ (solved .result) (fit .ensures) (solved .ensures) (c .before .before .before .solved2 .given .0 .0) (c .before .near-seed .result) (c .before .before .before .solved2 .given .1) (c .before .near-seed .ensures) (c .if1 .left)
 
 pub open-seed-spec : {M : Type 1} → statement M
 open-seed-spec =

@@ -14,7 +14,7 @@ enum-known-opened c = search needs
 
 close-fresh-requires : tie.Need-close-fresh-requires
 close-fresh-requires c κs =
-    let s = c .before .before .before .before .before in
+    let s = c .before .before .before .before .before .before in
     (column (s .pre), row (s .pre))
 
 enum-known-opened-2 : tie.Need-enum-known-opened-2
@@ -22,17 +22,17 @@ enum-known-opened-2 c = search needs
 
 returns : tie.Need-returns
 returns c =
-    let a = c .before .before .before .before .before .before .args in
+    let a = c .before .before .before .before .before .before .before .args in
     let o = c .before .before .before .before .open-fresh in
     let got = c .before .before .opened .given in
-    fresh-open (imageOf (a .img .now) (a .sizes)) (a .cfg) (a .seed) (a .wanted) (o .result) (o .ensures) (got .0 .0) (c .close-fresh .result) (got .1) (c .close-fresh .ensures)
+    fresh-open (imageOf (a .bytes .now) (a .words .now) (a .sizes)) (a .cfg) (a .seed) (a .wanted) (o .result) (o .ensures) (got .0 .0) (c .close-fresh .result) (got .1) (c .close-fresh .ensures)
 
 returns-2 : tie.Need-returns-2
 returns-2 c =
-    let a = c .before .before .before .before .before .args in
+    let a = c .before .before .before .before .before .before .args in
     let o = c .before .before .before .open-fresh in
     let got = c .before .opened2 .given in
-    fresh-done (imageOf (a .img .now) (a .sizes)) (a .cfg) (a .seed) (a .wanted) (o .result) (o .ensures) (got .0 .0) (got .1)
+    fresh-done (imageOf (a .bytes .now) (a .words .now) (a .sizes)) (a .cfg) (a .seed) (a .wanted) (o .result) (o .ensures) (got .0 .0) (got .1)
 
 pub refine-fresh-spec : {M : Type 1} → statement M
 refine-fresh-spec = tie.close (tie.spec open-fresh-requires enum-known-opened close-fresh-requires enum-known-opened-2 returns returns-2)

@@ -12,7 +12,7 @@ use Rattle.refine_seed.proofs.entry.refine_lent.Tie as tie
 
 returns : tie.Need-returns
 unfolding ofBits
-returns c = sym (yes (eqb (c .before .before .before .args .cfg .radius) 0) _ _ (eq-eqb (c .before .before .before .args .cfg .radius) 0 (c .if1 .taken)))
+returns c = sym (yes (eqb (c .before .before .before .before .args .cfg .radius) 0) _ _ (eq-eqb (c .before .before .before .before .args .cfg .radius) 0 (c .if1 .taken)))
 
 open-seed-requires : tie.Need-open-seed-requires
 open-seed-requires c κs = search needs
@@ -22,7 +22,7 @@ enum-known-opened c = search needs
 
 closed-requires : tie.Need-closed-requires
 closed-requires c κs =
-    let s = c .before .before .before .before .before .before .before in
+    let s = c .before .before .before .before .before .before .before .before in
     (column (s .pre), row (s .pre))
 
 enum-known-opened-2 : tie.Need-enum-known-opened-2
@@ -30,7 +30,7 @@ enum-known-opened-2 c = search needs
 
 returns-2 : tie.Need-returns-2
 returns-2 c =
-    let a = c .before .before .before .before .before .before .before .before .args in
+    let a = c .before .before .before .before .before .before .before .before .before .args in
     let o = c .before .before .before .before .open-seed in
     let got = c .before .before .opened .given in
     closes-open (a .seed) (a .overlap .now) (a .wanted) (o .result) (o .ensures) (got .0 .0) (c .closed .result) (got .1) (c .closed .ensures)
@@ -38,7 +38,7 @@ returns-2 c =
 
 returns-3 : tie.Need-returns-3
 returns-3 c =
-    let a = c .before .before .before .before .before .before .before .args in
+    let a = c .before .before .before .before .before .before .before .before .args in
     let o = c .before .before .before .open-seed in
     let got = c .before .opened2 .given in
     closes-done (a .seed) (a .overlap .now) (a .wanted) (o .result) (o .ensures) (got .0 .0) (got .1)

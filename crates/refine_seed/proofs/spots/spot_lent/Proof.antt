@@ -7,16 +7,16 @@ use Rattle.refine_seed.proofs.spots.spot_lent.Tie as tie
 
 returns : tie.Need-returns
 returns c =
-    let a = c .before .before .before .args in
-    lands-none (imageOf (a .img .now) (a .sizes)) (a .columns .now) (a .cfg) (a .seed) (c .if1 .taken)
+    let a = c .before .before .before .before .args in
+    lands-none (imageOf (a .bytes .now) (a .words .now) (a .sizes)) (a .columns .now) (a .cfg) (a .seed) (c .if1 .taken)
 
 spot-of-seed-requires : tie.Need-spot-of-seed-requires
 spot-of-seed-requires c κs = search needs
 
 returns-2 : tie.Need-returns-2
 returns-2 c =
-    let a = c .before .before .before .before .args in
-    lands-lent (imageOf (a .img .now) (a .sizes)) (a .columns .now) (a .cfg) (a .seed) (c .before .if1 .left) _ (c .spot-of-seed .ensures)
+    let a = c .before .before .before .before .before .args in
+    lands-lent (imageOf (a .bytes .now) (a .words .now) (a .sizes)) (a .columns .now) (a .cfg) (a .seed) (c .before .if1 .left) _ (c .spot-of-seed .ensures)
 
 pub spot-lent-spec : {M : Type 1} → statement M
 spot-lent-spec = tie.close (tie.spec returns spot-of-seed-requires returns-2)

@@ -22,24 +22,24 @@ spot-from-requires c κs = search needs
 
 returns : tie.Need-returns
 returns c =
-    let s = c .before .before .before .before .before .before .before .before in
+    let s = c .before .before .before .before .before .before .before .before .before in
     let a = s .args in
     let solved = c .before .before .before .before .before .before .solve in
-    lands-accepted (imageOf (a .img .now) (a .sizes)) (a .columns .now) (a .cfg) (a .seed) (a .here) _ (solved .result) (s .pre .1) (solved .ensures) (c .before .before .before .before .solved .given .0 .0) (c .before .before .near-seed .result) (c .spot-from .result) (c .before .before .before .before .solved .given .1) (c .before .before .near-seed .ensures) (c .before .if1 .taken) (c .spot-from .ensures)
+    lands-accepted (imageOf (a .bytes .now) (a .words .now) (a .sizes)) (a .columns .now) (a .cfg) (a .seed) (a .here) _ (solved .result) (s .pre .1) (solved .ensures) (c .before .before .before .before .solved .given .0 .0) (c .before .before .near-seed .result) (c .spot-from .result) (c .before .before .before .before .solved .given .1) (c .before .before .near-seed .ensures) (c .before .if1 .taken) (c .spot-from .ensures)
 
 returns-2 : tie.Need-returns-2
 returns-2 c =
-    let s = c .before .before .before .before in
+    let s = c .before .before .before .before .before in
     let a = s .args in
     let solved = c .before .before .solve in
-    lands-refused (imageOf (a .img .now) (a .sizes)) (a .columns .now) (a .cfg) (a .seed) (a .here) _ (solved .result) (s .pre .1) (solved .ensures) _ _ (c .enum-told .given .1)
+    lands-refused (imageOf (a .bytes .now) (a .words .now) (a .sizes)) (a .columns .now) (a .cfg) (a .seed) (a .here) _ (solved .result) (s .pre .1) (solved .ensures) _ _ (c .enum-told .given .1)
 
 returns-3 : tie.Need-returns-3
 returns-3 c =
-    let s = c .before .before .before .before .before .before .before in
+    let s = c .before .before .before .before .before .before .before .before in
     let a = s .args in
     let solved = c .before .before .before .before .before .solve in
-    lands-rejected (imageOf (a .img .now) (a .sizes)) (a .columns .now) (a .cfg) (a .seed) (a .here) _ (solved .result) (s .pre .1) (solved .ensures) (c .before .before .before .solved .given .0 .0) (c .before .near-seed .result) (c .before .before .before .solved .given .1) (c .before .near-seed .ensures) (c .if1 .left)
+    lands-rejected (imageOf (a .bytes .now) (a .words .now) (a .sizes)) (a .columns .now) (a .cfg) (a .seed) (a .here) _ (solved .result) (s .pre .1) (solved .ensures) (c .before .before .before .solved .given .0 .0) (c .before .near-seed .result) (c .before .before .before .solved .given .1) (c .before .near-seed .ensures) (c .if1 .left)
 
 pub spot-of-seed-spec : {M : Type 1} → statement M
 spot-of-seed-spec =

@@ -30,10 +30,10 @@ abbrev Stays : Task → PatchSaddle → IntegerFits → Bases → List Float →
 Stays t first fits bases flat f n s = Going t first fits bases flat f (s .ox) (s .oy) (record { x = s .x; y = s .y }) (s .scale) (s .halvings) (s .left) n
 
 abbrev Inv-loop : tie.InvT-loop
-Inv-loop img sizes columns cfg seed fits₀ bases₀ flat₀ fit₀ step₀ tries₀ fits bases flat fit step tries = Stays (taskAt (imageOf img sizes) columns cfg seed) fit₀ fits bases flat fit tries step
+Inv-loop bytes words sizes columns cfg seed fits₀ bases₀ flat₀ fit₀ step₀ tries₀ fits bases flat fit step tries = Stays (taskAt (imageOf bytes words sizes) columns cfg seed) fit₀ fits bases flat fit tries step
 
 abbrev μ-loop : tie.MeasureT-loop
-μ-loop img sizes columns cfg seed fits₀ bases₀ flat₀ fit₀ step₀ tries₀ fits bases flat fit step tries = 5 * step .left + step .halvings
+μ-loop bytes words sizes columns cfg seed fits₀ bases₀ flat₀ fit₀ step₀ tries₀ fits bases flat fit step tries = 5 * step .left + step .halvings
 
 -- a step is left
 above : (k : ℕ) → (k ≡ 0 → ⊥) → 1 ≤ k
@@ -51,19 +51,19 @@ first-step-requires c κs = tt
 
 loop-holds : tie.Need-loop-holds Inv-loop μ-loop
 loop-holds c =
-    let s = c .before .before .before .before in
+    let s = c .before .before .before .before .before in
     let a = s .args in
-    let t = taskAt (imageOf (a .img .now) (a .sizes)) (a .columns .now) (a .cfg) (a .seed) in
+    let t = taskAt (imageOf (a .bytes .now) (a .words .now) (a .sizes)) (a .columns .now) (a .cfg) (a .seed) in
     let fits = c .before .before .no-fits in
     let bases = c .before .no-bases in
     subst (Stays t (a .first) (fits .result) (bases .result) _ (a .first) 0) (sym (c .first-step .ensures)) (starts t (a .first) (fits .result) (bases .result) _ (s .pre .1 .1) (fits .ensures) (bases .ensures) refl)
 
 window-at-requires : tie.Need-window-at-requires Inv-loop μ-loop
-window-at-requires c κs = c .before .before .before .before .before .before .before .before .before .before .before .pre .1 .0
+window-at-requires c κs = c .before .before .before .before .before .before .before .before .before .before .before .before .pre .1 .0
 
 ready-requires : tie.Need-ready-requires Inv-loop μ-loop
 ready-requires c κs =
-    let s = c .before .before .before .before .before .before .before .before .before .before .before .before .before in
+    let s = c .before .before .before .before .before .before .before .before .before .before .before .before .before .before in
     let w = c .before .window-at in
     (s .pre .0, (c .before .before .before .before .before .before .before .before .loop .inv .held, bases-most (w .result) (pos (s .args .seed .«centre_x»)) (pos (s .args .seed .«centre_y»)) _ _ (w .ensures)))
 
@@ -73,21 +73,21 @@ lay-requires c κs =
     (further .within, (c .before .before .before .before .before .before .before .before .before .before .before .before .loop .inv .kept, further .long))
 
 -- past the branch the four fits about the window stand in the list, and the kept fits are kept
-ready : (c : tie.Joined2 Inv-loop μ-loop) → Stands (imageOf (c .before .before .before .before .before .before .before .before .before .before .before .before .before .before .before .before .args .img .now) (c .before .before .before .before .before .before .before .before .before .before .before .before .before .before .before .before .args .sizes)) (c .before .before .before .before .before .before .before .before .before .before .before .before .before .before .before .before .args .columns .now) (c .before .before .before .before .before .before .before .before .before .before .before .before .before .before .before .before .args .cfg .radius) (c .before .before .before .before .window-at .result .«base_x») (c .before .before .before .before .window-at .result .«base_y») (c .before .before .ready .result .room) (c .before .before .ready .result .to) (c .before .before .ready .result .bases) (c .if2 .flat)
+ready : (c : tie.Joined2 Inv-loop μ-loop) → Stands (imageOf (c .before .before .before .before .before .before .before .before .before .before .before .before .before .before .before .before .before .args .bytes .now) (c .before .before .before .before .before .before .before .before .before .before .before .before .before .before .before .before .before .args .words .now) (c .before .before .before .before .before .before .before .before .before .before .before .before .before .before .before .before .before .args .sizes)) (c .before .before .before .before .before .before .before .before .before .before .before .before .before .before .before .before .before .args .columns .now) (c .before .before .before .before .before .before .before .before .before .before .before .before .before .before .before .before .before .args .cfg .radius) (c .before .before .before .before .window-at .result .«base_x») (c .before .before .before .before .window-at .result .«base_y») (c .before .before .ready .result .room) (c .before .before .ready .result .to) (c .before .before .ready .result .bases) (c .if2 .flat)
 ready c =
-    let a = c .before .before .before .before .before .before .before .before .before .before .before .before .before .before .before .before .args in
+    let a = c .before .before .before .before .before .before .before .before .before .before .before .before .before .before .before .before .before .args in
     let w = c .before .before .before .before .window-at .result in
     let r = c .before .before .ready in
-    let img = imageOf (a .img .now) (a .sizes) in
+    let img = imageOf (a .bytes .now) (a .words .now) (a .sizes) in
     ⊎-elim
     (λ v. subst (Stands img (a .columns .now) (a .cfg .radius) (w .«base_x») (w .«base_y») (r .result .room) (r .result .to) (r .result .bases)) (sym (v .4)) (laid-further img (a .columns .now) (a .cfg .radius) (w .«base_x») (w .«base_y») (r .result) _ _ (r .ensures .further (v .0 .taken)) (v .2 .ensures .laid)))
     (λ v. subst (Stands img (a .columns .now) (a .cfg .radius) (w .«base_x») (w .«base_y») (r .result .room) (r .result .to) (r .result .bases)) (sym (v .2)) (r .ensures .there (v .0 .left)))
     (c .if2 .came)
 
-kept : (c : tie.Joined2 Inv-loop μ-loop) → Kept (imageOf (c .before .before .before .before .before .before .before .before .before .before .before .before .before .before .before .before .args .img .now) (c .before .before .before .before .before .before .before .before .before .before .before .before .before .before .before .before .args .sizes)) (c .before .before .before .before .before .before .before .before .before .before .before .before .before .before .before .before .args .columns .now) (c .before .before .before .before .before .before .before .before .before .before .before .before .before .before .before .before .args .cfg .radius) (c .if2 .fits)
+kept : (c : tie.Joined2 Inv-loop μ-loop) → Kept (imageOf (c .before .before .before .before .before .before .before .before .before .before .before .before .before .before .before .before .before .args .bytes .now) (c .before .before .before .before .before .before .before .before .before .before .before .before .before .before .before .before .before .args .words .now) (c .before .before .before .before .before .before .before .before .before .before .before .before .before .before .before .before .before .args .sizes)) (c .before .before .before .before .before .before .before .before .before .before .before .before .before .before .before .before .before .args .columns .now) (c .before .before .before .before .before .before .before .before .before .before .before .before .before .before .before .before .before .args .cfg .radius) (c .if2 .fits)
 kept c =
-    let a = c .before .before .before .before .before .before .before .before .before .before .before .before .before .before .before .before .args in
-    let img = imageOf (a .img .now) (a .sizes) in
+    let a = c .before .before .before .before .before .before .before .before .before .before .before .before .before .before .before .before .before .args in
+    let img = imageOf (a .bytes .now) (a .words .now) (a .sizes) in
     ⊎-elim
     (λ v. subst (Kept img (a .columns .now) (a .cfg .radius)) (sym (v .3)) (v .2 .ensures .kept))
     (λ v. subst (Kept img (a .columns .now) (a .cfg .radius)) (sym (v .1)) (c .before .before .before .before .before .before .before .before .before .before .before .loop .inv .kept))
@@ -98,17 +98,17 @@ corners-at-requires c κs = ready (c .before) .low
 
 candidate-requires : tie.Need-candidate-requires Inv-loop μ-loop
 candidate-requires c κs =
-    let s = c .before .before .before .before .before .before .before .before .before .before .before .before .before .before .before .before .before .before in
+    let s = c .before .before .before .before .before .before .before .before .before .before .before .before .before .before .before .before .before .before .before in
     (s .pre .0 .small, s .pre .1 .0 .0, s .pre .1 .0 .1)
 
 -- the candidate is judged as the definition has it
-tried : (c : tie.After-candidate Inv-loop μ-loop) → Tries (taskAt (imageOf (c .before .before .before .before .before .before .before .before .before .before .before .before .before .before .before .before .before .before .before .args .img .now) (c .before .before .before .before .before .before .before .before .before .before .before .before .before .before .before .before .before .before .before .args .sizes)) (c .before .before .before .before .before .before .before .before .before .before .before .before .before .before .before .before .before .before .before .args .columns .now) (c .before .before .before .before .before .before .before .before .before .before .before .before .before .before .before .before .before .before .before .args .cfg) (c .before .before .before .before .before .before .before .before .before .before .before .before .before .before .before .before .before .before .before .args .seed)) (c .before .before .before .before .before .before .before .before .before .before .before .before .before .before .loop .fit) (c .before .before .before .before .before .before .before .before .before .before .before .before .before .before .loop .step .ox ⊕ c .before .before .before .before .before .before .before .before .before .before .before .before .before .before .loop .step .scale ⊗ c .before .before .before .before .before .before .before .before .before .before .before .before .before .before .loop .step .x) (c .before .before .before .before .before .before .before .before .before .before .before .before .before .before .loop .step .oy ⊕ c .before .before .before .before .before .before .before .before .before .before .before .before .before .before .loop .step .scale ⊗ c .before .before .before .before .before .before .before .before .before .before .before .before .before .before .loop .step .y) (c .before .corners-at .result) (c .candidate .result)
+tried : (c : tie.After-candidate Inv-loop μ-loop) → Tries (taskAt (imageOf (c .before .before .before .before .before .before .before .before .before .before .before .before .before .before .before .before .before .before .before .before .args .bytes .now) (c .before .before .before .before .before .before .before .before .before .before .before .before .before .before .before .before .before .before .before .before .args .words .now) (c .before .before .before .before .before .before .before .before .before .before .before .before .before .before .before .before .before .before .before .before .args .sizes)) (c .before .before .before .before .before .before .before .before .before .before .before .before .before .before .before .before .before .before .before .before .args .columns .now) (c .before .before .before .before .before .before .before .before .before .before .before .before .before .before .before .before .before .before .before .before .args .cfg) (c .before .before .before .before .before .before .before .before .before .before .before .before .before .before .before .before .before .before .before .before .args .seed)) (c .before .before .before .before .before .before .before .before .before .before .before .before .before .before .loop .fit) (c .before .before .before .before .before .before .before .before .before .before .before .before .before .before .loop .step .ox ⊕ c .before .before .before .before .before .before .before .before .before .before .before .before .before .before .loop .step .scale ⊗ c .before .before .before .before .before .before .before .before .before .before .before .before .before .before .loop .step .x) (c .before .before .before .before .before .before .before .before .before .before .before .before .before .before .loop .step .oy ⊕ c .before .before .before .before .before .before .before .before .before .before .before .before .before .before .loop .step .scale ⊗ c .before .before .before .before .before .before .before .before .before .before .before .before .before .before .loop .step .y) (c .before .corners-at .result) (c .candidate .result)
 tried c =
-    let s = c .before .before .before .before .before .before .before .before .before .before .before .before .before .before .before .before .before .before .before in
+    let s = c .before .before .before .before .before .before .before .before .before .before .before .before .before .before .before .before .before .before .before .before in
     let a = s .args in
     let w = c .before .before .before .before .before .before .before .window-at in
     let r = c .before .before .before .before .before .ready .result in
-    tries (imageOf (a .img .now) (a .sizes)) (a .columns .now) (a .cfg) (a .seed) (c .before .before .before .before .before .before .before .before .before .before .before .before .before .before .loop .fit) _ _ (w .result) (r .room) (r .to) (r .bases) (c .before .before .before .if2 .flat) (c .before .corners-at .result) (c .candidate .result) (s .pre .0) (w .ensures) (ready (c .before .before .before)) (c .before .corners-at .ensures) (c .candidate .ensures)
+    tries (imageOf (a .bytes .now) (a .words .now) (a .sizes)) (a .columns .now) (a .cfg) (a .seed) (c .before .before .before .before .before .before .before .before .before .before .before .before .before .before .loop .fit) _ _ (w .result) (r .room) (r .to) (r .bases) (c .before .before .before .if2 .flat) (c .before .corners-at .result) (c .candidate .result) (s .pre .0) (w .ensures) (ready (c .before .before .before)) (c .before .corners-at .ensures) (c .candidate .ensures)
 
 add-tries : tie.Need-add-tries Inv-loop μ-loop
 add-tries c = omega (arith, c .before .before .before .before .before .before .before .before .before .before .before .before .before .before .loop .inv .most)
@@ -122,10 +122,10 @@ settled-at-requires c κs = tt
 returns : tie.Need-returns Inv-loop μ-loop
 returns c =
     let k = c .before .before .before .before .before in
-    let a = k .before .before .before .before .before .before .before .before .before .before .before .before .before .before .before .before .before .before .before .args in
+    let a = k .before .before .before .before .before .before .before .before .before .before .before .before .before .before .before .before .before .before .before .before .args in
     let l = k .before .before .before .before .before .before .before .before .before .before .before .before .before .before .loop in
     let w = k .before .before .before .before .before .before .before .window-at in
-    let t = taskAt (imageOf (a .img .now) (a .sizes)) (a .columns .now) (a .cfg) (a .seed) in
+    let t = taskAt (imageOf (a .bytes .now) (a .words .now) (a .sizes)) (a .columns .now) (a .cfg) (a .seed) in
     subst (Ends t (a .first)) (sym (c .settled-at .ensures))
     (settled-there t (a .first) (l .fits) (l .bases) (l .flat) (l .fit) (l .step .ox) (l .step .oy) (record { x = l .step .x; y = l .step .y }) (l .step .scale) (l .step .halvings) (l .step .left) (l .tries) (k .candidate .result) (w .result) (k .before .corners-at .result) (w .ensures) (tried k) (l .inv) (c .before .before .before .before .before .before .before .before .before .before .before .before .before .before .before .before .before .if1 .taken) (c .before .before .before .before .if3 .taken) (sym (c .before .before .settled .ensures) ∙ c .before .if4 .taken))
 
@@ -135,10 +135,10 @@ not-settled-requires c κs = tt
 returns-2 : tie.Need-returns-2 Inv-loop μ-loop
 returns-2 c =
     let k = c .before .before .before .before .before .before .before in
-    let a = k .before .before .before .before .before .before .before .before .before .before .before .before .before .before .before .before .before .before .before .args in
+    let a = k .before .before .before .before .before .before .before .before .before .before .before .before .before .before .before .before .before .before .before .before .args in
     let l = k .before .before .before .before .before .before .before .before .before .before .before .before .before .before .loop in
     let w = k .before .before .before .before .before .before .before .window-at in
-    let t = taskAt (imageOf (a .img .now) (a .sizes)) (a .columns .now) (a .cfg) (a .seed) in
+    let t = taskAt (imageOf (a .bytes .now) (a .words .now) (a .sizes)) (a .columns .now) (a .cfg) (a .seed) in
     unsettled t (a .first) _ (c .not-settled .ensures .0)
     (λ overlap wanted.
     no-steps t (a .first) (l .fits) (l .bases) (l .flat) (l .fit) (l .step .ox) (l .step .oy) (record { x = l .step .x; y = l .step .y }) (l .step .scale) (l .step .halvings) (l .step .left) (l .tries) (k .candidate .result) (w .result) (k .before .corners-at .result) (w .ensures) (tried k) (l .inv) (c .before .before .before .before .before .before .before .before .before .before .before .before .before .before .before .before .before .before .before .if1 .taken) (c .before .before .before .before .before .before .if3 .taken) (sym (c .before .before .before .before .settled .ensures) ∙ c .before .before .before .if4 .left) (c .before .if5 .taken) overlap wanted
@@ -161,10 +161,10 @@ loop-less c =
 loop-again : tie.Need-loop-again Inv-loop μ-loop
 loop-again c =
     let k = c .before .before .before .before .before .before .before .before .before in
-    let a = k .before .before .before .before .before .before .before .before .before .before .before .before .before .before .before .before .before .before .before .args in
+    let a = k .before .before .before .before .before .before .before .before .before .before .before .before .before .before .before .before .before .before .before .before .args in
     let l = k .before .before .before .before .before .before .before .before .before .before .before .before .before .before .loop in
     let w = k .before .before .before .before .before .before .before .window-at in
-    let t = taskAt (imageOf (a .img .now) (a .sizes)) (a .columns .now) (a .cfg) (a .seed) in
+    let t = taskAt (imageOf (a .bytes .now) (a .words .now) (a .sizes)) (a .columns .now) (a .cfg) (a .seed) in
     let later = c .before .before .later-move in
     subst (Stays t (a .first) (k .before .before .before .if2 .fits) (k .before .before .before .before .before .ready .result .bases) (k .before .before .before .if2 .flat) (k .candidate .result .fit) (l .tries + 1)) (sym (c .full-step .ensures))
     (steps-on t (a .first) (l .fits) (l .bases) (l .flat) (l .fit) (l .step .ox) (l .step .oy) (record { x = l .step .x; y = l .step .y }) (l .step .scale) (l .step .halvings) (l .step .left) (l .tries) (k .candidate .result) (w .result) (k .before .corners-at .result) (w .ensures) (tried k) (k .before .before .before .if2 .fits) (k .before .before .before .before .before .ready .result .bases) (k .before .before .before .if2 .flat) (kept (k .before .before .before)) (ready (k .before .before .before) .held) (later .result) (l .inv) (c .before .before .before .before .before .before .before .before .before .before .before .before .before .before .before .before .before .before .before .before .before .if1 .taken) (c .before .before .before .before .before .before .before .before .if3 .taken) (sym (c .before .before .before .before .before .before .settled .ensures) ∙ c .before .before .before .before .before .if4 .left) (c .before .before .before .if5 .left) (later .ensures))
@@ -180,10 +180,10 @@ loop-less-2 c =
 loop-again-2 : tie.Need-loop-again-2 Inv-loop μ-loop
 loop-again-2 c =
     let k = c .before .before in
-    let a = k .before .before .before .before .before .before .before .before .before .before .before .before .before .before .before .before .before .before .before .args in
+    let a = k .before .before .before .before .before .before .before .before .before .before .before .before .before .before .before .before .before .before .before .before .args in
     let l = k .before .before .before .before .before .before .before .before .before .before .before .before .before .before .loop in
     let w = k .before .before .before .before .before .before .before .window-at in
-    let t = taskAt (imageOf (a .img .now) (a .sizes)) (a .columns .now) (a .cfg) (a .seed) in
+    let t = taskAt (imageOf (a .bytes .now) (a .words .now) (a .sizes)) (a .columns .now) (a .cfg) (a .seed) in
     subst (Stays t (a .first) (k .before .before .before .if2 .fits) (k .before .before .before .before .before .ready .result .bases) (k .before .before .before .if2 .flat) (l .fit) (l .tries + 1)) (sym (c .halved .ensures))
     (passes t (a .first) (l .fits) (l .bases) (l .flat) (l .fit) (l .step .ox) (l .step .oy) (record { x = l .step .x; y = l .step .y }) (l .step .scale) (l .step .halvings) (l .step .left) (l .tries) (k .candidate .result) (w .result) (k .before .corners-at .result) (w .ensures) (tried k) (k .before .before .before .if2 .fits) (k .before .before .before .before .before .ready .result .bases) (k .before .before .before .if2 .flat) (kept (k .before .before .before)) (ready (k .before .before .before) .held) (l .inv) (c .before .before .before .before .before .before .before .before .before .before .before .before .before .before .if1 .taken) (c .before .if3 .left))
 
@@ -195,9 +195,9 @@ not-settled-requires-2 c κs = tt
 
 returns-3 : tie.Need-returns-3 Inv-loop μ-loop
 returns-3 c =
-    let a = c .before .before .before .before .before .before .before .before .before .before .args in
+    let a = c .before .before .before .before .before .before .before .before .before .before .before .args in
     let l = c .before .before .before .before .before .loop in
-    let t = taskAt (imageOf (a .img .now) (a .sizes)) (a .columns .now) (a .cfg) (a .seed) in
+    let t = taskAt (imageOf (a .bytes .now) (a .words .now) (a .sizes)) (a .columns .now) (a .cfg) (a .seed) in
     unsettled t (a .first) _ (c .not-settled2 .ensures .0)
     (λ overlap wanted.
     runs-out t (a .first) (l .fits) (l .bases) (l .flat) (l .fit) (l .step .ox) (l .step .oy) (record { x = l .step .x; y = l .step .y }) (l .step .scale) (l .step .halvings) (l .step .left) (l .tries) (l .inv) (let e : l .step .halvings ≡ 0 = omega (arith, c .before .before .before .if1 .left) in e) overlap wanted

@@ -1,10 +1,11 @@
 -- `response::region::row_inside` meets its contract: zeros, the row kernel on the part where the ring fits, zeros.
 use Prim.Native.Nat.{_+_}
 use Rattle.shapes.specs.Numbers.{plusZero, one}
+use Rattle.imageview.specs.Image.{samplesOf}
 use Rattle.response.proofs.PassLaws.{part-count}
-use Rattle.response.proofs.RegionLaws.{reaches, row-left, row-middle, row-right}
+use Rattle.response.proofs.RegionLaws.{reaches, stays-below, row-left, row-middle, row-right}
 use mathlib.Core.Path.{sym, subst}
-use Rattle.response.specs.StepsStarts.{Started}
+use Rattle.response.specs.StepsStarts.{DeepBelow, startOf, Started}
 use borrow.Author.Needs.{needs}
 use native.Mathlib.Omega.{arith}
 use Rattle.response.proofs.region.row_inside.Statement.{statement}
@@ -42,11 +43,16 @@ part-write-row-end c = search needs
 
 write-row-requires : tie.Need-write-row-requires
 write-row-requires c κs =
-    let a = c .before .before .before .before .before .before .before .before .before .args in
+    let p = c .before .before .before .before .before .before .before .before .before .before in
+    let a = p .args in
     let s = c .before .before .before .before .before .before .starts-of in
-    let one = row-left (a .img .now) (a .offsets .now) (a .sizes .pitch) (a .x0) (a .y) (a .from) (a .to) (a .out .now) (c .before .before .before .before .fill .last .0) (omega arith) (c .before .before .before .before .fill .ensures) in
-    reaches (a .img .now) (a .offsets .now) (a .sizes .pitch) (a .x0 + a .from) (a .y) (s .result) (s .ensures) _
-    (subst (Started (a .img .now) (a .offsets .now) (a .sizes .pitch) (a .x0 + a .from) (a .y)) (sym (part-count plusZero (a .from) (a .to) _ (omega arith) (omega (arith, one .same)))) (c .before .before .before .before .before .before .before .before .before .pre .1 .1))
+    let l = samplesOf (a .bytes .now) (a .words .now) (a .sizes .deep) in
+    let one = row-left l (a .offsets .now) (a .sizes .pitch) (a .x0) (a .y) (a .from) (a .to) (a .out .now) (c .before .before .before .before .fill .last .0) (omega arith) (c .before .before .before .before .fill .ensures) in (
+      reaches l (a .offsets .now) (a .sizes .pitch) (a .x0 + a .from) (a .y) (s .result) (s .ensures) _
+          (subst (Started l (a .offsets .now) (a .sizes .pitch) (a .x0 + a .from) (a .y)) (sym (part-count plusZero (a .from) (a .to) _ (omega arith) (omega (arith, one .same)))) (p .pre .1 .1 .0)),
+      stays-below l (a .offsets .now) (a .sizes .pitch) (a .x0 + a .from) (a .y) (s .result) (s .ensures) (a .sizes .deep) _
+          (subst (DeepBelow (a .sizes .deep) l (startOf (a .offsets .now) (a .sizes .pitch) (a .x0 + a .from) (a .y))) (sym (part-count plusZero (a .from) (a .to) _ (omega arith) (omega (arith, one .same)))) (p .pre .1 .1 .1)),
+    )
 
 mul-fill : tie.Need-mul-fill
 mul-fill c = search needs
@@ -65,12 +71,13 @@ fill-requires-2 c κs = search needs
 
 returns : tie.Need-returns
 returns c =
-    let a = c .before .before .before .before .before .before .before .before .before .before .before .before .before .before .before .before .args in
+    let a = c .before .before .before .before .before .before .before .before .before .before .before .before .before .before .before .before .before .args in
+    let l = samplesOf (a .bytes .now) (a .words .now) (a .sizes .deep) in
     let s = c .before .before .before .before .before .before .before .before .before .before .before .before .before .starts-of in
-    let q = c .before .before .before .before .before .before .before .before .before .before .before .before .before .before .before .before .pre in
-    row-right (a .img .now) (a .offsets .now) (a .sizes .pitch) (a .x0) (a .y) (a .from) (a .to) (a .out .now) _ (c .before .before .fill2 .last .0) (q .0 .1)
-    (row-middle (a .img .now) (a .offsets .now) (a .sizes .pitch) (a .x0) (a .y) (a .from) (a .to) (a .out .now) _ (c .before .before .before .before .before .before .write-row .last .1 .1 .0) (s .result) (q .1 .0 .clear) (omega arith) (q .0 .1) (s .ensures)
-    (row-left (a .img .now) (a .offsets .now) (a .sizes .pitch) (a .x0) (a .y) (a .from) (a .to) (a .out .now) (c .before .before .before .before .before .before .before .before .before .before .before .fill .last .0) (omega arith) (c .before .before .before .before .before .before .before .before .before .before .before .fill .ensures))
+    let q = c .before .before .before .before .before .before .before .before .before .before .before .before .before .before .before .before .before .pre in
+    row-right l (a .offsets .now) (a .sizes .pitch) (a .x0) (a .y) (a .from) (a .to) (a .out .now) _ (c .before .before .fill2 .last .0) (q .0 .1)
+    (row-middle l (a .offsets .now) (a .sizes .pitch) (a .x0) (a .y) (a .from) (a .to) (a .out .now) _ (c .before .before .before .before .before .before .write-row .last .1 .1 .1 .1 .0) (s .result) (q .1 .0 .clear) (omega arith) (q .0 .1) (s .ensures)
+    (row-left l (a .offsets .now) (a .sizes .pitch) (a .x0) (a .y) (a .from) (a .to) (a .out .now) (c .before .before .before .before .before .before .before .before .before .before .before .fill .last .0) (omega arith) (c .before .before .before .before .before .before .before .before .before .before .before .fill .ensures))
     (c .before .before .before .before .before .before .write-row .ensures))
     (c .before .before .fill2 .ensures)
 

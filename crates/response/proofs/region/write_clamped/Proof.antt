@@ -10,9 +10,9 @@ use Rattle.response.proofs.region.write_clamped.Statement.{statement}
 use Rattle.response.proofs.region.write_clamped.Tie as tie
 
 abbrev image : tie.After-height-of → Image
-image c = let a = c .before .before .before .before .before .before .before .before .args in imageOf (a .img .now) (a .sizes)
+image c = let a = c .before .before .before .before .before .before .before .before .before .args in imageOf (a .bytes .now) (a .words .now) (a .sizes)
 
-cornered : (c : tie.After-height-of) → Cornered (image c) (regionOf (c .before .before .before .before .before .before .before .before .args .roi)) (c .before .before .before .before .before .lesser .result) (c .before .before .before .before .lesser2 .result) (c .before .before .before .lesser3 .result) (c .before .before .lesser4 .result) (c .before .width-of .result) (c .height-of .result)
+cornered : (c : tie.After-height-of) → Cornered (image c) (regionOf (c .before .before .before .before .before .before .before .before .before .args .roi)) (c .before .before .before .before .before .lesser .result) (c .before .before .before .before .lesser2 .result) (c .before .before .before .lesser3 .result) (c .before .before .lesser4 .result) (c .before .width-of .result) (c .height-of .result)
 cornered c =
     record {
       left = c .before .before .before .before .before .lesser .ensures;
@@ -43,19 +43,19 @@ height-of-requires c κs = search needs
 
 mul-size : tie.Need-mul-size
 mul-size c =
-    let g = c .before .before .before .before .before .before .before .before .pre in
+    let g = c .before .before .before .before .before .before .before .before .before .pre in
     fits-le (count-most (c .before .width-of .result) (c .height-of .result) (omega (arith, columns (cornered c), g .image .sized .width-most)) (omega (arith, lines (cornered c), g .image .sized .height-most))) (fits-lit tt)
 
 returns : tie.Need-returns
 returns c =
-    let a = c .before .before .before .before .before .before .before .before .before .args in
+    let a = c .before .before .before .before .before .before .before .before .before .before .args in
     misfit (cornered (c .before)) (a .offsets .now) (a .radius) (a .out .now) (c .if1 .taken)
 
 write-region-requires : tie.Need-write-region-requires
 write-region-requires c κs =
-    let g = c .before .before .before .before .before .before .before .before .before .before .pre in
+    let g = c .before .before .before .before .before .before .before .before .before .before .before .pre in
     let k = cornered (c .before .before) in (
-      record { image = g .image; radius-most = g .radius-most; around = g .around; right = columns k },
+      record { image = g .image; range = g .range; radius-most = g .radius-most; around = g .around; right = columns k },
       (lines k, c .before .if1 .left),
     )
 
@@ -64,8 +64,8 @@ same-length c = search needs
 
 returns-2 : tie.Need-returns-2
 returns-2 c =
-    let a = c .before .before .before .before .before .before .before .before .before .before .before .before .before .args in
-    fit (cornered (c .before .before .before .before .before)) (a .offsets .now) (a .radius) (a .out .now) (c .before .before .write-region .last .1 .1 .1 .1 .1 .1 .1 .1 .0) (c .before .before .before .before .if1 .left) (c .before .before .write-region .ensures)
+    let a = c .before .before .before .before .before .before .before .before .before .before .before .before .before .before .args in
+    fit (cornered (c .before .before .before .before .before)) (a .offsets .now) (a .radius) (a .out .now) (c .before .before .write-region .last .1 .1 .1 .1 .1 .1 .1 .1 .1 .0) (c .before .before .before .before .if1 .left) (c .before .before .write-region .ensures)
 
 pub write-clamped-spec : {M : Type 1} → statement M
 write-clamped-spec =

@@ -1,5 +1,4 @@
 -- `response::ring::place` meets its contract: the sizes are too small to wrap.
-use Prim.Native.Nat.{_≤_}
 use native.Mathlib.Nat.{mul-le-mul}
 use native.Mathlib.Omega.{arith}
 use mir.Facts.{fits-le, fits-lit}

@@ -2,14 +2,14 @@
 use mathlib.Core.Path.{_≡_, refl, subst}
 use Prim.Native.Nat.{ℕ, _-_, _≤_}
 use lib.ListN.{length}
-use Rattle.pixel_response.specs.Steps.{listed, squareOf, edgesOf, sumOf, AddedQuarter}
-use Rattle.response.proofs.PassLaws.{added-more, quarter-none}
+use Rattle.pixel_response.specs.Steps.{listed, AddedQuarter}
+use Rattle.response.proofs.PassLaws.{quarter-none, quarter-more}
 use native.Mathlib.Omega.{arith}
 use Rattle.response.proofs.row.add_quarter.Statement.{statement}
 use Rattle.response.proofs.row.add_quarter.Tie as tie
 
 abbrev Inv-loop : tie.InvT-loop
-Inv-loop a b c d square₀ edge₀ sum₀ n i₀ square edge sum i = (i ≤ n) × (n ≡ length a) × AddedQuarter i (listed a) (listed b) (listed c) (listed d) square₀ edge₀ sum₀ square edge sum
+Inv-loop a b c d square₀ edge₀ sum₀ n i₀ square edge sum i = (i ≤ n) × (n ≡ length a) × AddedQuarter 256 i (listed a) (listed b) (listed c) (listed d) square₀ edge₀ sum₀ square edge sum
 
 abbrev μ-loop : tie.MeasureT-loop
 μ-loop a b c d square₀ edge₀ sum₀ n i₀ square edge sum i = n - i
@@ -17,7 +17,7 @@ abbrev μ-loop : tie.MeasureT-loop
 loop-holds : tie.Need-loop-holds Inv-loop μ-loop
 loop-holds c =
     let a = c .before .before .before .before .args in
-    (omega arith, refl, quarter-none (listed (a .a .now)) (listed (a .b .now)) (listed (a .c .now)) (listed (a .d .now)) (a .square .now) (a .edge .now) (a .sum .now))
+    (omega arith, refl, quarter-none 256 (listed (a .a .now)) (listed (a .b .now)) (listed (a .c .now)) (listed (a .d .now)) (a .square .now) (a .edge .now) (a .sum .now))
 
 shared-slice-read-p : tie.Need-shared-slice-read-p Inv-loop μ-loop
 shared-slice-read-p c = omega arith
@@ -99,11 +99,8 @@ loop-again c =
     let q = p .loop .inv .2 in (
       omega arith,
       refl,
-      record {
-        squares = added-more i 510 (λ i. squareOf (listed (a .a .now) i) (listed (a .b .now) i) (listed (a .c .now) i) (listed (a .d .now) i)) (a .square .now) (p .loop .square) (c .before .before .square-of .result) (omega arith) (q .squares) (c .before .before .square-of .ensures);
-        edges = added-more i 510 (λ i. edgesOf (listed (a .a .now) i) (listed (a .b .now) i) (listed (a .c .now) i) (listed (a .d .now) i)) (a .edge .now) (p .loop .edge) (c .before .edges-of .result) (omega arith) (q .edges) (c .before .edges-of .ensures);
-        sums = added-more i 1020 (λ i. sumOf (listed (a .a .now) i) (listed (a .b .now) i) (listed (a .c .now) i) (listed (a .d .now) i)) (a .sum .now) (p .loop .sum) (c .sum-of .result) (omega arith) (q .sums) (c .sum-of .ensures);
-      },
+      quarter-more 256 i (listed (a .a .now)) (listed (a .b .now)) (listed (a .c .now)) (listed (a .d .now)) (a .square .now) (a .edge .now) (a .sum .now) (p .loop .square) (p .loop .edge) (p .loop .sum)
+          (c .before .before .square-of .result) (c .before .edges-of .result) (c .sum-of .result) (omega arith) (omega arith) (omega arith) (p .loop .inv .2) (c .before .before .square-of .ensures) (c .before .edges-of .ensures) (c .sum-of .ensures),
     )
 
 returns : tie.Need-returns Inv-loop μ-loop
@@ -111,7 +108,7 @@ returns c =
     let p = c .before in
     let a = c .before .before .before .before .before .before .args in
     let e : p .loop .i ≡ length (a .a .now) = omega arith in
-    subst (λ (n : ℕ). AddedQuarter n (listed (a .a .now)) (listed (a .b .now)) (listed (a .c .now)) (listed (a .d .now)) (a .square .now) (a .edge .now) (a .sum .now) (p .loop .square) (p .loop .edge) (p .loop .sum)) e (p .loop .inv .2)
+    subst (λ (n : ℕ). AddedQuarter 256 n (listed (a .a .now)) (listed (a .b .now)) (listed (a .c .now)) (listed (a .d .now)) (a .square .now) (a .edge .now) (a .sum .now) (p .loop .square) (p .loop .edge) (p .loop .sum)) e (p .loop .inv .2)
 
 pub add-quarter-spec : {M : Type 1} → statement M
 add-quarter-spec =

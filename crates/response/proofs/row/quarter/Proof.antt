@@ -34,13 +34,13 @@ add-quarter-requires c κs =
     let a = c .before .before .before .before .before .before .before .before .args in
     let n = c .before .before .before .before .before .before .part .ensures .count in (
       record { few = omega arith; second = c .before .before .before .before .before .part2 .ensures .count ∙ sym n; third = c .before .before .before .before .part3 .ensures .count ∙ sym n; fourth = c .before .before .before .part4 .ensures .count ∙ sym n },
-      subst (λ (z : ℕ). Spare z (a .square .now) (a .edge .now) (a .sum .now)) (sym n) (c .before .before .before .before .before .before .before .before .pre .1 .1),
+      subst (λ (z : ℕ). Spare 256 z (a .square .now) (a .edge .now) (a .sum .now)) (sym n) (c .before .before .before .before .before .before .before .before .pre .1 .1),
     )
 
 returns : tie.Need-returns
 returns c =
     let a = c .before .before .before .before .before .before .before .before .before .args in
-    sampled-quarter (a .img .now) (a .starts .now) (a .k) (a .at) (a .n) _ _ _ _ (c .before .before .before .before .before .before .before .part .ensures) (c .before .before .before .before .before .before .part2 .ensures) (c .before .before .before .before .before .part3 .ensures) (c .before .before .before .before .part4 .ensures) _ _ _ _ _ _ (c .add-quarter .ensures)
+    sampled-quarter (a .img .now) (a .starts .now) (a .k) (a .at) (a .n) _ _ _ _ (c .before .before .before .before .before .before .before .part .ensures) (c .before .before .before .before .before .before .part2 .ensures) (c .before .before .before .before .before .part3 .ensures) (c .before .before .before .before .part4 .ensures) 256 _ _ _ _ _ _ (c .add-quarter .ensures)
 
 pub quarter-spec : {M : Type 1} → statement M
 quarter-spec =

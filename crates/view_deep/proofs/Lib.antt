@@ -1,0 +1,3 @@
+-- What the walks share.
+pub mod Apart
+pub mod Further

@@ -1,0 +1,2 @@
+-- What a view of borrowed words stands for.
+pub mod Seen
