@@ -1,9 +1,11 @@
 //! The whole road of a picture: response, peaks, refined list, merge.
 //!   road FILE WIDTH HEIGHT
-//! A line a corner on standard output, as merge-print writes them.
+//! FILE holds WIDTH times HEIGHT bytes, row after row. A line a corner on standard output, as merge-print writes them; or `refused`, the call and its
+//! number, as examples/c/road.c says it.
 
 use chess_corners::{
-    merge, peaks, refine_list, response, Image, PeakSettings, Refusal, Roi, SaddlePointConfig,
+    merge, merge_heads, peaks, refine_list, response, Image, PeakSettings, Refusal, Roi,
+    SaddlePointConfig,
 };
 use std::process::ExitCode;
 
@@ -29,7 +31,11 @@ const RING: [(i32, i32); 16] = [
     (-2, -5),
 ];
 
-fn corners(image: Image<'_>) -> Result<Vec<f32>, Refusal> {
+/// The step that was refused, and why.
+type Stopped = (&'static str, Refusal);
+
+fn corners(image: Image<'_>) -> Result<Vec<f32>, Stopped> {
+    let at = |step: &'static str| move |refusal: Refusal| (step, refusal);
     let whole = Roi {
         x0: 0,
         y0: 0,
@@ -38,7 +44,7 @@ fn corners(image: Image<'_>) -> Result<Vec<f32>, Refusal> {
     };
     // The rows have no padding: as many values as bytes.
     let mut values = vec![0.0; image.bytes.len()];
-    let (width, height) = response(image, &RING, 5, whole, &mut values)?;
+    let (width, height) = response(image, &RING, 5, whole, &mut values).map_err(at("response"))?;
     let settings = PeakSettings {
         ring_radius: 5,
         window_radius: 2,
@@ -47,7 +53,7 @@ fn corners(image: Image<'_>) -> Result<Vec<f32>, Refusal> {
         min_cluster_size: 2,
     };
     let mut found = vec![0.0; 3 * MOST];
-    let count = peaks(&values, width, height, settings, &mut found)?;
+    let count = peaks(&values, width, height, settings, &mut found).map_err(at("peaks"))?;
     let config = SaddlePointConfig {
         radius: 2,
         det_margin: 1e-3,
@@ -55,9 +61,11 @@ fn corners(image: Image<'_>) -> Result<Vec<f32>, Refusal> {
         min_abs_det: 1e-4,
     };
     let mut list = vec![0.0; 3 * count];
-    let count = refine_list(image, config, &found[..3 * count], &mut list)?;
+    let count =
+        refine_list(image, config, &found[..3 * count], &mut list).map_err(at("refine_list"))?;
     list.truncate(3 * count);
-    let count = merge(&mut list, 2.0, &mut [0; 16_384], &mut [0; MOST])?;
+    let mut heads = vec![0; merge_heads(&list, 2.0).map_err(at("merge"))?];
+    let count = merge(&mut list, 2.0, &mut heads, &mut [0; MOST]).map_err(at("merge"))?;
     list.truncate(3 * count);
     Ok(list)
 }
@@ -68,9 +76,12 @@ fn main() -> ExitCode {
         eprintln!("usage: road FILE WIDTH HEIGHT");
         return ExitCode::from(2);
     };
-    let (Ok(bytes), Ok(width), Ok(height)) = (std::fs::read(file), width.parse(), height.parse())
-    else {
-        eprintln!("road: {file} cannot be read, or a size is no number");
+    let (Ok(width), Ok(height)) = (width.parse(), height.parse()) else {
+        eprintln!("usage: road FILE WIDTH HEIGHT");
+        return ExitCode::from(2);
+    };
+    let Ok(bytes) = std::fs::read(file) else {
+        eprintln!("road: {file} cannot be read");
         return ExitCode::from(2);
     };
     match corners(Image::new(&bytes, width, height)) {
@@ -82,8 +93,8 @@ fn main() -> ExitCode {
             println!("total {}", list.len() / 3);
             ExitCode::SUCCESS
         }
-        Err(refusal) => {
-            println!("refused {}", refusal.number());
+        Err((step, refusal)) => {
+            println!("refused {step} {}", refusal.number());
             ExitCode::FAILURE
         }
     }

@@ -598,6 +598,18 @@ pub struct SaddlePointConfig {
     pub min_abs_det: f32,
 }
 
+impl Default for SaddlePointConfig {
+    /// The Rust's.
+    fn default() -> Self {
+        SaddlePointConfig {
+            radius: 2,
+            det_margin: 1e-3,
+            max_offset: 1.5,
+            min_abs_det: 1e-4,
+        }
+    }
+}
+
 /// The peak scan's settings.
 #[derive(Clone, Copy, Debug)]
 pub struct PeakSettings {
@@ -606,6 +618,19 @@ pub struct PeakSettings {
     pub refine_radius: usize,
     pub threshold: f32,
     pub min_cluster_size: u32,
+}
+
+impl Default for PeakSettings {
+    /// The Rust's, with the ring of radius 5 and the refiner's own radius.
+    fn default() -> Self {
+        PeakSettings {
+            ring_radius: 5,
+            window_radius: 2,
+            refine_radius: 2,
+            threshold: 0.0,
+            min_cluster_size: 2,
+        }
+    }
 }
 
 /// An accepted seed.
@@ -780,6 +805,24 @@ impl Operator {
         };
         done(number, made)
     }
+}
+
+/// The rings of radius 5 and 10, clockwise from the top.
+pub const RING5: [(i32, i32); 16] = ring(1);
+pub const RING10: [(i32, i32); 16] = ring(2);
+
+/// The paper's ring at `scale` times 5 pixels: a quarter, and the same three more times, each turned by a right angle.
+const fn ring(scale: i32) -> [(i32, i32); 16] {
+    let mut quarter = [(0, -5), (2, -5), (3, -3), (5, -2)];
+    let mut all = [(0, 0); 16];
+    let mut k = 0;
+    while k < 16 {
+        let (dx, dy) = quarter[k % 4];
+        all[k] = (scale * dx, scale * dy);
+        quarter[k % 4] = (-dy, dx);
+        k += 1;
+    }
+    all
 }
 
 /// A ring as the library takes it, dx and dy of each pair.

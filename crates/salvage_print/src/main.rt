@@ -1,15 +1,11 @@
 // salvage-print WIDTH HEIGHT: the records of a corner file on standard input that can be used, to standard output, as they are.
 // On standard error a line for each dropped one and a last line with both counts; or the number of a refusal, and nothing is written to standard output.
 use libc::STDERR_FILENO;
-use libc::STDIN_FILENO;
 use libc::STDOUT_FILENO;
 use salvage::Salvage;
 use salvage_text::Size;
 ghost use Prim.Native.Nat.{_*_, _≤_};
 ghost use lib.ListN.{length};
-
-// No buffer is as long: it stands for a read that failed.
-const FAILED: usize = 0xffff_ffff_ffff_ffff;
 
 // The file has room for one record more than is taken, so that more are refused; the outputs have room for whatever goes into them.
 fn main() {
@@ -32,7 +28,7 @@ fn run(file: &mut [u8], out: &mut [u8], faults: &mut [u16]) {
         print_usage();
         return;
     };
-    let n = read_input(file);
+    let n = input::read_input(file);
     if file.len() < n {
         os::fail(b"standard input");
         return;
@@ -49,23 +45,6 @@ fn size_at(i: usize) -> Size {
     let mut word = io::buffer();
     let n = os::arg(i, &mut word);
     salvage_text::size_of(&word[..n])
-}
-
-// Reads until the file ends or the buffer is full; how many bytes, or FAILED.
-fn read_input(file: &mut [u8]) -> usize {
-    let mut n = 0;
-    while n < file.len() {
-        let got = libc::read(STDIN_FILENO, &mut file[n..]);
-        if got < 0 {
-            return FAILED;
-        }
-        let more = io::count(got, &file[n..]);
-        if more == 0 {
-            break;
-        }
-        n += more;
-    }
-    n
 }
 
 fn print_saved(out: &[u8], kept: usize, faults: &[u16], dropped: usize)

@@ -19,8 +19,11 @@ slice-aggregate-chunk c = search needs
 loop-holds : tie.Need-loop-holds Inv-loop μ-loop
 loop-holds c = search needs
 
-read-full-requires : tie.Need-read-full-requires Inv-loop μ-loop
-read-full-requires c κs = search needs
+read-input-requires : tie.Need-read-input-requires Inv-loop μ-loop
+read-input-requires c κs = search needs
+
+returns : tie.Need-returns Inv-loop μ-loop
+returns c = search needs
 
 add-n : tie.Need-add-n Inv-loop μ-loop
 add-n c = search needs
@@ -30,9 +33,6 @@ loop-less c = search needs
 
 loop-again : tie.Need-loop-again Inv-loop μ-loop
 loop-again c = search needs
-
-returns : tie.Need-returns Inv-loop μ-loop
-returns c = search needs
 
 returns-2 : tie.Need-returns-2 Inv-loop μ-loop
 returns-2 c = search needs
@@ -49,10 +49,10 @@ past-spec =
     buffer-requires
     slice-aggregate-chunk
     loop-holds
-    read-full-requires
+    read-input-requires
+    returns
     add-n
     loop-less
     loop-again
-    returns
     returns-2
     returns-3)

@@ -1,10 +1,10 @@
--- `salvage_print::read_input` is proved safe and ending: each turn reads at least one byte, into what is left of the buffer.
+-- `input::read_input` is proved safe and ending: each turn reads at least one byte, into what is left of the buffer.
 use mathlib.Core.Path.{_≡_}
 use Prim.Native.Nat.{_-_, _≤_}
 use lib.ListN.{length}
 use borrow.Author.Needs.{needs}
-use Rattle.salvage_print.proofs.read_input.Statement.{statement}
-use Rattle.salvage_print.proofs.read_input.Tie as tie
+use Rattle.input.proofs.read_input.Statement.{statement}
+use Rattle.input.proofs.read_input.Tie as tie
 
 abbrev Inv-loop : tie.InvT-loop
 Inv-loop file₀ n₀ file n = (n ≤ length file₀) × (length file ≡ length file₀)
