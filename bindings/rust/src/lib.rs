@@ -1398,15 +1398,15 @@ mod tests {
         assert_eq!(
             numbers,
             [
-                3, 10, 11, 12, 13, 14, 15, 16, 17, 18, 19, 20, 21, 22, 23, 24, 25, 30, 31, 32, 33,
-                34, 35
+                3, 10, 11, 12, 13, 14, 15, 16, 17, 18, 19, 20, 21, 22, 23, 24, 25, 26, 27, 30, 31,
+                32, 33, 34, 35
             ]
         );
     }
 
     #[test]
     fn a_number_without_a_name_is_told() {
-        for number in [1, 2, 4, 9, 26, 36, u32::MAX] {
+        for number in [1, 2, 4, 9, 28, 36, u32::MAX] {
             assert_eq!(Refusal::of(number), Refusal::Other(number));
             assert_eq!(Refusal::of(number).number(), number);
             assert_eq!(done(number, ()), Err(Refusal::Other(number)));
@@ -1919,5 +1919,85 @@ mod tests {
             assert_eq!(ask(tile, side, [usize::MAX; 2], 1), image);
         }
         assert_eq!(ask(0, 0, [0, 0], 0), ring);
+    }
+
+    /// Through the library: words that hold bytes answer as the bytes, a sample
+    /// of 4096 is refused by name, and padding is not looked at.
+    #[test]
+    fn the_library_takes_twelve_bits() {
+        let bytes: Vec<u8> = (0..15 * 15u32).map(|k| (k * k * 7 % 251) as u8).collect();
+        let mut words: Vec<u16> = bytes.iter().map(|&b| u16::from(b)).collect();
+        let whole = Roi {
+            x0: 0,
+            y0: 0,
+            x1: 15,
+            y1: 15,
+        };
+        let ask = |image: AnyImage<'_>, out: &mut [f32]| response(image, &RING5, 5, whole, out);
+        let (mut one, mut two) = ([1.0; 225], [2.0; 225]);
+        assert_eq!(
+            ask(Image::new(&bytes, 15, 15).into(), &mut one),
+            Ok((15, 15))
+        );
+        assert_eq!(
+            ask(DeepImage::new(&words, 15, 15).into(), &mut two),
+            Ok((15, 15))
+        );
+        assert_eq!(one, two);
+        let config = SaddlePointConfig::default();
+        let seeds = [7.0, 7.0, 1.0, 5.2, 8.4, 2.0];
+        let (mut one, mut two) = ([1.0; 6], [1.0; 6]);
+        let counted = refine_list(Image::new(&bytes, 15, 15), config, &seeds, &mut one);
+        let deep = refine_list(DeepImage::new(&words, 15, 15), config, &seeds, &mut two);
+        assert_eq!((counted, one), (deep, two));
+        words[224] = 4096;
+        let padded = DeepImage {
+            words: &words,
+            width: 14,
+            height: 15,
+            pitch: 15,
+        };
+        assert!(refine(padded, config, [7.0; 2], false).is_ok());
+        let refused = refine(DeepImage::new(&words, 15, 15), config, [7.0; 2], false);
+        assert_eq!(refused.err(), Some(Refusal::BadSample));
+    }
+
+    /// Through the library: two bytes a sample, high first; a buffer of another
+    /// length is refused last, and stays as it was.
+    #[test]
+    fn the_library_reads_a_deep_graymap() {
+        let file = b"P5 2 1 4095\n\x01\x02\x0f\xff";
+        let mut out = [7; 2];
+        let read = graymap_u16(file, &mut out);
+        let said = DeepGraymap {
+            width: 2,
+            height: 1,
+            maximum: 4095,
+        };
+        assert_eq!((read, out), (Ok(said), [258, 4095]));
+        let mut long = [7; 3];
+        let refused = graymap_u16(file, &mut long).unwrap_err();
+        assert_eq!((refused.refusal, long), (Refusal::BadBuffer, [7; 3]));
+        let above = graymap_u16(b"P5 2 1 256\n\x01\x00\x01\x01", &mut out).unwrap_err();
+        assert_eq!(
+            (above.refusal, above.pixel),
+            (Refusal::AboveMaximum, Some(1))
+        );
+    }
+
+    /// Through the library: the heads that are wanted serve, and one less does not.
+    #[test]
+    fn the_heads_that_are_wanted_serve() {
+        let corners = [0.0, 0.0, 1.0, 10.0, 4.0, 2.0];
+        assert_eq!(merge_heads(&corners, 2.0), Ok(6 * 3));
+        for (heads, said) in [(18, Ok(2)), (17, Err(Refusal::GridTooBig))] {
+            let mut list = corners;
+            assert_eq!(
+                merge(&mut list, 2.0, &mut vec![0; heads], &mut [0; 2]),
+                said
+            );
+        }
+        assert_eq!(merge_heads(&[], 2.0), Ok(0));
+        assert_eq!(merge_heads(&corners[..4], 2.0), Err(Refusal::BadLength));
     }
 }
