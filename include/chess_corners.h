@@ -19,9 +19,9 @@
  * 8192. img_len: pitch times height, so that the last row has its padding too. A response has no pitch. The calls that end
  * in _u16 take an image of words instead, each a sample of twelve bits; its pitch and img_len count samples.
  *
- * Stack in bytes, on x86-64, as compiled for release, all that a call calls included (docs/SPEED.md): response 1,328,
- * peaks 5,808, fit_operator 2,336, refine 7,360, refine_with 2,800, refine_list 7,424, refine_list_fallback_with 3,216,
- * merge 240, tie 1,984, graymap 56, salvage 56, coverage 56 to 88, gradient 240; refine_list_fallback 12,288, more than
+ * Stack in bytes, on x86-64, as compiled for release, all that a call calls included (docs/SPEED.md), for either depth: response 1,664,
+ * peaks 5,808, fit_operator 2,336, refine 7,952, refine_with 3,440, refine_list 7,808, refine_list_fallback_with 3,408,
+ * merge 240, tie 1,984, graymap 144 and 208, salvage 56, coverage 56 to 88, gradient 240; refine_list_fallback 12,816, more than
  * any other, since it builds two operators. No call recurses. Scratch: only the merge asks for any, heads and links.
  *
  * Numbers:
