@@ -19,6 +19,12 @@
  * 8192. img_len: pitch times height, so that the last row has its padding too. A response has no pitch. The calls that end
  * in _u16 take an image of words instead, each a sample of twelve bits; its pitch and img_len count samples.
  *
+ * Places are in pixels: (0, 0) is the centre of the first pixel, x goes right and y down, so the image reaches from -0.5 to width - 0.5.
+ * Strengths and thresholds are those of the response, sums of grey levels. All floats are IEEE 754 binary32, in memory and in every
+ * operation, to nearest with ties to even; a NaN that a call works out has the bits 7FC00000, what is copied keeps its bits. The caller's
+ * environment must be the default one: that rounding, subnormals kept (neither flushed nor taken for zero), no traps.
+ * Symbols that the archive needs: memset and memcpy. It has no others, no constructors and no writable data.
+ *
  * Stack in bytes, on x86-64, as compiled for release, all that a call calls included (docs/SPEED.md), for either depth: response 1,664,
  * peaks 5,808, fit_operator 2,336, refine 7,952, refine_with 3,440, refine_list 7,808, refine_list_fallback_with 3,408,
  * merge 240, tie 1,984, graymap 144 and 208, salvage 56, coverage 56 to 88, gradient 240; refine_list_fallback 12,816, more than
