@@ -26,8 +26,8 @@
  * Symbols that the archive needs: memset and memcpy. It has no others, no constructors and no writable data.
  *
  * Stack in bytes, on x86-64, as compiled for release, all that a call calls included (docs/SPEED.md), for either depth: response 1,664,
- * peaks 5,808, fit_operator 2,336, refine 7,952, refine_with 3,440, refine_list 7,808, refine_list_fallback_with 3,408,
- * merge 240, tie 1,984, graymap 144 and 208, salvage 56, coverage 56 to 88, gradient 240; refine_list_fallback 12,816, more than
+ * peaks 5,808, fit_operator 2,336, refine 7,616, refine_with 3,104, refine_list 7,600, refine_list_fallback_with 3,200,
+ * merge 240, tie 1,984, graymap 144 and 208, salvage 56, coverage 56 to 88, gradient 240; refine_list_fallback 12,608, more than
  * any other, since it builds two operators. No call recurses. Scratch: only the merge asks for any, heads and links.
  *
  * Numbers:

@@ -58,23 +58,28 @@ impl IntegerFits {
         requires { ⌜ FourWithin (imageOf (now bytes) (now words) sizes) radius x y ⌝ ∗ ⌜ Kept (imageOf (now bytes) (now words) sizes) (now columns) radius self ⌝ }
         ensures { λ r. ⌜ Surrounds (imageOf (now (bytes .entry)) (now (words .entry)) sizes) (now (columns .entry)) radius x y r ⌝ }
     {
-        let mut fits = self;
         let mut c00 = [0.0f32; 5];
         let mut c10 = [0.0f32; 5];
         let mut c01 = [0.0f32; 5];
-        let mut c11 = [0.0f32; 5];
+        // the cache stays in what a look-up hands back: a local of its own would be one copy more in the stack
+        let mut found = Looked {
+            fits: self,
+            coefs: [0.0f32; 5],
+        };
         let mut k: usize = 0;
         while k < 4 {
-            let found = fits.at(bytes, words, sizes, x + k % 2, y + k / 2, radius, columns);
-            fits = found.fits;
             // each fit comes in at the end and moves up, so that the first of four is c00
             c00 = c10;
             c10 = c01;
-            c01 = c11;
-            c11 = found.coefs;
+            c01 = found.coefs;
+            found = found
+                .fits
+                .at(bytes, words, sizes, x + k % 2, y + k / 2, radius, columns);
             k += 1;
         }
+        let c11 = found.coefs;
         let corners = Corners { c00, c10, c01, c11 };
+        let fits = found.fits;
         Around { fits, corners }
     }
 }

@@ -17,7 +17,6 @@ use refine_formulas::Slope;
 use refine_formulas::between;
 use refine_formulas::noise;
 use refine_formulas::sensitivity;
-use refine_formulas::solve;
 ghost use mathlib.Core.Path.{_≡_};
 ghost use mathlib.Core.Bool.{true, false};
 ghost use Prim.Native.Nat.{_<_};
@@ -156,7 +155,7 @@ fn along_y(
 }
 
 // Where the first fit is settled: the slope is that of the centre pixel.
-fn at_centre(
+pub fn at_centre(
     bytes: &[u8],
     words: &[u16],
     sizes: Sizes,
@@ -225,23 +224,19 @@ fn at_window(e: Ended) -> Ending
     }
 }
 
-// From the first fit, whose saddle is `first`.
-pub fn opened(
+// Where the first fit, whose saddle is `first`, is not settled: from there by steps.
+pub fn stepped(
     bytes: &[u8],
     words: &[u16],
     sizes: Sizes,
     columns: &[f32; 1125],
     cfg: SaddlePointConfig,
     seed: Seed,
-    here: [f32; 5],
     first: PatchSaddle,
 ) -> Opened
-    requires { ⌜ PatchWithin (imageOf (now bytes) (now words) sizes) (cfg .radius) (seed .«centre_x») (seed .«centre_y») ⌝ ∗ ⌜ here ≡ coefficients (imageOf (now bytes) (now words) sizes) (now columns) (cfg .radius) (seed .«centre_x») (seed .«centre_y») ⌝ }
+    requires { ⌜ PatchWithin (imageOf (now bytes) (now words) sizes) (cfg .radius) (seed .«centre_x») (seed .«centre_y») ⌝ ∗ ⌜ Solve.settled first ≡ false ⌝ }
     ensures { λ r. ⌜ Opens (ranOut (taskAt (imageOf (now (bytes .entry)) (now (words .entry)) sizes) (now (columns .entry)) cfg seed) first) seed r ⌝ }
 {
-    if solve::settled(first) {
-        return at_centre(bytes, words, sizes, columns, cfg, seed, here, first);
-    }
     let e = steps::run(bytes, words, sizes, columns, cfg, seed, first);
     if e.settled {
         return Opened::Open(at_window(e));

@@ -18,6 +18,7 @@ use refine_operator::Operator;
 use refusals::Refusal;
 ghost use mathlib.Core.Path.{_≡_};
 ghost use Rattle.imageview.specs.Image.{imageOf};
+ghost use Rattle.refine_fits.specs.Fit.{coefficients};
 ghost use Rattle.refine_formulas.specs.Solve.{goodLimit};
 ghost use Rattle.refine_seed.specs.Refine.{goodLimits, isPlace, flawNumber, whyNumber, oldNumber, admitOf, refineWith, withOperator, lentWith, refineLent, refineOf};
 ghost use Rattle.refine_fits.specs.StepsAdding.{PatchWithin};
@@ -279,18 +280,36 @@ fn open_seed(
     requires { ⌜ PatchWithin (imageOf (now bytes) (now words) sizes) (cfg .radius) (seed .«centre_x») (seed .«centre_y») ⌝ }
     ensures { λ r. ⌜ Opens (λ overlap wanted. refineWith (imageOf (now (bytes .entry)) (now (words .entry)) sizes) cfg seed wanted (now (columns .entry)) overlap) seed r ⌝ }
 {
-    let radius = cfg.radius;
-    let cx = seed.centre_x;
-    let cy = seed.centre_y;
-    let here = fits::fit_patch(bytes, words, sizes, cx, cy, radius, columns);
+    let here = first_fit(bytes, words, sizes, cfg, seed, columns);
     let solved = solve::solve(cfg, here);
     match solved {
         Solved::Refused(flaw, det) => Opened::Done(Refined::Unmoved(Why::Flawed(flaw), det)),
         Solved::Saddle(f) => {
             if tries::near_seed(cfg, seed, f.ux, f.uy) {
-                return closing::opened(bytes, words, sizes, columns, cfg, seed, here, f);
+                if solve::settled(f) {
+                    return closing::at_centre(bytes, words, sizes, columns, cfg, seed, here, f);
+                }
+                return closing::stepped(bytes, words, sizes, columns, cfg, seed, f);
             }
             Opened::Done(Refined::Unmoved(Why::Rejected, f.det_h))
         }
     }
+}
+
+// The fit about a seed's centre pixel. By itself, so that the stack holds what is handed to it only while it lasts.
+fn first_fit(
+    bytes: &[u8],
+    words: &[u16],
+    sizes: Sizes,
+    cfg: SaddlePointConfig,
+    seed: Seed,
+    columns: &[f32; 1125],
+) -> [f32; 5]
+    requires { ⌜ PatchWithin (imageOf (now bytes) (now words) sizes) (cfg .radius) (seed .«centre_x») (seed .«centre_y») ⌝ }
+    ensures { λ r. ⌜ r ≡ coefficients (imageOf (now (bytes .entry)) (now (words .entry)) sizes) (now (columns .entry)) (cfg .radius) (seed .«centre_x») (seed .«centre_y») ⌝ }
+{
+    let radius = cfg.radius;
+    let cx = seed.centre_x;
+    let cy = seed.centre_y;
+    fits::fit_patch(bytes, words, sizes, cx, cy, radius, columns)
 }

@@ -7,11 +7,11 @@ use Rattle.refine_fits.proofs.IntegerFits.look.Statement.{statement}
 use Rattle.refine_fits.proofs.IntegerFits.look.Tie as tie
 
 abbrev Inv-loop : tie.InvT-loop
-Inv-loop bytes words sizes x y radius columns fits₀ c00₀ c10₀ c01₀ c11₀ k₀ fits c00 c10 c01 c11 k =
-    Looking (imageOf bytes words sizes) columns radius x y fits c00 c10 c01 c11 k
+Inv-loop bytes words sizes x y radius columns c00₀ c10₀ c01₀ found₀ k₀ c00 c10 c01 found k =
+    Looking (imageOf bytes words sizes) columns radius x y (found .fits) c00 c10 c01 (found .coefs) k
 
 abbrev μ-loop : tie.MeasureT-loop
-μ-loop bytes words sizes x y radius columns fits₀ c00₀ c10₀ c01₀ c11₀ k₀ fits c00 c10 c01 c11 k = 4 - k
+μ-loop bytes words sizes x y radius columns c00₀ c10₀ c01₀ found₀ k₀ c00 c10 c01 found k = 4 - k
 
 loop-holds : tie.Need-loop-holds Inv-loop μ-loop
 loop-holds c =
@@ -19,13 +19,13 @@ loop-holds c =
     look-first (imageOf (a .bytes .now) (a .words .now) (a .sizes)) (a .columns .now) (a .radius) (a .x) (a .y) (a .self) _ _ _ _ (c .before .before .pre .1)
 
 add-at : tie.Need-add-at Inv-loop μ-loop
-add-at c = omega (arith, c .before .before .before .before .pre .0 .right, c .before .before .before .before .pre .0 .sound .image .sized .width-most)
+add-at c = omega (arith, c .before .before .before .before .before .pre .0 .right, c .before .before .before .before .before .pre .0 .sound .image .sized .width-most)
 
 add-at-2 : tie.Need-add-at-2 Inv-loop μ-loop
-add-at-2 c = omega (arith, c .loop-test .taken, c .before .before .before .before .pre .0 .below, c .before .before .before .before .pre .0 .sound .image .sized .height-most)
+add-at-2 c = omega (arith, c .before .loop-test .taken, c .before .before .before .before .before .pre .0 .below, c .before .before .before .before .before .pre .0 .sound .image .sized .height-most)
 
 at-requires : tie.Need-at-requires Inv-loop μ-loop
-at-requires c κs = (room-at (c .before .loop .k) (c .before .before .before .before .pre .0) (c .loop-test .taken), c .before .loop .inv .kept)
+at-requires c κs = (room-at (c .before .before .loop .k) (c .before .before .before .before .before .pre .0) (c .before .loop-test .taken), c .before .before .loop .inv .kept)
 
 add-k : tie.Need-add-k Inv-loop μ-loop
 add-k c = omega arith
@@ -35,17 +35,17 @@ loop-less c = omega arith
 
 loop-again : tie.Need-loop-again Inv-loop μ-loop
 loop-again c =
-    let a = c .before .before .before .before .before .before .before .args in
-    let l = c .before .before .before .before .loop in
-    let found = c .before .before .at in
-    look-next (imageOf (a .bytes .now) (a .words .now) (a .sizes)) (a .columns .now) (a .radius) (a .x) (a .y) (l .fits) (l .c00) (l .c10) (l .c01) (l .c11) (l .k) (found .result .coefs) (found .result .fits) (l .inv) (c .before .before .before .loop-test .taken) (found .ensures .coefs) (found .ensures .kept)
+    let a = c .before .before .before .before .before .before .args in
+    let l = c .before .before .before .loop in
+    let found = c .at in
+    look-next (imageOf (a .bytes .now) (a .words .now) (a .sizes)) (a .columns .now) (a .radius) (a .x) (a .y) (l .found .fits) (l .c00) (l .c10) (l .c01) (l .found .coefs) (l .k) (found .result .coefs) (found .result .fits) (l .inv) (c .before .before .loop-test .taken) (found .ensures .coefs) (found .ensures .kept)
 
 returns : tie.Need-returns Inv-loop μ-loop
 returns c =
-    let s = c .before .before .before .before in
+    let s = c .before .before .before .before .before .before in
     let a = s .args in
-    let l = c .before .loop in
-    look-last (imageOf (a .bytes .now) (a .words .now) (a .sizes)) (a .columns .now) (a .radius) (a .x) (a .y) (l .fits) (l .c00) (l .c10) (l .c01) (l .c11) (l .k) (s .pre .0) (l .inv) (c .loop-test .left)
+    let l = c .before .before .before .loop in
+    look-last (imageOf (a .bytes .now) (a .words .now) (a .sizes)) (a .columns .now) (a .radius) (a .x) (a .y) (l .found .fits) (l .c00) (l .c10) (l .c01) (l .found .coefs) (l .k) (s .pre .0) (l .inv) (c .before .before .loop-test .left)
 
 pub look-spec : {M : Type 1} → statement M
 look-spec =
