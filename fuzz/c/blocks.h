@@ -31,7 +31,6 @@ size_t bytes_of(const struct block *b);
 
 /* ---- the ground */
 struct ground;
-extern const char *const ground_name;
 
 struct ground *ground_made(void);
 void ground_lend(struct ground *g, struct block *blocks, size_t count, int turn); /* puts the contents there */

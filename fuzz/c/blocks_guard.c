@@ -11,8 +11,6 @@
 #include <sys/mman.h>
 #include <unistd.h>
 
-const char *const ground_name = "guard";
-
 enum { GUARD = 1 << 20, WHOLE = GUARD + MOST_BYTES + GUARD };
 
 struct ground {

@@ -8,9 +8,6 @@
 
 #ifdef FUZZ_MEMCHECK
 #include <valgrind/memcheck.h>
-const char *const ground_name = "memcheck";
-#else
-const char *const ground_name = "malloc";
 #endif
 
 /* Nothing is kept from call to call; the one byte makes grounds of threads differ. */

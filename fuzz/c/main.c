@@ -7,7 +7,7 @@
 #include <string.h>
 #include <time.h>
 
-enum { ENOUGH = 30000 };
+enum { ENOUGH = 20000 };
 
 static int list(void) {
     for (size_t i = 0; i < calls_count; i++) printf("%s\n", calls[i].name);
@@ -40,8 +40,7 @@ int main(int argc, char **argv) {
     watch(NULL);
     tally_print(&w->tally, 1);
     if (w->tally.cases >= ENOUGH) status = tally_print(&w->tally, 0) > 0;
-    printf("fuzz: %s: %llu cases, each called twice, digest %016llx\n", ground_name, (unsigned long long)w->tally.cases,
-           (unsigned long long)w->tally.digest);
+    printf("fuzz: %llu cases, each called twice, digest %016llx\n", (unsigned long long)w->tally.cases, (unsigned long long)w->tally.digest);
     worker_ended(w);
     return status;
 }
