@@ -74,10 +74,10 @@
 #include <stdint.h>
 
 /* ---- version */
-#define CHESS_CORNERS_VERSION_MAJOR 0
-#define CHESS_CORNERS_VERSION_MINOR 9
+#define CHESS_CORNERS_VERSION_MAJOR 1
+#define CHESS_CORNERS_VERSION_MINOR 0
 #define CHESS_CORNERS_VERSION_PATCH 0
-#define CHESS_CORNERS_VERSION "0.9.0"
+#define CHESS_CORNERS_VERSION "1.0.0"
 
 /* ---- limits and sizes of arrays, in elements */
 #define CHESS_CORNERS_MOST_SIZE 4096     /* width or height of an image */
