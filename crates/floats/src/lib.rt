@@ -87,6 +87,16 @@ pub fn round_f32(x: f32) -> f32
     x
 }
 
+// The same `as i32`: in one step where x is above zero and not all values are whole.
+pub fn round_to_i32(x: f32) -> i32
+    ensures { λ r. ⌜ r ≡ Ieee.toSigned 31 (roundAway binary32 x) ⌝ }
+{
+    if (0.0 < x) & (x < 8388608.0) {
+        return number_nearest(x) as i32;
+    }
+    f32_to_i32(round_f32(x))
+}
+
 // x `as i32`, as Rust has it: toward zero, out of range to the nearest end, a NaN to 0.
 pub fn f32_to_i32(x: f32) -> i32
     ensures { λ r. ⌜ r ≡ Ieee.toSigned 31 x ⌝ }
@@ -235,12 +245,20 @@ fn whole_above(x: f32) -> f32
     below as f32
 }
 
-// Half of the whole part of twice x, rounded up: all of it in whole numbers, since x + x is exact.
+// The nearest whole number as a float, which holds it exactly.
 fn whole_nearest(x: f32) -> f32
     requires { ⌜ T (Ieee.lt (fin false 0 (pos 0)) x) ⌝ ∗ ⌜ T (Ieee.lt x (fin false 1 (pos 23))) ⌝ }
     ensures { λ r. ⌜ r ≡ roundAway binary32 x ⌝ }
 {
-    ((std::num::truncating_f32_to_u64(x + x) + 1) / 2) as f32
+    number_nearest(x) as f32
+}
+
+// Half of the whole part of twice x, rounded up: all of it in whole numbers, since x + x is exact.
+fn number_nearest(x: f32) -> u64
+    requires { ⌜ T (Ieee.lt (fin false 0 (pos 0)) x) ⌝ ∗ ⌜ T (Ieee.lt x (fin false 1 (pos 23))) ⌝ }
+    ensures { λ r. ⌜ (Ieee.ofInt binary32 (pos r) ≡ roundAway binary32 x) × (r ≤ 8388608) ⌝ }
+{
+    (std::num::truncating_f32_to_u64(x + x) + 1) / 2
 }
 
 // The binary32 pattern nearest to a binary64 pattern with no sign: of a normal value 29 digits are dropped,

@@ -27,7 +27,7 @@ pub fn is_image(bytes: &[u8], words: &[u16], sizes: Sizes) -> bool
 }
 
 // How many samples of the depth there are.
-fn count(bytes: &[u8], words: &[u16], deep: bool) -> usize
+pub fn count(bytes: &[u8], words: &[u16], deep: bool) -> usize
     ensures { λ r. ⌜ r ≡ length (samplesOf (now (bytes .entry)) (now (words .entry)) deep) ⌝ }
 {
     if deep {

@@ -39,10 +39,7 @@ pub fn near_seed(cfg: SaddlePointConfig, seed: Seed, x: f32, y: f32) -> bool
     requires { ⌜ (cfg .radius ≤ 7) × (seed .«centre_x» < 4096) × (seed .«centre_y» < 4096) ⌝ }
     ensures { λ r. ⌜ r ≡ (nearAlong cfg (pos (seed .«centre_x»)) x (seed .x) && nearAlong cfg (pos (seed .«centre_y»)) y (seed .y)) ⌝ }
 {
-    if near_along(cfg, seed.centre_x, x, seed.x) {
-        return near_along(cfg, seed.centre_y, y, seed.y);
-    }
-    false
+    near_along(cfg, seed.centre_x, x, seed.x) & near_along(cfg, seed.centre_y, y, seed.y)
 }
 
 // The blend of four fits, against the saddle f that it has to better.

@@ -83,6 +83,9 @@ gathered-more list at n row after h g e =
     room : (n count : ℕ) → n < 16 → count ≡ 64 → 4 * n + 4 ≤ count
     room n count h e = omega arith
 
+pub gathered-fewer : (list : List ℕ) (at : Firsts) (m n : ℕ) (row : List ℕ) → m ≤ n → Gathered list at n row → Gathered list at m row
+gathered-fewer list at m n row h g = record { long = g .long; here = λ i l p q. g .here i l (omega arith) q }
+
 -- ---- blocks of four
 module _ (f : ℕ → ℕ → Float) (to : ℕ) (old : List Float) where
   blocks-length : (n : ℕ) → length (blocks n f to old) ≡ length old

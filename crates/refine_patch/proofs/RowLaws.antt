@@ -1,11 +1,13 @@
 -- Sample by sample, row by row, the sums of four patches become their coefficients; and where the rows and the centres lie.
 use mathlib.Core.Path.{_≡_, refl, sym, ap, _∙_, subst}
-use mathlib.Core.Bool.{Bool, true, false}
+use mathlib.Core.Bool.{Bool, true, false, _&&_, and-eq-true-iff}
 use mathlib.Core.List.{List}
-use Prim.Native.Nat.{ℕ, zero, suc, _+_, _*_, _/_, _≤_, _<_}
+use Prim.Native.Nat.{ℕ, zero, suc, _+_, _-_, _*_, _/_, _≤_, _<_}
 use native.Mathlib.Nat.{add-assoc, add-zero, add-suc, add-mul, mul-assoc, one-mul, zero-mul, le-refl, le-trans, suc-mul, mul-le-mul, mul-le-mul-right}
 use native.Mathlib.Numerals.{add-one}
 use native.Mathlib.Omega.{arith}
+use borrow.Author.Tests.{leb-true}
+use lib.Dec.{leb}
 use lib.Arith.{digits-div, digits-mod}
 use lib.ListN.{length, getD}
 use lib.Ieee.{Float}
@@ -18,7 +20,7 @@ use Rattle.refine_patch.specs.declared.Firsts.{Firsts}
 use Rattle.refine_patch.specs.declared.Quad.{Quad}
 use Rattle.refine_patch.specs.declared.Sums.{Sums}
 use Rattle.refine_patch.specs.StepsFrom.{sampleFrom, coefficientFrom}
-use Rattle.refine_patch.specs.StepsFour.{laneOf, laneIn, sumIn, quadBy, sumsBy, movedBy, floatOf, levelOf, added, rowAdded, blocks, FourReach, PatchesInside, Gathered}
+use Rattle.refine_patch.specs.StepsFour.{laneOf, laneIn, sumIn, quadBy, sumsBy, movedBy, floatOf, levelOf, added, rowAdded, blocks, FourReach, PatchesInside, Reaches, Gathered}
 use Rattle.refine_patch.specs.StepsRows.{centresOf, sumsAfter}
 
 -- ---- by the lane
@@ -125,16 +127,48 @@ module _ (list : List ℕ) (pitch : ℕ) (columns : List Float) (radius : ℕ) (
 rows-below : (pitch radius j : ℕ) → j < side radius → j * pitch ≤ 2 * radius * pitch
 rows-below pitch radius j h = mul-le-mul-right pitch (omega arith)
 
--- so each row's samples lie in the list
-pub row-below : (count pitch radius j : ℕ) (at : Firsts) → PatchesInside count pitch radius at → j < side radius → FourReach (count + 1) (side radius) (movedBy at (j * pitch))
-row-below count pitch radius j at w h =
-    record { first = lane (at .a) (w .first); second = lane (at .b) (w .second); third = lane (at .c) (w .third); fourth = lane (at .d) (w .fourth) }
+-- so n samples of each row lie in the list where those of the last row do
+pub row-below : (count pitch radius j n : ℕ) (at : Firsts) → Reaches count pitch radius at n → j < side radius → FourReach (count + 1) n (movedBy at (j * pitch))
+row-below count pitch radius j n at w h =
+    record { first = lane (at .a) (w .last .first); second = lane (at .b) (w .last .second); third = lane (at .c) (w .last .third); fourth = lane (at .d) (w .last .fourth) }
   where
-    begun : (a by most : ℕ) → by ≤ most → a + most + 2 * radius < count → a + by + (2 * radius + 1) < count + 1
+    begun : (a by most : ℕ) → by ≤ most → a + most + n < count + 1 → a + by + n < count + 1
     begun a by most p q = omega arith
 
-    lane : (a : ℕ) → a + 2 * radius * pitch + 2 * radius < count → a + j * pitch + side radius < count + 1
+    lane : (a : ℕ) → a + 2 * radius * pitch + n < count + 1 → a + j * pitch + n < count + 1
     lane a p = begun a (j * pitch) (2 * radius * pitch) (rows-below pitch radius j h) p
+
+-- the last row begins in the list
+pub begins : (count radius a down : ℕ) → a + down + 2 * radius < count → a + down < count
+begins count radius a down h = omega arith
+
+-- the row's own do
+pub reaches-own : (count pitch radius : ℕ) (at : Firsts) → PatchesInside count pitch radius at → Reaches count pitch radius at (2 * radius + 1)
+reaches-own count pitch radius at w =
+    record { least = le-refl (2 * radius + 1); most = omega (arith, w .small); last = record { first = lane (at .a) _ (w .first); second = lane (at .b) _ (w .second); third = lane (at .c) _ (w .third); fourth = lane (at .d) _ (w .fourth) } }
+  where
+    lane : (a down : ℕ) → a + down + 2 * radius < count → a + down + (2 * radius + 1) < count + 1
+    lane a down p = omega arith
+
+-- and more do where so many are left from the first of each patch's last row on
+pub reaches-more : (count pitch radius n : ℕ) (at : Firsts) (p q r s : Bool) → PatchesInside count pitch radius at → (2 * radius + 1 ≤ n) × (n ≤ 16)
+    → p ≡ leb n (count - (at .a + 2 * radius * pitch)) → q ≡ leb n (count - (at .b + 2 * radius * pitch)) → r ≡ leb n (count - (at .c + 2 * radius * pitch)) → s ≡ leb n (count - (at .d + 2 * radius * pitch))
+    → (p && q && r && s) ≡ true → Reaches count pitch radius at n
+reaches-more count pitch radius n at p q r s w m a b c d h =
+    let three = and-eq-true-iff (p && q && r) s .0 h in
+    let two = and-eq-true-iff (p && q) r .0 (three .0) in
+    let one = and-eq-true-iff p q .0 (two .0) in
+    record {
+      least = m .0;
+      most = m .1;
+      last = record { first = lane (at .a) _ p (w .first) a (one .0); second = lane (at .b) _ q (w .second) b (one .1); third = lane (at .c) _ r (w .third) c (two .1); fourth = lane (at .d) _ s (w .fourth) d (three .1) };
+    }
+  where
+    left : (a down : ℕ) → a + down + 2 * radius < count → n ≤ count - (a + down) → a + down + n < count + 1
+    left a down p q = omega arith
+
+    lane : (a down : ℕ) (t : Bool) → a + down + 2 * radius < count → t ≡ leb n (count - (a + down)) → t ≡ true → a + down + n < count + 1
+    lane a down t p e h = left a down p (leb-true n (count - (a + down)) (sym e ∙ h))
 
 -- the lengths of both slices are below 2 ^ 64, and so is the count of the samples
 pub below : (bytes words : List ℕ) (deep : Bool) → length bytes < 18446744073709551616 → length words < 18446744073709551616 → length (samplesOf bytes words deep) < 18446744073709551616

@@ -71,6 +71,12 @@ pub record PatchesInside (count pitch radius : ℕ) (at : Firsts) : Type 0 where
   pub third : at .c + 2 * radius * pitch + 2 * radius < count
   pub fourth : at .d + 2 * radius * pitch + 2 * radius < count
 
+-- n samples of every row of the four, at least the row's own, lie in the list: those of the last row do
+pub record Reaches (count pitch radius : ℕ) (at : Firsts) (n : ℕ) : Type 0 where
+  pub least : 2 * radius + 1 ≤ n
+  pub most : n ≤ 16
+  pub last : FourReach (count + 1) n (movedBy at (2 * radius * pitch))
+
 -- ---- writing four side by side
 abbrev pub fourSet : {A : Type 0} → List A → ℕ → (ℕ → A) → List A
 fourSet l m g = set (set (set (set l (m + 0) (g 0)) (m + 1) (g 1)) (m + 2) (g 2)) (m + 3) (g 3)

@@ -1,13 +1,14 @@
 // The fits of four patches at once, given by the places of their first samples. The four stand side by side in each sum, so that one product serves all.
 // An index with `+ 0` is the definition's `+ c` or `+ l` at 0.
 ghost use mathlib.Core.Path.{_≡_};
-ghost use Prim.Native.Nat.{_+_, _*_, _≤_, _<_};
+ghost use Prim.Native.Nat.{_+_, _-_, _*_, _≤_, _<_};
+ghost use lib.Dec.{leb};
 ghost use lib.ListN.{length};
 ghost use Rattle.shapes.specs.Numbers.{plusZero};
 ghost use Rattle.imageview.specs.Image.{samplesOf};
 ghost use Rattle.refine_operator.specs.Basis.{samples};
 ghost use Rattle.refine_patch.specs.StepsFrom.{coefficientFrom, fourWritten};
-ghost use Rattle.refine_patch.specs.StepsFour.{laneOf, sampleIn, sumIn, fourOf, fourSet, quadBy, sumsBy, movedBy, floatOf, levelOf, added, rowAdded, FourReach, PatchesInside, Gathered};
+ghost use Rattle.refine_patch.specs.StepsFour.{laneOf, sampleIn, sumIn, fourOf, fourSet, quadBy, sumsBy, movedBy, floatOf, levelOf, added, rowAdded, FourReach, PatchesInside, Reaches, Gathered};
 ghost use Rattle.refine_patch.specs.StepsRows.{centresOf, sumsAfter};
 
 mod reads;
@@ -118,17 +119,52 @@ fn put_four(row: &mut [u16; 64], at: usize, v: Four)
     row[at + 3] = v.s;
 }
 
-// One row of the four patches: sample i of patch l goes to 4 · i + l.
-fn gather(bytes: &[u8], words: &[u16], deep: bool, at: Firsts, side: usize, row: &mut [u16; 64])
-    requires { ⌜ (length (now row) ≡ 64) × (side ≤ 15) ⌝ }
-    requires { ⌜ FourReach (length (samplesOf (now bytes) (now words) deep) + 1) side at ⌝ }
-    ensures { λ _. ⌜ Gathered (samplesOf (now (bytes .entry)) (now (words .entry)) deep) at side (now (row .exit)) ⌝ }
+// So many samples of one row of the four patches: sample i of patch l goes to 4 · i + l. The place is counted beside i: as a product the compiler does not read eight at once.
+fn gather(bytes: &[u8], words: &[u16], deep: bool, at: Firsts, count: usize, row: &mut [u16; 64])
+    requires { ⌜ (length (now row) ≡ 64) × (count ≤ 16) ⌝ }
+    requires { ⌜ FourReach (length (samplesOf (now bytes) (now words) deep) + 1) count at ⌝ }
+    ensures { λ _. ⌜ Gathered (samplesOf (now (bytes .entry)) (now (words .entry)) deep) at count (now (row .exit)) ⌝ }
 {
     let mut i: usize = 0;
-    while i < side {
-        put_four(row, 4 * i, reads::read_four(bytes, words, deep, at, i));
+    let mut n: usize = 0;
+    while i < count {
+        put_four(row, n, reads::read_four(bytes, words, deep, at, i));
         i += 1;
+        n += 4;
     }
+}
+
+// A row's samples and some more, so many that they are read eight at once.
+fn wide_of(radius: usize) -> usize
+    requires { ⌜ radius ≤ 7 ⌝ }
+    ensures { λ r. ⌜ (2 * radius + 1 ≤ r) × (r ≤ 16) ⌝ }
+{
+    if radius < 4 { 8 } else { 16 }
+}
+
+// Whether so many samples lie from the first of a patch's last row on.
+fn has_more(count: usize, first: usize, last: usize, wide: usize) -> bool
+    requires { ⌜ first + last < count ⌝ }
+    ensures { λ r. ⌜ r ≡ leb wide (count - (first + last)) ⌝ }
+{
+    wide <= count - (first + last)
+}
+
+// How many samples of every row are read: some more than the row's own where the image has them behind the last row too.
+fn reach(count: usize, pitch: usize, radius: usize, at: Firsts) -> usize
+    requires { ⌜ PatchesInside count pitch radius at ⌝ }
+    ensures { λ r. ⌜ Reaches count pitch radius at r ⌝ }
+{
+    let n = wide_of(radius);
+    let last = 2 * radius * pitch;
+    if has_more(count, at.a, last, n)
+        & has_more(count, at.b, last, n)
+        & has_more(count, at.c, last, n)
+        & has_more(count, at.d, last, n)
+    {
+        return n;
+    }
+    2 * radius + 1
 }
 
 // Four samples from the levels of their centres.
@@ -245,11 +281,12 @@ fn sum_rows(
     ensures { λ r. ⌜ r ≡ sumsAfter (samplesOf (now (bytes .entry)) (now (words .entry)) deep) pitch (now (columns .entry)) radius at (samples radius) ⌝ }
 {
     let side = 2 * radius + 1;
+    let count = reach(imageview::count(bytes, words, deep), pitch, radius, at);
     let mut row = [0u16; 64];
     let mut sums = no_sums();
     let mut j: usize = 0;
     while j < side {
-        gather(bytes, words, deep, moved(at, j * pitch), side, &mut row);
+        gather(bytes, words, deep, moved(at, j * pitch), count, &mut row);
         sums = add_row(sums, columns, &row, side, centre, j * side);
         j += 1;
     }

@@ -72,8 +72,8 @@ pub ready-sound : (img : Image) (cfg : SaddlePointConfig) → Ready img cfg → 
 ready-sound img cfg r = record { image = images.tested img (images.passed (r .image)); small = leb-true (cfg .radius) 7 (r .small) }
 
 -- the centre as the code has it
-pub centre-is : (x f : Float) (i : ℤ) → f ≡ roundAway binary32 x → i ≡ toSigned 31 f → toZ w32 (ofZ w32 i) ≡ centreOf x
-centre-is x f i p q = toZ-ofZ w32 i (subst (λ (z : ℤ). SFits w32 z) (sym q) (record { sfits = toSigned-in 31 f })) ∙ q ∙ ap (λ (v : Float). toSigned 31 v) p
+pub centre-is : (x : Float) (i : ℤ) → i ≡ toSigned 31 (roundAway binary32 x) → toZ w32 (ofZ w32 i) ≡ centreOf x
+centre-is x i q = toZ-ofZ w32 i (subst (λ (z : ℤ). SFits w32 z) (sym q) (record { sfits = toSigned-in 31 (roundAway binary32 x) })) ∙ q
 
 pub same-seed : (x y : Float) (z w : ℤ) → z ≡ centreOf x → w ≡ centreOf y → Admitted.Good (record { x = x; y = y; «centre_x» = natAbs z; «centre_y» = natAbs w }) ≡ Admitted.Good (seedOf x y)
 same-seed x y z w p q = ap (λ (v : ℤ). made (natAbs v) (natAbs w)) p ∙ ap (λ (v : ℤ). made (natAbs (centreOf x)) (natAbs v)) q

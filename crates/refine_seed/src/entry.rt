@@ -231,8 +231,8 @@ pub fn place_seed(sizes: Sizes, radius: usize, x: f32, y: f32) -> Admitted
     if !is_place(x, y) {
         return Admitted::Unmoved(Why::BadSeed);
     }
-    let cx = floats::f32_to_i32(floats::round_f32(x));
-    let cy = floats::f32_to_i32(floats::round_f32(y));
+    let cx = floats::round_to_i32(x);
+    let cy = floats::round_to_i32(y);
     if !imageview::supports_patch(sizes, cx, cy, radius) {
         return Admitted::Unmoved(Why::OutOfBounds);
     }

@@ -4,22 +4,19 @@ use Prim.Native.Nat.{ℕ, _-_, _*_, _≤_}
 use native.Mathlib.Omega.{arith}
 use Rattle.imageview.specs.Image.{samplesOf}
 use Rattle.refine_patch.specs.declared.Four.{Four}
-use Rattle.refine_patch.specs.StepsFour.{sampleIn, fourSet, Gathered}
+use Rattle.refine_patch.specs.StepsFour.{sampleIn, fourSet, fourAt, Gathered}
 use Rattle.refine_patch.proofs.FourLaws.{gathered-more}
 use Rattle.refine_patch.proofs.gather.Statement.{statement}
 use Rattle.refine_patch.proofs.gather.Tie as tie
 
 abbrev Inv-loop : tie.InvT-loop
-Inv-loop bytes words deep at side row₀ i₀ row i = (i ≤ side) × Gathered (samplesOf bytes words deep) at i row
+Inv-loop bytes words deep at count row₀ i₀ n₀ row i n = (i ≤ count) × (n ≡ 4 * i) × Gathered (samplesOf bytes words deep) at i row
 
 abbrev μ-loop : tie.MeasureT-loop
-μ-loop bytes words deep at side row₀ i₀ row i = side - i
+μ-loop bytes words deep at count row₀ i₀ n₀ row i n = count - i
 
 loop-holds : tie.Need-loop-holds Inv-loop μ-loop
 loop-holds c = omega arith
-
-mul-put-four : tie.Need-mul-put-four Inv-loop μ-loop
-mul-put-four c = omega arith
 
 read-four-requires : tie.Need-read-four-requires Inv-loop μ-loop
 read-four-requires c κs = omega arith
@@ -30,6 +27,9 @@ put-four-requires c κs = omega arith
 add-i : tie.Need-add-i Inv-loop μ-loop
 add-i c = omega arith
 
+add-n : tie.Need-add-n Inv-loop μ-loop
+add-n c = omega arith
+
 loop-less : tie.Need-loop-less Inv-loop μ-loop
 loop-less c = omega arith
 
@@ -37,15 +37,18 @@ loop-again : tie.Need-loop-again Inv-loop μ-loop
 loop-again c =
     let l = c .before .before .before .before .loop in
     let a = c .before .before .before .before .before .before .before .args in
-    let list = samplesOf (a .bytes .now) (a .words .now) (a .deep) in
-    (omega arith, gathered-more list (a .at) (l .i) (l .row) (c .put-four .last .0) (omega arith) (l .inv .1) (c .put-four .ensures ∙ ap (λ (v : Four). fourSet (l .row) (4 * l .i) (sampleIn v)) (c .before .read-four .ensures)))
+    let list = samplesOf (a .bytes .now) (a .words .now) (a .deep) in (
+      omega arith,
+      omega arith,
+      gathered-more list (a .at) (l .i) (l .row) (c .put-four .last .0) (omega arith) (l .inv .2) (c .put-four .ensures ∙ ap (λ (v : Four). fourSet (l .row) (l .n) (sampleIn v)) (c .before .read-four .ensures) ∙ ap (λ (n : ℕ). fourSet (l .row) n (sampleIn (fourAt list (a .at) (l .i)))) (l .inv .1)),
+    )
 
 returns : tie.Need-returns Inv-loop μ-loop
 returns c =
     let l = c .before .loop in
     let a = c .before .before .before .before .args in
-    let e : l .i ≡ a .side = omega arith in
-    subst (λ (n : ℕ). Gathered (samplesOf (a .bytes .now) (a .words .now) (a .deep)) (a .at) n (l .row)) e (l .inv .1)
+    let e : l .i ≡ a .count = omega arith in
+    subst (λ (n : ℕ). Gathered (samplesOf (a .bytes .now) (a .words .now) (a .deep)) (a .at) n (l .row)) e (l .inv .2)
 
 pub gather-spec : {M : Type 1} → statement M
-gather-spec = tie.close (tie.spec Inv-loop μ-loop loop-holds mul-put-four read-four-requires put-four-requires add-i loop-less loop-again returns)
+gather-spec = tie.close (tie.spec Inv-loop μ-loop loop-holds read-four-requires put-four-requires add-i add-n loop-less loop-again returns)

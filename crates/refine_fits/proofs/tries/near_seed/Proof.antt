@@ -1,6 +1,6 @@
--- `refine_fits::tries::near_seed` meets its contract: both axes, the first test first.
+-- `refine_fits::tries::near_seed` meets its contract: both axes.
 use borrow.Author.Needs.{needs}
-use mathlib.Core.Path.{sym, ap, _∙_}
+use mathlib.Core.Path.{ap, _∙_}
 use mathlib.Core.Bool.{Bool, _&&_}
 use lib.IntN.{pos}
 use Rattle.refine_fits.specs.Candidate.{nearAlong}
@@ -15,14 +15,9 @@ near-along-requires-2 c κs = search needs
 
 returns : tie.Need-returns
 returns c =
-    let a = c .before .before .before .args in
-    c .near-along2 .ensures
-    ∙ ap (λ (b : Bool). b && nearAlong (a .cfg) (pos (a .seed .«centre_y»)) (a .y) (a .seed .y)) (sym (c .before .if1 .taken) ∙ c .before .before .near-along .ensures)
-
-returns-2 : tie.Need-returns-2
-returns-2 c =
     let a = c .before .before .args in
-    ap (λ (b : Bool). b && nearAlong (a .cfg) (pos (a .seed .«centre_y»)) (a .y) (a .seed .y)) (sym (c .if1 .left) ∙ c .before .near-along .ensures)
+    ap (λ (b : Bool). b && c .near-along2 .result) (c .before .near-along .ensures)
+    ∙ ap (λ (b : Bool). nearAlong (a .cfg) (pos (a .seed .«centre_x»)) (a .x) (a .seed .x) && b) (c .near-along2 .ensures)
 
 pub near-seed-spec : {M : Type 1} → statement M
-near-seed-spec = tie.close (tie.spec near-along-requires near-along-requires-2 returns returns-2)
+near-seed-spec = tie.close (tie.spec near-along-requires near-along-requires-2 returns)

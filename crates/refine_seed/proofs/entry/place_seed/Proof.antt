@@ -16,23 +16,17 @@ placed : (c : tie.Else1) → isPlace (c .before .before .args .x) (c .before .be
 placed c = sym (c .before .is-place .ensures) ∙ not-false (c .before .is-place .result) (c .if1 .left)
 
 -- the centre along each axis, and the patch's test of it
-centre-x : (c : tie.After-supports-patch) → toZ w32 (ofZ w32 (c .before .before .before .f32-to-i32 .result)) ≡ centreOf (c .before .before .before .before .before .before .before .args .x)
-centre-x c =
-    let r = c .before .before .before .before .round-f32 in
-    let i = c .before .before .before .f32-to-i32 in
-    centre-is (c .before .before .before .before .before .before .before .args .x) (r .result) (i .result) (r .ensures) (i .ensures)
+centre-x : (c : tie.After-supports-patch) → toZ w32 (ofZ w32 (c .before .before .round-to-i32 .result)) ≡ centreOf (c .before .before .before .before .before .args .x)
+centre-x c = centre-is (c .before .before .before .before .before .args .x) (c .before .before .round-to-i32 .result) (c .before .before .round-to-i32 .ensures)
 
-centre-y : (c : tie.After-supports-patch) → toZ w32 (ofZ w32 (c .before .f32-to-i322 .result)) ≡ centreOf (c .before .before .before .before .before .before .before .args .y)
-centre-y c =
-    let r = c .before .before .round-f322 in
-    let i = c .before .f32-to-i322 in
-    centre-is (c .before .before .before .before .before .before .before .args .y) (r .result) (i .result) (r .ensures) (i .ensures)
+centre-y : (c : tie.After-supports-patch) → toZ w32 (ofZ w32 (c .before .round-to-i322 .result)) ≡ centreOf (c .before .before .before .before .before .args .y)
+centre-y c = centre-is (c .before .before .before .before .before .args .y) (c .before .round-to-i322 .result) (c .before .round-to-i322 .ensures)
 
 patch-is : (c : tie.After-supports-patch) (b : Bool) → c .supports-patch .result ≡ b
-    → let a = c .before .before .before .before .before .before .before .args in
+    → let a = c .before .before .before .before .before .args in
     (inside (a .radius) (a .sizes .width) (centreOf (a .x)) && inside (a .radius) (a .sizes .height) (centreOf (a .y))) ≡ b
 patch-is c b h =
-    let a = c .before .before .before .before .before .before .before .args in
+    let a = c .before .before .before .before .before .args in
     supported (a .sizes .width) (a .sizes .height) (a .radius) (a .x) (a .y) _ _ (c .supports-patch .result) (centre-x c) (centre-y c) (c .supports-patch .ensures) b h
 
 is-place-requires : tie.Need-is-place-requires
@@ -43,48 +37,42 @@ returns c =
     let a = c .before .before .args in
     to-seed (a .sizes .width) (a .sizes .height) (a .radius) (a .x) (a .y) false _ (sym (c .before .is-place .ensures) ∙ not-true (c .before .is-place .result) (c .if1 .taken)) refl
 
-round-f32-requires : tie.Need-round-f32-requires
-round-f32-requires c κs = search needs
+round-to-i32-requires : tie.Need-round-to-i32-requires
+round-to-i32-requires c κs = search needs
 
-f32-to-i32-requires : tie.Need-f32-to-i32-requires
-f32-to-i32-requires c κs = search needs
-
-round-f32-requires-2 : tie.Need-round-f32-requires-2
-round-f32-requires-2 c κs = search needs
-
-f32-to-i32-requires-2 : tie.Need-f32-to-i32-requires-2
-f32-to-i32-requires-2 c κs = search needs
+round-to-i32-requires-2 : tie.Need-round-to-i32-requires-2
+round-to-i32-requires-2 c κs = search needs
 
 supports-patch-requires : tie.Need-supports-patch-requires
 supports-patch-requires c κs = search needs
 
 returns-2 : tie.Need-returns-2
 returns-2 c =
-    let f = c .before .before .before .before .before .before in
+    let f = c .before .before .before .before in
     let a = f .before .before .args in
     to-seed (a .sizes .width) (a .sizes .height) (a .radius) (a .x) (a .y) true false (placed f) (patch-is (c .before) false (not-true (c .before .supports-patch .result) (c .if2 .taken)))
 
 -- both coordinates of the centre are pixels' numbers
 sides : (c : tie.Else2)
-    → let a = c .before .before .before .before .before .before .before .before .args in
-    let z : ℤ = toZ w32 (ofZ w32 (c .before .before .before .before .f32-to-i32 .result)) in
-    let w : ℤ = toZ w32 (ofZ w32 (c .before .before .f32-to-i322 .result)) in
+    → let a = c .before .before .before .before .before .before .args in
+    let z : ℤ = toZ w32 (ofZ w32 (c .before .before .before .round-to-i32 .result)) in
+    let w : ℤ = toZ w32 (ofZ w32 (c .before .before .round-to-i322 .result)) in
     (inside (a .radius) (a .sizes .width) z ≡ true) × (inside (a .radius) (a .sizes .height) w ≡ true)
 sides c = and-eq-true-iff _ _ .0 (sym (c .before .supports-patch .ensures) ∙ not-false (c .before .supports-patch .result) (c .if2 .left))
 
+cast-t11 : tie.Need-cast-t11
+cast-t11 c =
+    let s = c .before .before .before .before .before .before in
+    inside-fits (s .args .radius) (s .args .sizes .width) (toZ w32 (ofZ w32 (c .before .before .before .round-to-i32 .result))) (sides c .0) (s .pre .0)
+
 cast-t12 : tie.Need-cast-t12
 cast-t12 c =
-    let s = c .before .before .before .before .before .before .before .before in
-    inside-fits (s .args .radius) (s .args .sizes .width) (toZ w32 (ofZ w32 (c .before .before .before .before .f32-to-i32 .result))) (sides c .0) (s .pre .0)
-
-cast-t13 : tie.Need-cast-t13
-cast-t13 c =
-    let s = c .before .before .before .before .before .before .before .before in
-    inside-fits (s .args .radius) (s .args .sizes .height) (toZ w32 (ofZ w32 (c .before .before .f32-to-i322 .result))) (sides c .1) (s .pre .1)
+    let s = c .before .before .before .before .before .before in
+    inside-fits (s .args .radius) (s .args .sizes .height) (toZ w32 (ofZ w32 (c .before .before .round-to-i322 .result))) (sides c .1) (s .pre .1)
 
 returns-3 : tie.Need-returns-3
 returns-3 c =
-    let f = c .before .before .before .before .before .before in
+    let f = c .before .before .before .before in
     let a = f .before .before .args in
     same-seed (a .x) (a .y) _ _ (centre-x (c .before)) (centre-y (c .before))
     ∙ to-seed (a .sizes .width) (a .sizes .height) (a .radius) (a .x) (a .y) true true (placed f) (patch-is (c .before) true (not-false (c .before .supports-patch .result) (c .if2 .left)))
@@ -95,12 +83,10 @@ place-seed-spec =
     (tie.spec
     is-place-requires
     returns
-    round-f32-requires
-    f32-to-i32-requires
-    round-f32-requires-2
-    f32-to-i32-requires-2
+    round-to-i32-requires
+    round-to-i32-requires-2
     supports-patch-requires
     returns-2
+    cast-t11
     cast-t12
-    cast-t13
     returns-3)
