@@ -10,7 +10,6 @@ ghost use Rattle.refine_fallback.specs.Call.{lentFor};
 ghost use Rattle.refine_fallback.specs.Steps.{atZero, byteOf, Serves, Held, Tries, Walked};
 ghost use Rattle.refine_seed.specs.StepsSpot.{Ready};
 use imageview::Sizes;
-use refine_fits::laid;
 use refine_formulas::SaddlePointConfig;
 use refine_list::list;
 use refine_operator::Operator;
@@ -189,7 +188,6 @@ fn spot_at(
     if held != i / 4 {
         list::first_fits(bytes, words, sizes, cfg, columns, corners, i / 4, flat);
     }
-    let here = laid::coefs_at(flat, i % 4);
     refine_seed::spot_with(
         bytes,
         words,
@@ -198,7 +196,8 @@ fn spot_at(
         corners[3 * i],
         corners[3 * i + 1],
         columns,
-        here,
+        flat,
+        i % 4,
     )
 }
 

@@ -9,7 +9,6 @@ ghost use Rattle.refine_list.specs.Steps.{AllWritten, Usable, FirstFits,
 ghost use Rattle.refine_seed.specs.StepsSpot.{Ready};
 use corners::Corner;
 use imageview::Sizes;
-use refine_fits::laid;
 use refine_formulas::SaddlePointConfig;
 use refine_operator::Operator;
 use refine_patch::Firsts;
@@ -57,7 +56,6 @@ fn refine_all(
         if i % 4 == 0 {
             first_fits(bytes, words, sizes, cfg, columns, corners, i / 4, &mut flat);
         }
-        let here = laid::coefs_at(&flat, i % 4);
         let spot = refine_seed::spot_with(
             bytes,
             words,
@@ -66,7 +64,8 @@ fn refine_all(
             corners[3 * i],
             corners[3 * i + 1],
             columns,
-            here,
+            &flat,
+            i % 4,
         );
         written = put(out, written, spot, corners[3 * i + 2]);
         i += 1;

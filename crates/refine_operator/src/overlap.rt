@@ -1,11 +1,12 @@
 // The overlaps, a shift at a time: 25 sums, to which a sample adds all products of its entries here with those at the shifted sample.
 use crate::rows;
 ghost use mathlib.Core.Path.{_≡_};
-ghost use Prim.Native.Nat.{_+_, _*_, _≤_, _<_};
+ghost use mathlib.Core.Bool.{true};
+ghost use Prim.Native.Nat.{_+_, _-_, _*_, _/_, _%_, _≤_, _<_};
 ghost use lib.ListN.{length};
 ghost use Rattle.refine_operator.specs.Basis.{side};
 ghost use Rattle.refine_operator.specs.Rows.{stays, overlapOf};
-ghost use Rattle.refine_operator.specs.Steps.{FiveAdded, blockAdded, sampleAdded, sumsAt, BlockPut, overlapAt, Mirrored, Continued};
+ghost use Rattle.refine_operator.specs.Steps.{fiveAt, FiveAdded, blockAdded, sampleAdded, sumsAt, BlockPut, overlapAt, Mirrored, Continued};
 
 // Whether the column or row i, shifted by s - 1, is one of the square's.
 fn stays_inside(radius: usize, i: usize, s: usize) -> bool
@@ -43,6 +44,18 @@ fn add_block(sums: &mut [f64], here: &[f64; 5], there: &[f64; 5])
     }
 }
 
+// The entries at the shifted sample; those here where nothing is shifted, since entries take most of the time.
+fn shifted(radius: usize, m: &[f64; 72], d: usize, x: usize, y: usize, here: [f64; 5]) -> [f64; 5]
+    requires { ⌜ (radius ≤ 7) × (d < 9) × (x < side radius) × (y < side radius) ⌝ }
+    requires { ⌜ (stays radius x (d % 3) ≡ true) × (stays radius y (d / 3) ≡ true) × (here ≡ fiveAt radius (now m) x y) ⌝ }
+    ensures { λ r. ⌜ r ≡ fiveAt radius (now (m .entry)) (x + d % 3 - 1) (y + d / 3 - 1) ⌝ }
+{
+    if d == 4 {
+        return here;
+    }
+    rows::five_of(radius, m, x + d % 3 - 1, y + d / 3 - 1)
+}
+
 // The sample at x and y, where its shift stays in the square.
 fn add_sample(radius: usize, m: &[f64; 72], d: usize, x: usize, y: usize, sums: &mut [f64])
     requires { ⌜ (radius ≤ 7) × (d < 9) × (x < side radius) × (y < side radius) × (length (now sums) ≡ 25) ⌝ }
@@ -55,7 +68,7 @@ fn add_sample(radius: usize, m: &[f64; 72], d: usize, x: usize, y: usize, sums: 
         return;
     }
     let here = rows::five_of(radius, m, x, y);
-    let there = rows::five_of(radius, m, x + d % 3 - 1, y + d / 3 - 1);
+    let there = shifted(radius, m, d, x, y, here);
     add_block(sums, &here, &there);
 }
 

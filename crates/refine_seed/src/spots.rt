@@ -6,6 +6,7 @@ use crate::steps;
 use imageview::Sizes;
 use refine_fits::Seed;
 use refine_fits::fits;
+use refine_fits::laid;
 use refine_fits::tries;
 use refine_formulas::PatchSaddle;
 use refine_formulas::SaddlePointConfig;
@@ -19,6 +20,7 @@ ghost use Rattle.imageview.specs.Image.{imageOf};
 ghost use Rattle.refine_formulas.specs.Numbers.{_⊕_};
 ghost use Rattle.refine_fits.specs.Fit.{coefficients};
 ghost use Rattle.refine_fits.specs.StepsAdding.{PatchWithin};
+ghost use Rattle.refine_fits.specs.StepsBases.{coefsIn};
 ghost use Rattle.refine_fits.specs.Candidate.{taskAt};
 ghost use Rattle.refine_seed.specs.declared.Spot.the-variants.{At};
 ghost use Rattle.refine_seed.specs.Refine.{refineWith, lentWith, refineLent};
@@ -37,7 +39,7 @@ pub fn first_place(sizes: Sizes, radius: usize, x: f32, y: f32) -> usize
     }
 }
 
-// The spot of one seed with an operator that is lent and the seed's first fit, which a list works out for four seeds at once.
+// The spot of one seed with an operator that is lent and the seed's first fit, which a list works out for four seeds at once: it is read where it stands, since a copy costs time.
 pub fn spot_with(
     bytes: &[u8],
     words: &[u16],
@@ -46,14 +48,15 @@ pub fn spot_with(
     x: f32,
     y: f32,
     columns: &[f32; 1125],
-    here: [f32; 5],
+    flat: &[f32; 40],
+    at: usize,
 ) -> Spot
-    requires { ⌜ Ready (imageOf (now bytes) (now words) sizes) cfg ⌝ ∗ ⌜ Fitted (imageOf (now bytes) (now words) sizes) (now columns) cfg x y here ⌝ }
+    requires { ⌜ Ready (imageOf (now bytes) (now words) sizes) cfg ⌝ ∗ ⌜ Fitted (imageOf (now bytes) (now words) sizes) (now columns) cfg x y (coefsIn (now flat) at) ⌝ ∗ ⌜ at ≤ 23 ⌝ }
     ensures { λ r. ⌜ Lands (λ overlap wanted. refineLent (imageOf (now (bytes .entry)) (now (words .entry)) sizes) cfg x y wanted (now (columns .entry)) overlap) r ⌝ }
 {
     let placed = entry::place_seed(sizes, cfg.radius, x, y);
     match placed {
-        Admitted::Good(seed) => spot_lent(bytes, words, sizes, cfg, seed, columns, here),
+        Admitted::Good(seed) => spot_lent(bytes, words, sizes, cfg, seed, columns, flat, at),
         Admitted::Unmoved(_) => Spot::Nowhere,
         Admitted::Refused(_) => Spot::Nowhere,
     }
@@ -67,15 +70,16 @@ fn spot_lent(
     cfg: SaddlePointConfig,
     seed: Seed,
     columns: &[f32; 1125],
-    here: [f32; 5],
+    flat: &[f32; 40],
+    at: usize,
 ) -> Spot
-    requires { ⌜ PatchWithin (imageOf (now bytes) (now words) sizes) (cfg .radius) (seed .«centre_x») (seed .«centre_y») ⌝ ∗ ⌜ here ≡ coefficients (imageOf (now bytes) (now words) sizes) (now columns) (cfg .radius) (seed .«centre_x») (seed .«centre_y») ⌝ }
+    requires { ⌜ PatchWithin (imageOf (now bytes) (now words) sizes) (cfg .radius) (seed .«centre_x») (seed .«centre_y») ⌝ ∗ ⌜ coefsIn (now flat) at ≡ coefficients (imageOf (now bytes) (now words) sizes) (now columns) (cfg .radius) (seed .«centre_x») (seed .«centre_y») ⌝ ∗ ⌜ at ≤ 23 ⌝ }
     ensures { λ r. ⌜ Lands (λ overlap wanted. lentWith cfg (refineWith (imageOf (now (bytes .entry)) (now (words .entry)) sizes) cfg seed wanted (now (columns .entry)) overlap)) r ⌝ }
 {
     if cfg.radius == 0 {
         return Spot::Nowhere;
     }
-    spot_of_seed(bytes, words, sizes, cfg, seed, columns, here)
+    spot_of_seed(bytes, words, sizes, cfg, seed, columns, flat, at)
 }
 
 // A seed that passed the tests: the first fit decides acceptance.
@@ -86,12 +90,13 @@ fn spot_of_seed(
     cfg: SaddlePointConfig,
     seed: Seed,
     columns: &[f32; 1125],
-    here: [f32; 5],
+    flat: &[f32; 40],
+    at: usize,
 ) -> Spot
-    requires { ⌜ PatchWithin (imageOf (now bytes) (now words) sizes) (cfg .radius) (seed .«centre_x») (seed .«centre_y») ⌝ ∗ ⌜ here ≡ coefficients (imageOf (now bytes) (now words) sizes) (now columns) (cfg .radius) (seed .«centre_x») (seed .«centre_y») ⌝ }
+    requires { ⌜ PatchWithin (imageOf (now bytes) (now words) sizes) (cfg .radius) (seed .«centre_x») (seed .«centre_y») ⌝ ∗ ⌜ coefsIn (now flat) at ≡ coefficients (imageOf (now bytes) (now words) sizes) (now columns) (cfg .radius) (seed .«centre_x») (seed .«centre_y») ⌝ ∗ ⌜ at ≤ 23 ⌝ }
     ensures { λ r. ⌜ Lands (λ overlap wanted. refineWith (imageOf (now (bytes .entry)) (now (words .entry)) sizes) cfg seed wanted (now (columns .entry)) overlap) r ⌝ }
 {
-    let solved = solve::solve(cfg, here);
+    let solved = solve::solve(cfg, laid::coefs_at(flat, at));
     match solved {
         Solved::Refused(_, _) => Spot::Nowhere,
         Solved::Saddle(f) => {

@@ -1,12 +1,10 @@
 -- `refine_fallback::walk::spot_at` meets its contract: past the branch the first fits of the seed's group are there.
 use mathlib.Core.Path.{sym, subst}
 use mathlib.Core.Logic.{⊎-elim}
-use Prim.Native.Nat.{_+_, _*_, _/_}
+use Prim.Native.Nat.{_/_}
 use native.Mathlib.Omega.{arith}
 use borrow.Author.Needs.{needs}
-use Rattle.shapes.specs.Numbers.{entry}
 use Rattle.imageview.specs.Image.{imageOf}
-use Rattle.refine_seed.specs.StepsSpot.{Fitted}
 use Rattle.refine_list.specs.Steps.{FirstFits}
 use Rattle.refine_list.proofs.FirstLaws.{this-group}
 use Rattle.refine_fallback.proofs.WalkLaws.{held-for, spot-lent}
@@ -27,9 +25,6 @@ group c =
     (λ w. subst (FirstFits img (a .cfg) (a .columns .now) (a .corners .now) (a .i / 4)) (sym (w .3)) (w .2 .ensures))
     (λ w. subst (FirstFits img (a .cfg) (a .columns .now) (a .corners .now) (a .i / 4)) (sym (w .1)) (held-for img (a .cfg) (a .columns .now) (a .corners .now) (a .i / 4) (a .held) (a .flat .now) (s .pre .1 .1) (w .0 .left) (omega (arith, s .pre .0))))
     (c .if1 .came)
-
-coefs-at-requires : tie.Need-coefs-at-requires
-coefs-at-requires c κs = search needs
 
 mul-spot-with : tie.Need-mul-spot-with
 mul-spot-with c = search needs
@@ -54,15 +49,15 @@ shared-slice-read-spot-with-2 c = search needs
 
 spot-with-requires : tie.Need-spot-with-requires
 spot-with-requires c κs =
-    let j = c .before .before .before .before in
+    let j = c .before .before .before in
     let s = j .before .before .before .before in
     let a = s .args in
     let img = imageOf (a .bytes .now) (a .words .now) (a .sizes) in
-    (s .pre .1 .0, subst (Fitted img (a .columns .now) (a .cfg) (entry (a .corners .now) (3 * a .i)) (entry (a .corners .now) (3 * a .i + 1))) (sym (c .before .before .coefs-at .ensures)) (this-group img (a .cfg) (a .columns .now) (a .corners .now) (a .i) (j .if1 .flat) (group j) (s .pre .0)))
+    (s .pre .1 .0, (this-group img (a .cfg) (a .columns .now) (a .corners .now) (a .i) (j .if1 .flat) (group j) (s .pre .0), omega arith))
 
 returns : tie.Need-returns
 returns c =
-    let j = c .before .before .before .before .before in
+    let j = c .before .before .before .before in
     let a = j .before .before .before .before .args in
     (spot-lent (imageOf (a .bytes .now) (a .words .now) (a .sizes)) (a .cfg) (a .columns .now) (a .corners .now) (a .i) (c .spot-with .result) (c .spot-with .ensures), group j)
 
@@ -71,7 +66,6 @@ spot-at-spec =
     tie.close
     (tie.spec
     first-fits-requires
-    coefs-at-requires
     mul-spot-with
     mul-spot-with-2
     shared-slice-read-spot-with

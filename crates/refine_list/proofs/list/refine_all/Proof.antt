@@ -5,10 +5,8 @@ use Prim.Native.Nat.{_+_, _-_, _*_, _/_, _%_, _≤_}
 use native.Mathlib.Omega.{arith}
 use lib.ListN.{length}
 use Rattle.imageview.specs.Image.{imageOf}
-use Rattle.shapes.specs.Numbers.{entry}
 use Rattle.refine_list.specs.Refining.{spotFor}
 use Rattle.refine_list.specs.Steps.{Going, FirstFits}
-use Rattle.refine_seed.specs.StepsSpot.{Fitted}
 use Rattle.refine_list.proofs.ListLaws.{begins, room, goes-on, spot-is, as-long, ends}
 use Rattle.refine_list.proofs.FirstLaws.{this-group, same-group}
 use Rattle.refine_list.proofs.list.refine_all.Statement.{statement}
@@ -41,9 +39,6 @@ group c =
     (λ w. subst (FirstFits (imageOf (a .bytes .now) (a .words .now) (a .sizes)) (a .cfg) (a .columns .now) (a .corners .now) (l .i / 4)) (sym (w .1)) (l .inv .3 (w .0 .left)))
     (c .if1 .came)
 
-coefs-at-requires : tie.Need-coefs-at-requires Inv-loop μ-loop
-coefs-at-requires c κs = omega arith
-
 mul-spot-with : tie.Need-mul-spot-with Inv-loop μ-loop
 mul-spot-with c = omega arith
 
@@ -67,10 +62,10 @@ shared-slice-read-spot-with-2 c = omega arith
 
 spot-with-requires : tie.Need-spot-with-requires Inv-loop μ-loop
 spot-with-requires c κs =
-    let a = c .before .before .before .before .before .before .before .before .before .before .before .args in
-    let l = c .before .before .before .before .before .before .loop in
+    let a = c .before .before .before .before .before .before .before .before .before .before .args in
+    let l = c .before .before .before .before .before .loop in
     let img = imageOf (a .bytes .now) (a .words .now) (a .sizes) in
-    (c .before .before .before .before .before .before .before .before .before .before .before .pre .1 .1, subst (Fitted img (a .columns .now) (a .cfg) (entry (a .corners .now) (3 * l .i)) (entry (a .corners .now) (3 * l .i + 1))) (sym (c .before .before .coefs-at .ensures)) (this-group img (a .cfg) (a .columns .now) (a .corners .now) (l .i) (c .before .before .before .before .if1 .flat) (group (c .before .before .before .before)) (c .before .before .before .before .before .loop-test .taken)))
+    (c .before .before .before .before .before .before .before .before .before .before .pre .1 .1, (this-group img (a .cfg) (a .columns .now) (a .corners .now) (l .i) (c .before .before .before .if1 .flat) (group (c .before .before .before)) (c .before .before .before .before .loop-test .taken), omega arith))
 
 mul-put : tie.Need-mul-put Inv-loop μ-loop
 mul-put c = omega arith
@@ -86,9 +81,9 @@ shared-slice-read-put c = omega arith
 
 put-requires : tie.Need-put-requires Inv-loop μ-loop
 put-requires c κs =
-    let a = c .before .before .before .before .before .before .before .before .before .before .before .before .before .before .args in
-    let l = c .before .before .before .before .before .before .before .before .before .loop in
-    room (spotFor (imageOf (a .bytes .now) (a .words .now) (a .sizes)) (a .cfg) (a .corners .now)) (a .corners .now) (a .out .now) (l .i) (l .written) (l .out) (l .inv .0) (c .before .before .before .before .before .before .before .before .loop-test .taken) (c .before .before .before .before .before .before .before .before .before .before .before .before .before .before .pre .0)
+    let a = c .before .before .before .before .before .before .before .before .before .before .before .before .before .args in
+    let l = c .before .before .before .before .before .before .before .before .loop in
+    room (spotFor (imageOf (a .bytes .now) (a .words .now) (a .sizes)) (a .cfg) (a .corners .now)) (a .corners .now) (a .out .now) (l .i) (l .written) (l .out) (l .inv .0) (c .before .before .before .before .before .before .before .loop-test .taken) (c .before .before .before .before .before .before .before .before .before .before .before .before .before .pre .0)
 
 add-i : tie.Need-add-i Inv-loop μ-loop
 add-i c = omega arith
@@ -98,13 +93,13 @@ loop-less c = omega arith
 
 loop-again : tie.Need-loop-again Inv-loop μ-loop
 loop-again c =
-    let a = c .before .before .before .before .before .before .before .before .before .before .before .before .before .before .before .before .before .args in
-    let l = c .before .before .before .before .before .before .before .before .before .before .before .before .loop in
+    let a = c .before .before .before .before .before .before .before .before .before .before .before .before .before .before .before .before .args in
+    let l = c .before .before .before .before .before .before .before .before .before .before .before .loop in
     let p = c .before .before .put in
     let s = c .before .before .before .before .before .spot-with in
     let img = imageOf (a .bytes .now) (a .words .now) (a .sizes) in
-    let g = group (c .before .before .before .before .before .before .before .before .before .before) in
-    (goes-on (spotFor img (a .cfg) (a .corners .now)) (a .corners .now) (a .out .now) (l .i) (l .written) (l .out) (l .inv .0) (s .result) (spot-is img (a .cfg) (a .columns .now) (a .corners .now) (l .i) (s .result) (c .before .before .before .before .before .before .before .before .before .before .before .before .before .before .before .before .before .pre .1 .0) (s .ensures)) (p .result) (p .last .0) (p .ensures .0) (p .ensures .1), omega arith, g .long, λ h. same-group img (a .cfg) (a .columns .now) (a .corners .now) (l .i) (c .before .before .before .before .before .before .before .before .before .before .if1 .flat) g h)
+    let g = group (c .before .before .before .before .before .before .before .before .before) in
+    (goes-on (spotFor img (a .cfg) (a .corners .now)) (a .corners .now) (a .out .now) (l .i) (l .written) (l .out) (l .inv .0) (s .result) (spot-is img (a .cfg) (a .columns .now) (a .corners .now) (l .i) (s .result) (c .before .before .before .before .before .before .before .before .before .before .before .before .before .before .before .before .pre .1 .0) (s .ensures)) (p .result) (p .last .0) (p .ensures .0) (p .ensures .1), omega arith, g .long, λ h. same-group img (a .cfg) (a .columns .now) (a .corners .now) (l .i) (c .before .before .before .before .before .before .before .before .before .if1 .flat) g h)
 
 same-length : tie.Need-same-length Inv-loop μ-loop
 same-length c =
@@ -126,7 +121,6 @@ refine-all-spec =
     μ-loop
     loop-holds
     first-fits-requires
-    coefs-at-requires
     mul-spot-with
     mul-spot-with-2
     shared-slice-read-spot-with

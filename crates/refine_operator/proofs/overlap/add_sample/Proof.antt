@@ -37,23 +37,10 @@ returns-2 c =
 five-of-requires : tie.Need-five-of-requires
 five-of-requires c κs = let p = c .before .before .before .before .before .pre in (p .0, omega arith, omega arith)
 
-add-five-of : tie.Need-add-five-of
-add-five-of c = omega arith
-
-sub-five-of : tie.Need-sub-five-of
-sub-five-of c = let a = c .before .before .before .before .before .before .args in stays-is (a .radius) (a .x) (a .d % 3) (across (c .before .before .before)) .0
-
-add-five-of-2 : tie.Need-add-five-of-2
-add-five-of-2 c = omega arith
-
-sub-five-of-2 : tie.Need-sub-five-of-2
-sub-five-of-2 c = let a = c .before .before .before .before .before .before .args in stays-is (a .radius) (a .y) (a .d / 3) (down (c .before)) .0
-
-five-of-requires-2 : tie.Need-five-of-requires-2
-five-of-requires-2 c κs =
+shifted-requires : tie.Need-shifted-requires
+shifted-requires c κs =
     let s = c .before .before .before .before .before .before in
-    let a = s .args in
-    (s .pre .0, omega (arith, stays-is (a .radius) (a .x) (a .d % 3) (across (c .before .before .before)) .1), omega (arith, stays-is (a .radius) (a .y) (a .d / 3) (down (c .before)) .1))
+    ((s .pre .0, s .pre .1, s .pre .2, s .pre .3), (across (c .before .before .before), down (c .before), c .five-of .ensures))
 
 add-block-requires : tie.Need-add-block-requires
 add-block-requires c κs = c .before .before .before .before .before .before .before .before .before .before .pre .4
@@ -65,7 +52,7 @@ returns-3 : tie.Need-returns-3
 returns-3 c =
     let a = c .before .before .before .before .before .before .before .before .before .before .before .before .before .args in
     let e = c .before .before .before .before .before .before .before .before in
-    sample-in (a .radius) (a .m .now) (a .d) (a .x) (a .y) (a .sums .now) _ _ _ (across (e .before .before)) (down e) (c .before .before .before .before .before .before .before .five-of .ensures) (c .before .before .before .before .before .before .five-of2 .ensures) (c .before .before .add-block .ensures)
+    sample-in (a .radius) (a .m .now) (a .d) (a .x) (a .y) (a .sums .now) _ _ _ (across (e .before .before)) (down e) (c .before .before .before .before .before .before .before .five-of .ensures) (c .before .before .before .before .before .before .shifted .ensures) (c .before .before .add-block .ensures)
 
 pub add-sample-spec : {M : Type 1} → statement M
 add-sample-spec =
@@ -76,11 +63,7 @@ add-sample-spec =
     stays-inside-requires-2
     returns-2
     five-of-requires
-    add-five-of
-    sub-five-of
-    add-five-of-2
-    sub-five-of-2
-    five-of-requires-2
+    shifted-requires
     add-block-requires
     same-length
     returns-3)

@@ -29,7 +29,7 @@ spot-lent-requires c κs =
     let a = s .args in
     let seed = c .before .placed .given .0 .0 in
     let good = whole (c .before .before .before) ∙ c .before .placed .given .1 in
-    (good-within (imageOf (a .bytes .now) (a .words .now) (a .sizes)) (a .cfg) (a .x) (a .y) seed good, s .pre .1 .is seed good)
+    (good-within (imageOf (a .bytes .now) (a .words .now) (a .sizes)) (a .cfg) (a .x) (a .y) seed good, (s .pre .1 .0 .is seed good, s .pre .1 .1))
 
 enum-told : tie.Need-enum-told
 enum-told c = search needs
