@@ -171,6 +171,10 @@ impl Trial for Board {
     ];
     type Left = Left;
 
+    fn exported(&self, name: &mut dyn FnMut(&'static str)) {
+        name("chess_corners_tie");
+    }
+
     fn by_port(&self) -> Left {
         let mut left = Left {
             number: 0,

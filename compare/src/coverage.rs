@@ -74,6 +74,17 @@ impl Trial for Coverage {
     const PARTS: &'static str = "calls";
     type Left = Vec<Step>;
 
+    fn exported(&self, name: &mut dyn FnMut(&'static str)) {
+        for asked in &self.0.calls {
+            name(match asked {
+                Asked::Afresh => "chess_corners_coverage",
+                Asked::Add(_) => "chess_corners_coverage_add",
+                Asked::Replace(..) => "chess_corners_coverage_replace",
+                Asked::Drop(_) => "chess_corners_coverage_drop",
+            });
+        }
+    }
+
     fn by_port(&self) -> Vec<Step> {
         let row = &self.0;
         let mut step = Step {
@@ -268,7 +279,18 @@ pub fn any(random: &mut Random) -> Coverage {
         1..=4 => (300, 20),
         _ => (9, 1 + random.below(8)),
     };
-    let mut row = known::any(random, corners, calls);
+    let row = known::any(random, corners, calls);
+    with_any_bits(random, row)
+}
+
+/// A row of a few calls, each kind as often as another.
+pub fn brief(random: &mut Random) -> Coverage {
+    let row = known::any_of(random, 9, 8, known::even_call);
+    with_any_bits(random, row)
+}
+
+/// Now and then some numbers as any bits.
+fn with_any_bits(random: &mut Random, mut row: Row) -> Coverage {
     if random.once_in(4) {
         for _ in 0..4 {
             let record = random.below(12);

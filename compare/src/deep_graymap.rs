@@ -98,6 +98,10 @@ impl Trial for DeepGraymap {
     ];
     type Left = Left;
 
+    fn exported(&self, name: &mut dyn FnMut(&'static str)) {
+        name("chess_corners_graymap_u16");
+    }
+
     fn by_port(&self) -> Left {
         let file = Lent::holding(&self.file, b'1');
         let mut out = Lent::painted(self.room, PAINT_U16);

@@ -222,6 +222,21 @@ impl Trial for Fallback {
     const SHARED: &'static [&'static str] = &picture::KINDS;
     type Left = Twice<Both>;
 
+    fn exported(&self, name: &mut dyn FnMut(&'static str)) {
+        let [own, lent] = match self.list.scene.image.deep {
+            None => [
+                "chess_corners_refine_list_fallback",
+                "chess_corners_refine_list_fallback_with",
+            ],
+            Some(_) => [
+                "chess_corners_refine_list_fallback_u16",
+                "chess_corners_refine_list_fallback_with_u16",
+            ],
+        };
+        name(own);
+        name(lent);
+    }
+
     fn by_port(&self) -> Self::Left {
         let both = self.settings();
         let [one, two] = both.map(|s| columns_of(s.radius));
@@ -325,6 +340,17 @@ pub fn longest(tally: &mut Tally, random: &mut Random) -> bool {
 /// A list about the borders of the rules, and second settings beside its own.
 pub fn any(random: &mut Random) -> Fallback {
     let list = list::any(random);
+    of(random, list)
+}
+
+/// The same of a few seeds.
+pub fn brief(random: &mut Random) -> Fallback {
+    let list = list::brief(random);
+    of(random, list)
+}
+
+/// The same of a list.
+fn of(random: &mut Random, list: List) -> Fallback {
     let seeds = list.floats.len() / 3;
     let second = match random.below(8) {
         0 => list.scene.settings,

@@ -191,6 +191,10 @@ impl Trial for Gradient {
     ];
     type Left = Left;
 
+    fn exported(&self, name: &mut dyn FnMut(&'static str)) {
+        name("chess_corners_gradient");
+    }
+
     fn by_port(&self) -> Left {
         let mut grid = Lent::holding(&self.grid, PAINT_F);
         let number = port::gradient(

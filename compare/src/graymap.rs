@@ -63,6 +63,10 @@ impl Trial for Graymap {
     const SHARED: &'static [&'static str] = &known::MET;
     type Left = Left;
 
+    fn exported(&self, name: &mut dyn FnMut(&'static str)) {
+        name("chess_corners_graymap");
+    }
+
     fn by_port(&self) -> Left {
         let file = Lent::holding(&self.file, PAINT_U8);
         let mut given = port::Given::painted(PAINT);

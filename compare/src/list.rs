@@ -102,6 +102,13 @@ impl Trial for List {
     const SHARED: &'static [&'static str] = &picture::KINDS;
     type Left = Twice<Answer>;
 
+    fn exported(&self, name: &mut dyn FnMut(&'static str)) {
+        name(match self.scene.image.deep {
+            None => "chess_corners_refine_list",
+            Some(_) => "chess_corners_refine_list_u16",
+        });
+    }
+
     fn by_port(&self) -> Self::Left {
         Twice::of(&self.scene.image, self.paint, |image| {
             let mut answer = Answer {
@@ -268,6 +275,17 @@ pub fn longest(tally: &mut Tally, random: &mut Random) -> bool {
 /// A list about the borders of the rules.
 pub fn any(random: &mut Random) -> List {
     let count = any_count(random);
+    of(random, count)
+}
+
+/// The same of a few seeds.
+pub fn brief(random: &mut Random) -> List {
+    let count = random.below(8);
+    of(random, count)
+}
+
+/// The same of so many seeds.
+fn of(random: &mut Random, count: usize) -> List {
     let (scene, seeds) = any_seeds(random, count);
     let mut floats = seeds.concat();
     if random.once_in(40) {

@@ -1,5 +1,8 @@
 //! The proved code beside the Rust, in one program.
 //!   compare run SECONDS [SEED]   compares on fresh inputs; status 1 where they part
+//!   compare long SECONDS SHARE [SEED]
+//!                                the same, and then on until every exported call has had
+//!                                SHARE random cases, and single seeds ten times as many
 //!   compare bench [CALL]         times both and prints the tables, or a call's
 
 mod bench;
@@ -10,6 +13,7 @@ mod fallback;
 mod gradient;
 mod graymap;
 mod list;
+mod long;
 mod merge;
 mod number;
 mod operator;
@@ -25,7 +29,7 @@ mod trial;
 use oracle::random::Random;
 use std::process::ExitCode;
 use std::time::{Duration, Instant, SystemTime};
-use trial::Tally;
+use trial::{Count, Tally};
 
 /// Random cases of each call, whatever the seconds.
 const LEAST: u64 = 5_000;
@@ -52,6 +56,7 @@ const SCANS: usize = 2;
 
 /// Every call's own test of this driver.
 fn faults_noticed() -> Result<(), String> {
+    long::complete()?;
     merge::faults_noticed()?;
     response::faults_noticed()?;
     peaks::faults_noticed()?;
@@ -139,6 +144,37 @@ impl Tallies {
             && (0..SEEDS).all(|_| self.seeds.tried(&kept.scenes.any(random)))
     }
 
+    /// All of them.
+    fn each(&mut self) -> [&mut Tally; 14] {
+        [
+            &mut self.merges,
+            &mut self.responses,
+            &mut self.peaks,
+            &mut self.operators,
+            &mut self.seeds,
+            &mut self.lists,
+            &mut self.fallbacks,
+            &mut self.numbers,
+            &mut self.boards,
+            &mut self.graymaps,
+            &mut self.deep_graymaps,
+            &mut self.salvages,
+            &mut self.covers,
+            &mut self.gradients,
+        ]
+    }
+
+    /// What was tried of an exported call.
+    fn count(&mut self, name: &str) -> Count {
+        let all = self.each();
+        let counts = all.iter().filter_map(|tally| tally.exported.get(name));
+        counts.fold(Count::default(), |sum, count| Count {
+            cases: sum.cases + count.cases,
+            fixed: sum.fixed + count.fixed,
+            differ: sum.differ + count.differ,
+        })
+    }
+
     fn told(&self, to_the_end: bool) -> bool {
         let merges = self.merges.told::<merge::Merge>(to_the_end);
         let responses = self.responses.told::<response::Response>(to_the_end);
@@ -167,7 +203,14 @@ struct Kept {
     scenes: refine::Scenes,
 }
 
-fn run(seconds: u64, seed: u64) -> bool {
+/// A run of some seconds, and then on until every exported call has its share.
+struct Length {
+    seconds: u64,
+    share: Option<u64>,
+}
+
+fn run(length: Length, seed: u64) -> bool {
+    let Length { seconds, share } = length;
     println!("compare: seed {seed}, {seconds} s");
     if let Err(what) = faults_noticed() {
         println!("compare: the driver itself fails: {what}");
@@ -178,6 +221,7 @@ fn run(seconds: u64, seed: u64) -> bool {
     let mut tallies = Tallies::default();
     let mut random = Random::of(seed, "compare");
     let mut alike = tallies.short(&mut random, seconds >= LONG);
+    tallies.each().map(Tally::fixed);
     let mut kept = Kept {
         rings: response::Rings::new(),
         scenes: refine::Scenes::new(&mut random),
@@ -187,7 +231,13 @@ fn run(seconds: u64, seed: u64) -> bool {
         fresh += 1;
         alike = tallies.fresh(&mut random, &mut kept);
     }
+    if let Some(share) = share {
+        alike = alike && long::filled(&mut tallies, &mut random, &mut kept, share);
+    }
     let all = tallies.told(alike);
+    if share.is_some() {
+        long::told(&mut tallies);
+    }
     let operators = refine::operators_kept();
     if !operators {
         println!("refine: DIFFERS: a lent operator is written");
@@ -195,28 +245,42 @@ fn run(seconds: u64, seed: u64) -> bool {
     all && operators
 }
 
+/// What the words of the command ask for, and whether it went well; `None`
+/// where they ask for nothing.
+fn asked(words: &[&str]) -> Option<bool> {
+    let number = |k: usize| words.get(k).and_then(|w| w.parse::<u64>().ok());
+    let clock = SystemTime::UNIX_EPOCH.elapsed().map_or(1, |t| t.as_secs());
+    match *words.first()? {
+        "run" => {
+            let length = Length {
+                seconds: number(1)?,
+                share: None,
+            };
+            Some(run(length, number(2).unwrap_or(clock)))
+        }
+        "long" => {
+            let length = Length {
+                seconds: number(1)?,
+                share: Some(number(2)?),
+            };
+            Some(run(length, number(3).unwrap_or(clock)))
+        }
+        "bench" => Some(bench::run(words.get(1).copied())),
+        _ => None,
+    }
+}
+
 fn main() -> ExitCode {
     oracle::rust_or_rule::quiet();
-    let words: Vec<String> = std::env::args().skip(1).collect();
-    let number = |k: usize| words.get(k).and_then(|w| w.parse::<u64>().ok());
-    match (words.first().map(String::as_str), number(1)) {
-        (Some("run"), Some(seconds)) => {
-            let clock = SystemTime::UNIX_EPOCH.elapsed().map_or(1, |t| t.as_secs());
-            if run(seconds, number(2).unwrap_or(clock)) {
-                ExitCode::SUCCESS
-            } else {
-                ExitCode::FAILURE
-            }
-        }
-        (Some("bench"), _) => {
-            if bench::run(words.get(1).map(String::as_str)) {
-                ExitCode::SUCCESS
-            } else {
-                ExitCode::FAILURE
-            }
-        }
-        _ => {
-            eprintln!("usage: compare run SECONDS [SEED] | compare bench [CALL]");
+    let args: Vec<String> = std::env::args().skip(1).collect();
+    let words: Vec<&str> = args.iter().map(String::as_str).collect();
+    match asked(&words) {
+        Some(true) => ExitCode::SUCCESS,
+        Some(false) => ExitCode::FAILURE,
+        None => {
+            eprintln!(
+                "usage: compare run SECONDS [SEED] | long SECONDS SHARE [SEED] | bench [CALL]"
+            );
             ExitCode::from(2)
         }
     }

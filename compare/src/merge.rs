@@ -72,6 +72,11 @@ impl Trial for Merge {
 
     type Left = Left;
 
+    fn exported(&self, name: &mut dyn FnMut(&'static str)) {
+        name("chess_corners_merge_heads");
+        name("chess_corners_merge");
+    }
+
     fn by_port(&self) -> Left {
         let mut left = Left {
             number: 0,

@@ -22,6 +22,10 @@ impl Trial for Number {
     const CLASSES: &'static [&'static str] = &["3 for 5", "3 for 6", "3 for 7", "itself"];
     type Left = u32;
 
+    fn exported(&self, name: &mut dyn FnMut(&'static str)) {
+        name("chess_corners_old_number");
+    }
+
     fn by_port(&self) -> u32 {
         port::old_number(self.number)
     }

@@ -2,6 +2,7 @@
 
 use crate::port;
 use crate::trial::{self, alike, bits, parts, Lent, Met, Tally, Trial, PAINT_F};
+use oracle::random::Random;
 use oracle::{calls, rules};
 use std::fmt::{self, Display, Formatter};
 
@@ -18,6 +19,43 @@ pub struct Left {
     overlap: Lent<f32>,
 }
 
+/// What is expected of a radius.
+struct Expected {
+    number: u32,
+    class: &'static str,
+    columns: Vec<f32>,
+    overlap: Vec<f32>,
+}
+
+impl Expected {
+    /// Of a radius up to 7, by the Rust; of 8, as of all above it.
+    fn of(radius: usize) -> Self {
+        let mut columns = vec![PAINT_F; port::COLUMNS];
+        let mut overlap = vec![PAINT_F; port::OVERLAP];
+        let made = (radius <= 7).then(|| calls::operator(radius as i32));
+        let (number, class) = match made {
+            None => (rules::BAD_RADIUS, "11"),
+            Some(None) => (3, "3"),
+            Some(Some(op)) => {
+                columns[..5 * op.columns.len()].copy_from_slice(&op.columns.concat());
+                overlap = op.overlap.concat().concat();
+                (0, "0")
+            }
+        };
+        Expected {
+            number,
+            class,
+            columns,
+            overlap,
+        }
+    }
+}
+
+thread_local! {
+    /// The Rust works each operator out once.
+    static EXPECTED: [Expected; 9] = core::array::from_fn(Expected::of);
+}
+
 impl Display for Operator {
     fn fmt(&self, f: &mut Formatter<'_>) -> fmt::Result {
         writeln!(f, "  radius {}", self.radius)
@@ -28,6 +66,10 @@ impl Trial for Operator {
     const NAME: &'static str = "operator";
     const CLASSES: &'static [&'static str] = &["0", "3", "11"];
     type Left = Left;
+
+    fn exported(&self, name: &mut dyn FnMut(&'static str)) {
+        name("chess_corners_fit_operator");
+    }
 
     fn by_port(&self) -> Left {
         let mut columns = Lent::painted(port::COLUMNS, PAINT_F);
@@ -41,30 +83,21 @@ impl Trial for Operator {
     }
 
     fn judged(&self, left: &Left) -> Result<Met, String> {
-        let mut columns = vec![PAINT_F; port::COLUMNS];
-        let mut overlap = vec![PAINT_F; port::OVERLAP];
-        let made = (self.radius <= 7).then(|| calls::operator(self.radius as i32));
-        let (number, class) = match made {
-            None => (rules::BAD_RADIUS, "11"),
-            Some(None) => (3, "3"),
-            Some(Some(op)) => {
-                columns[..5 * op.columns.len()].copy_from_slice(&op.columns.concat());
-                overlap = op.overlap.concat().concat();
-                (0, "0")
+        EXPECTED.with(|all| {
+            let expected = &all[self.radius.min(8)];
+            trial::held("number", left.number, expected.number)?;
+            for (name, lent, want) in [
+                ("columns", &left.columns, &expected.columns),
+                ("overlap", &left.overlap, &expected.overlap),
+            ] {
+                if let Some(k) = parts(lent.inside(), want, |a, b| alike(*a, *b)) {
+                    let (got, want) = (bits(lent.inside()[k]), bits(want[k]));
+                    return Err(format!("element {k} of {name} is {got}, expected {want}"));
+                }
+                lent.outside_kept(name)?;
             }
-        };
-        trial::held("number", left.number, number)?;
-        for (name, lent, want) in [
-            ("columns", &left.columns, &columns),
-            ("overlap", &left.overlap, &overlap),
-        ] {
-            if let Some(k) = parts(lent.inside(), want, |a, b| alike(*a, *b)) {
-                let (got, want) = (bits(lent.inside()[k]), bits(want[k]));
-                return Err(format!("element {k} of {name} is {got}, expected {want}"));
-            }
-            lent.outside_kept(name)?;
-        }
-        Ok(Met::of(class))
+            Ok(Met::of(expected.class))
+        })
     }
 
     fn size(&self) -> u64 {
@@ -87,6 +120,18 @@ pub fn short(tally: &mut Tally) -> bool {
         .all(|radius| tally.tried(&Operator { radius }));
     tally.exhaustive = tally.cases - before;
     went
+}
+
+/// Any radius, a far one, or one of which some bits are those of a good one.
+pub fn any(random: &mut Random) -> Operator {
+    let near = random.below(10);
+    Operator {
+        radius: match random.below(8) {
+            0 => random.word64() as usize,
+            1 => near | 1 << random.below(64),
+            _ => near,
+        },
+    }
 }
 
 /// The driver notices each fault of an answer.

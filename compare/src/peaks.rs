@@ -283,6 +283,10 @@ impl Trial for Peaks {
     ];
     type Left = Left;
 
+    fn exported(&self, name: &mut dyn FnMut(&'static str)) {
+        name("chess_corners_peaks");
+    }
+
     fn by_port(&self) -> Left {
         let mut left = Left {
             number: 0,

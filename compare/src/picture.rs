@@ -29,23 +29,42 @@ fn crossed<A>(image: &Image, call: impl Fn(port::Image<'_>) -> A) -> A {
     })
 }
 
+/// The words of a deep image, of any kind.
+fn any_words(random: &mut Random) -> Deepened {
+    let kinds = [
+        Words::Bytes,
+        Words::Full,
+        Words::Full,
+        Words::Full,
+        Words::Full,
+        Words::Above,
+    ];
+    Deepened {
+        mix: random.word64(),
+        kind: random.pick(&kinds),
+    }
+}
+
 /// Now and then the image as a deep one.
 fn any_depth(random: &mut Random, mut image: Image) -> Image {
     if random.once_in(3) {
-        let kinds = [
-            Words::Bytes,
-            Words::Full,
-            Words::Full,
-            Words::Full,
-            Words::Full,
-            Words::Above,
-        ];
-        image.deep = Some(Deepened {
-            mix: random.word64(),
-            kind: random.pick(&kinds),
-        });
+        image.deep = Some(any_words(random));
     }
     image
+}
+
+/// The same call by bytes.
+pub fn by_bytes<T: OfImage>(call: &T) -> T {
+    let mut image = call.image().clone();
+    image.deep = None;
+    call.with_image(image)
+}
+
+/// The same call by words.
+pub fn by_words<T: OfImage>(random: &mut Random, call: &T) -> T {
+    let mut image = call.image().clone();
+    image.deep = Some(any_words(random));
+    call.with_image(image)
 }
 
 /// What of the depth a run must reach.

@@ -314,6 +314,17 @@ impl Trial for Refine {
     const SHARED: &'static [&'static str] = &picture::KINDS;
     type Left = Left;
 
+    fn exported(&self, name: &mut dyn FnMut(&'static str)) {
+        let [with, built] = match self.scene.image.deep {
+            None => ["chess_corners_refine_with", "chess_corners_refine"],
+            Some(_) => ["chess_corners_refine_with_u16", "chess_corners_refine_u16"],
+        };
+        name(with);
+        if self.both {
+            name(built);
+        }
+    }
+
     fn by_port(&self) -> Left {
         let (image, s) = (&self.scene.image, self.scene.settings);
         let with = OPERATORS.with(|all| {
@@ -456,6 +467,14 @@ impl Scenes {
             wanted: random.pick(&[0, 1, 1, 1, 2, 1 << 31, u32::MAX]),
             both: self.left == 0,
             scene: self.scene.clone(),
+        }
+    }
+
+    /// The same also by the call that builds its own operator.
+    pub fn both(&mut self, random: &mut Random) -> Refine {
+        Refine {
+            both: true,
+            ..self.any(random)
         }
     }
 }

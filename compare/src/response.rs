@@ -96,6 +96,13 @@ impl Trial for Response {
 
     type Left = Twice<Answer>;
 
+    fn exported(&self, name: &mut dyn FnMut(&'static str)) {
+        name(match self.image.deep {
+            None => "chess_corners_response",
+            Some(_) => "chess_corners_response_u16",
+        });
+    }
+
     fn by_port(&self) -> Self::Left {
         Twice::of(&self.image, self.paint, |image| {
             let mut answer = Answer {
@@ -325,6 +332,8 @@ pub fn short(tally: &mut Tally, all: bool, levels: [u8; 2], pitch: usize) -> boo
     }
     tally.cases += u64::from(count);
     tally.parts += u64::from(count);
+    let exported = tally.exported.entry("chess_corners_response");
+    exported.or_default().cases += u64::from(count);
     *tally.classes.entry("done").or_default() += u64::from(count);
     tally.exhaustive += u64::from(count);
     true

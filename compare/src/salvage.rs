@@ -77,6 +77,10 @@ impl Trial for Salvage {
     const SHARED: &'static [&'static str] = &known::MET;
     type Left = Left;
 
+    fn exported(&self, name: &mut dyn FnMut(&'static str)) {
+        name("chess_corners_salvage");
+    }
+
     fn by_port(&self) -> Left {
         let file = Lent::holding(&self.0.file, PAINT_U8);
         let mut out = Lent::painted(self.0.out, PAINT_U8);

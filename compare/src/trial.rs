@@ -188,6 +188,9 @@ pub trait Trial: Sized + Clone + Display {
     /// All that the call leaves.
     type Left: Clone;
 
+    /// Names each exported call of the case, as often as it makes that call.
+    fn exported(&self, name: &mut dyn FnMut(&'static str));
+
     /// What the proved code leaves.
     fn by_port(&self) -> Self::Left;
 
@@ -287,6 +290,20 @@ pub fn other_noticed<T: Trial>(name: &str, case: &T, other: &T) -> Result<(), St
     }
 }
 
+/// Cases of an exported call, how many of them are fixed, and how many differ.
+#[derive(Clone, Copy, Default)]
+pub struct Count {
+    pub cases: u64,
+    pub fixed: u64,
+    pub differ: u64,
+}
+
+impl Count {
+    pub fn random(self) -> u64 {
+        self.cases - self.fixed
+    }
+}
+
 /// What was seen of one call.
 #[derive(Default)]
 pub struct Tally {
@@ -294,6 +311,8 @@ pub struct Tally {
     pub parts: u64,
     pub exhaustive: u64,
     pub classes: BTreeMap<&'static str, u64>,
+    /// By the name of the exported call: a case may make several.
+    pub exported: BTreeMap<&'static str, Count>,
     pub differ: bool,
 }
 
@@ -302,7 +321,13 @@ impl Tally {
     /// still does has been printed.
     pub fn tried<T: Trial>(&mut self, trial: &T) -> bool {
         self.cases += 1;
-        match trial.tried() {
+        let tried = trial.tried();
+        trial.exported(&mut |name| {
+            let count = self.exported.entry(name).or_default();
+            count.cases += 1;
+            count.differ += u64::from(tried.is_err());
+        });
+        match tried {
             Ok(met) => {
                 self.parts += met.parts;
                 for class in met.classes.into_iter().flatten() {
@@ -316,6 +341,13 @@ impl Tally {
                 println!("{}: DIFFERS: {how}\n{small}", T::NAME);
                 false
             }
+        }
+    }
+
+    /// What was tried so far is fixed: the short and the rare inputs.
+    pub fn fixed(&mut self) {
+        for count in self.exported.values_mut() {
+            count.fixed = count.cases;
         }
     }
 

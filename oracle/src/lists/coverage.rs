@@ -500,8 +500,27 @@ fn any_counts(random: &mut Random) -> [u16; 65] {
     })
 }
 
+/// A call of any kind, each as often as another.
+pub fn even_call(random: &mut Random, size: [u64; 2], count: u64) -> Asked {
+    let number = any_number(random, count);
+    match random.below(4) {
+        0 => Asked::Afresh,
+        1 => Asked::Add(any_corner(random, size)),
+        2 => Asked::Replace(number, any_corner(random, size)),
+        _ => Asked::Drop(number),
+    }
+}
+
+/// A call on a list of so many corners of an image of this size.
+type AnyCall = fn(&mut Random, [u64; 2], u64) -> Asked;
+
 /// So many calls on a list of up to so many corners, or now and then a longer one.
 pub fn any(random: &mut Random, corners: usize, calls: usize) -> Row {
+    any_of(random, corners, calls, any_call)
+}
+
+/// The same with calls of this kind.
+pub fn any_of(random: &mut Random, corners: usize, calls: usize, call: AnyCall) -> Row {
     let size = any_size(random);
     let given: Vec<Triple> = (0..random.below(corners + 1))
         .map(|_| any_corner(random, size))
@@ -513,7 +532,7 @@ pub fn any(random: &mut Random, corners: usize, calls: usize) -> Row {
     }
     let mut held = row.held.clone();
     for _ in 0..calls {
-        let asked = any_call(random, size, held.count);
+        let asked = call(random, size, held.count);
         row.calls.push(asked);
         rules::covered(size, &mut held, asked);
     }
