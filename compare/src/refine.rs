@@ -5,9 +5,9 @@ use crate::picture::{self, OfImage, Twice};
 use crate::port;
 use crate::scene::{self, Scene};
 use crate::trial::{self, alike, bits, flip, Lent, Met, Tally, Trial, PAINT_F};
-use oracle::lists::refine as known;
+use oracle::lists::{lent, refine as known};
 use oracle::random::Random;
-use oracle::types::{Image, Refined, Run};
+use oracle::types::{Image, LentOperator, Refined, Run};
 use oracle::{calls, padding, pictures, rules};
 use std::fmt::{self, Display, Formatter};
 use std::rc::Rc;
@@ -26,6 +26,8 @@ pub struct Refine {
     wanted: u32,
     /// Also by the call that builds its own operator.
     both: bool,
+    /// What the lent operator holds, where that is not the one of the radius.
+    lent: Option<Rc<LentOperator>>,
 }
 
 /// All that a call leaves.
@@ -50,10 +52,12 @@ impl Answer {
     }
 }
 
-/// What the call with a lent operator leaves, and the one that builds its own.
+/// What the call with a lent operator leaves, whether that operator is as before, and
+/// what the call that builds its own leaves.
 #[derive(Clone)]
 pub struct Left {
     with: Twice<Answer>,
+    operator_kept: bool,
     built: Option<Answer>,
 }
 
@@ -75,9 +79,28 @@ impl Operator {
     }
 }
 
+impl Operator {
+    /// What is lent: the one of the radius, or of these contents.
+    fn lent(contents: Option<&LentOperator>, radius: usize) -> Rc<Self> {
+        match contents {
+            None => OPERATORS.with(|all| all[radius.min(8)].clone()),
+            Some(op) => Rc::new(Operator {
+                columns: op.columns,
+                overlap: op.overlap,
+            }),
+        }
+    }
+
+    /// Whether these are its contents still, bit for bit.
+    fn holds(&self, op: &LentOperator) -> bool {
+        let same = |a: &[f32], b: &[f32]| a.iter().zip(b).all(|(a, b)| a.to_bits() == b.to_bits());
+        same(&self.columns, &op.columns) && same(&self.overlap, &op.overlap)
+    }
+}
+
 thread_local! {
     /// The operators of the radii 0 to 8; there is none of 0 and 8.
-    static OPERATORS: Vec<Operator> = (0..=8).map(Operator::of).collect();
+    static OPERATORS: Vec<Rc<Operator>> = (0..=8).map(|r| Rc::new(Operator::of(r))).collect();
 }
 
 /// Whether the lent operators are still as they were built.
@@ -167,10 +190,10 @@ impl Refine {
             Some(class) => met.and(class),
             None => met,
         };
-        let met = if self.both {
-            met.and("both calls")
-        } else {
-            met
+        let met = match (self.both, &self.lent) {
+            (true, _) => met.and("both calls"),
+            (_, Some(_)) => met.and("an operator of any content"),
+            _ => met,
         };
         if want.status >= 10 {
             return match rules::bad_seed(self.seed) {
@@ -194,7 +217,8 @@ impl Refine {
             2..=4 => "2 to 4 windows",
             5..=16 => "5 to 16 windows",
             17..=40 => "17 to 40 windows",
-            _ => "41 to 64 windows",
+            41..=63 => "41 to 63 windows",
+            _ => "64 windows",
         });
         if run.far > 0 {
             met.and("a window beyond 32 bits")
@@ -255,14 +279,17 @@ impl Display for Refine {
             bits(self.seed[1]),
             self.wanted
         )?;
+        if let Some(op) = &self.lent {
+            writeln!(f, "  a lent operator, columns and overlaps:")?;
+            f.write_str(&trial::record_lines(&op.columns, 5))?;
+            f.write_str(&trial::record_lines(&op.overlap, 5))?;
+        }
         self.scene.fmt(f)
     }
 }
 
 impl Trial for Refine {
     const NAME: &'static str = "refine";
-    // Two more are counted, and docs/DIFFERENCES.md says that no run was met: a
-    // covariance that is not finite, a window beyond 32 bits.
     const CLASSES: &'static [&'static str] = &[
         "0, converged",
         "0, not converged in 16 steps",
@@ -290,6 +317,7 @@ impl Trial for Refine {
         "seed far",
         "seed half-way",
         "both calls",
+        "an operator of any content",
         "radius 0",
         "radius 1",
         "radius 2",
@@ -301,13 +329,16 @@ impl Trial for Refine {
         "covariance not asked for",
         "covariance",
         "covariance asked for, not converged",
+        "covariance not finite",
         "no window: settled at the start",
         "1 window",
         "2 to 4 windows",
         "5 to 16 windows",
         "17 to 40 windows",
-        "41 to 64 windows",
+        "41 to 63 windows",
+        "64 windows",
         "a window beyond 8,192 pixels",
+        "a window beyond 32 bits",
         "slope by fresh fits",
         "more than nine fits",
     ];
@@ -327,26 +358,37 @@ impl Trial for Refine {
 
     fn by_port(&self) -> Left {
         let (image, s) = (&self.scene.image, self.scene.settings);
-        let with = OPERATORS.with(|all| {
-            let Operator { columns, overlap } = &all[s.radius.min(8)];
-            Twice::of(image, self.paint, |image| {
-                self.asked(|answer| {
-                    port::refine_with(image, s, self.seed, self.wanted, columns, overlap, answer)
-                })
+        let operator = Operator::lent(self.lent.as_deref(), s.radius);
+        let Operator { columns, overlap } = &*operator;
+        let with = Twice::of(image, self.paint, |image| {
+            self.asked(|answer| {
+                port::refine_with(image, s, self.seed, self.wanted, columns, overlap, answer)
             })
         });
+        let operator_kept = match self.lent.as_deref() {
+            Some(before) => operator.holds(before),
+            None => true,
+        };
         let alone = |image: port::Image<'_>| {
             self.asked(|answer| port::refine(image, s, self.seed, self.wanted, answer))
         };
         let other = self.paint.rotate_left(32);
         let built = self.both.then(|| picture::painted(image, other, alone));
-        Left { with, built }
+        Left {
+            with,
+            operator_kept,
+            built,
+        }
     }
 
     fn judged(&self, left: &Left) -> Result<Met, String> {
         let s = self.scene.for_oracle();
         let asked = self.wanted != 0;
-        let (want, run) = calls::refine_kept(self.scene.view(), &s, self.seed, asked);
+        let (want, run) = match &self.lent {
+            None => calls::refine_kept(self.scene.view(), &s, self.seed, asked),
+            Some(op) => calls::refine_lent_kept(self.scene.view(), &s, op, self.seed, asked),
+        };
+        trial::held("the lent operator kept:", left.operator_kept, true)?;
         let held = |answer: &Answer| self.held(answer, &want, &run);
         left.with.held(held, Answer::same_as)?;
         if let Some(built) = &left.built {
@@ -421,6 +463,7 @@ fn through(image: Image, radius: usize, seed: [f32; 2]) -> Refine {
         seed,
         wanted: 1,
         both: true,
+        lent: None,
     }
 }
 
@@ -430,27 +473,58 @@ pub fn pitches(tally: &mut Tally, random: &mut Random) -> bool {
     picture::pitches(tally, random, &seed)
 }
 
-/// Rare runs that a search of the oracle met: windows hundreds of millions of
-/// pixels away, 63 windows, steps that stop.
+/// Rare runs that a search of the oracle met: 64 windows, windows hundreds of
+/// millions of pixels away, steps that stop; and with lent operators a window beyond
+/// 32 bits and a covariance that is not finite.
 pub fn rare(tally: &mut Tally) -> bool {
     let mut met = known::met();
     let (stuck, at) = known::stuck_corner();
     met.push((stuck, 2, at));
-    met.into_iter()
-        .all(|(image, radius, seed)| tally.tried(&through(image, radius as usize, seed)))
+    let own = met
+        .into_iter()
+        .map(|(image, radius, seed)| through(image, radius as usize, seed));
+    own.chain(rare_lent()).all(|run| tally.tried(&run))
+}
+
+/// Those with lent operators.
+fn rare_lent() -> impl Iterator<Item = Refine> {
+    lent::met().into_iter().map(|run| Refine {
+        both: false,
+        lent: Some(Rc::new(run.operator)),
+        ..through(run.image, run.settings.radius as usize, run.seed)
+    })
 }
 
 /// A scene for some seeds: the operator of its radius and the image are made
 /// once.
 pub struct Scenes {
     scene: Scene,
+    lent: Option<Rc<LentOperator>>,
     left: u32,
 }
 
 impl Scenes {
+    /// In one of four an operator of any content is lent; now and then one of the
+    /// rare runs', with the image of that run.
     pub fn new(random: &mut Random) -> Self {
+        let mut scene = scene::any(random);
+        let lent = match random.below(64) {
+            0 => {
+                let rare = random.pick(&[0, 1]);
+                let run = rare_lent().nth(rare).expect("two of them");
+                scene.image = run.scene.image;
+                scene.settings.radius = run.scene.settings.radius;
+                run.lent
+            }
+            1..=15 => {
+                let radius = scene.settings.radius.min(8) as i32;
+                Some(Rc::new(lent::any_operator(random, radius)))
+            }
+            _ => None,
+        };
         Scenes {
-            scene: scene::any(random),
+            scene,
+            lent,
             left: SEEDS,
         }
     }
@@ -465,7 +539,8 @@ impl Scenes {
             seed: scene::any_seed(random, &self.scene),
             paint: random.word64(),
             wanted: random.pick(&[0, 1, 1, 1, 2, 1 << 31, u32::MAX]),
-            both: self.left == 0,
+            both: self.left == 0 && self.lent.is_none(),
+            lent: self.lent.clone(),
             scene: self.scene.clone(),
         }
     }
@@ -474,6 +549,7 @@ impl Scenes {
     pub fn both(&mut self, random: &mut Random) -> Refine {
         Refine {
             both: true,
+            lent: None,
             ..self.any(random)
         }
     }
@@ -528,6 +604,7 @@ pub fn faults_noticed() -> Result<(), String> {
             ("xx", |l| flip(&mut l.with.first.covariance.part()[0])),
             ("xy", |l| flip(&mut l.with.first.covariance.part()[1])),
             ("yy", |l| flip(&mut l.with.first.covariance.part()[2])),
+            ("a lent operator", |l| l.operator_kept = false),
             ("outside the place", |l| l.with.first.place.spoil()[3] = 0.0),
             ("outside the state", |l| l.with.first.state.spoil()[3] = 0),
             ("outside the covariance", |l| {

@@ -10,6 +10,7 @@ use crate::types::*;
 use crate::words::bits32;
 use crate::{any_ring, checked, plain};
 use std::cell::RefCell;
+use std::thread::LocalKey;
 
 /// The number of an answer, and who decided it.
 #[derive(Clone, Copy, Debug, PartialEq, Eq)]
@@ -160,14 +161,27 @@ pub fn refine_one(
     (answer, run, decided)
 }
 
+/// A refiner of each radius that is kept.
+type Kept = RefCell<[Option<plain::Counted>; 8]>;
+
 thread_local! {
-    /// The refiner of each radius, with its operator.
-    static KEPT: RefCell<[Option<plain::Counted>; 8]> = const { RefCell::new([const { None }; 8]) };
+    /// Those with their own operators, and those whose operators are lent.
+    static KEPT: Kept = const { RefCell::new([const { None }; 8]) };
+    static LENT: Kept = const { RefCell::new([const { None }; 8]) };
 }
 
 /// Runs with the kept refiner of these settings, which no number refuses.
 fn with_kept<T>(s: &Settings, covariance: bool, f: impl FnOnce(&mut plain::Counted) -> T) -> T {
-    KEPT.with_borrow_mut(|all| {
+    with_kept_of(&KEPT, s, covariance, f)
+}
+
+fn with_kept_of<T>(
+    all: &'static LocalKey<Kept>,
+    s: &Settings,
+    covariance: bool,
+    f: impl FnOnce(&mut plain::Counted) -> T,
+) -> T {
+    all.with_borrow_mut(|all| {
         let kept = &mut all[s.radius as usize];
         let kept = kept.get_or_insert_with(|| plain::Counted::new(s, covariance));
         kept.settle(s, covariance);
@@ -221,6 +235,67 @@ pub fn refine_kept(
         let (answer, run, _) = without_padding(image, |whole| seed_by(kept, whole, s, seed));
         (answer, run)
     })
+}
+
+/// One seed with a lent operator of any content, of which no number says anything:
+/// the answer, the counts of the run, and whether the Rust's own call panics.
+fn lent_by(
+    image: View<'_>,
+    s: &Settings,
+    op: &LentOperator,
+    seed: [f32; 2],
+    covariance: bool,
+) -> (Refined, Run, bool) {
+    with_kept_of(&LENT, s, covariance, |kept| {
+        kept.lend(s, op);
+        let (mut a, run, panics) = without_padding(image, |whole| kept.refine_lent(whole, seed));
+        let outside = rules::patch_leaves(image, s, seed);
+        hold((a.status == 2) == outside, "rule and Rust part on status 2");
+        if a.status == rules::ILL_CONDITIONED && s.radius != 0 {
+            a.status = rules::why_refused(s, a.score);
+        }
+        (a, run.unwrap_or_default(), panics)
+    })
+}
+
+/// `refine_kept` with a lent operator of any content.
+pub fn refine_lent_kept(
+    image: View<'_>,
+    s: &Settings,
+    op: &LentOperator,
+    seed: [f32; 2],
+    covariance: bool,
+) -> (Refined, Run) {
+    if let Some(number) = rules::seed_refusal(image, s, seed) {
+        return (refused_seed(number, seed), Run::default());
+    }
+    let (answer, run, _) = lent_by(image, s, op, seed, covariance);
+    (answer, run)
+}
+
+/// `refine_one` with a lent operator of any content.
+pub fn refine_lent(
+    image: View<'_>,
+    s: &Settings,
+    op: &LentOperator,
+    seed: [f32; 2],
+    covariance: bool,
+) -> (Refined, Run, Decided) {
+    if rules::seed_refusal(image, s, seed).is_some() {
+        return refine_one(image, s, seed, covariance);
+    }
+    let (answer, counts, panics) = lent_by(image, s, op, seed, covariance);
+    let by_checked = || {
+        let mut refiner = checked::Refiner::new(s, covariance);
+        refiner.lend(s, op);
+        without_padding(image, |whole| refiner.refine(whole, seed))
+    };
+    let decided = match panics {
+        true => Decided::RustPanics,
+        false if run(by_checked).is_none() => Decided::RustWraps,
+        false => Decided::ByRust,
+    };
+    (answer, counts, decided)
 }
 
 /// `refine_list` in the same way: the number and the corners.

@@ -1,7 +1,7 @@
 //! The smallest inputs of docs/DIFFERENCES.md, run on the Rust: each line
 //! bears the entry's number there and says what the Rust did.
 
-use crate::lists::refine;
+use crate::lists::{lent, refine};
 use crate::random::Random;
 use crate::rust_or_rule::{run, Decided};
 use crate::types::*;
@@ -16,6 +16,7 @@ pub fn all() -> Lines {
     far_seeds(&mut out);
     refiner(&mut out);
     refused_fits(&mut out);
+    far_base(&mut out);
     peaks(&mut out);
     merge(&mut out);
     gradient(&mut out);
@@ -179,6 +180,16 @@ fn far_seeds(out: &mut Lines) {
             out.push((line, statuses(radius, seed) == told));
         }
     }
+}
+
+/// A base that leaves 32 bits, which only a lent operator was seen to reach.
+fn far_base(out: &mut Lines) {
+    let [far, _] = lent::met();
+    let image = (&far.image).into();
+    let (a, run, decided) = calls::refine_lent(image, &far.settings, &far.operator, far.seed, true);
+    let line = "F17: with a lent operator a base leaves 32 bits: the Rust wraps, with checks it panics; the candidate is not taken";
+    let holds = a.status == 0 && run.far == 4 && run.stuck && decided == Decided::RustWraps;
+    out.push((line.to_string(), holds));
 }
 
 fn refiner(out: &mut Lines) {

@@ -113,6 +113,11 @@ impl Refiner {
         Refiner(probe::saddle_point::refiner(settings(s), covariance))
     }
 
+    /// Other contents for the operator, where the radius has one.
+    pub fn lend(&mut self, s: &Settings, op: &LentOperator) {
+        probe::saddle_point::lend(&mut self.0, &op.rows(s.radius));
+    }
+
     /// `SaddlePointRefiner::refine` on one seed; its estimator on a deep image.
     pub fn refine<'a>(&mut self, image: impl Into<View<'a>>, seed: [f32; 2]) -> Refined {
         let image = image.into();
@@ -235,6 +240,12 @@ impl Counted {
         self.refiner.refine_list(image, list)
     }
 
+    /// Other contents for the operator, where the radius has one.
+    pub fn lend(&mut self, s: &Settings, op: &LentOperator) {
+        self.refiner.lend(s, op);
+        self.mirror.lend(&op.rows(s.radius));
+    }
+
     /// As `refine_counted`.
     pub fn refine(&mut self, image: View<'_>, seed: [f32; 2]) -> (Refined, Option<Run>) {
         let answer = self.refiner.refine(image, seed);
@@ -242,59 +253,76 @@ impl Counted {
         if answer.status == 2 {
             return (answer, None);
         }
+        let mirrored = match image.deep {
+            None => self.mirror.run(&view(image), seed),
+            Some(_) => self.mirror.run_words(&words(image, &image.samples()), seed),
+        };
+        let run = self.held_by_mirror(&answer, mirrored);
+        (answer, run)
+    }
+
+    /// With an operator of any content: by the samples as words, where no test of a
+    /// patch wraps. The original on bytes gives the same, or it panics, which is
+    /// said. Ends the program where it gives something else.
+    pub fn refine_lent(
+        &mut self,
+        image: View<'_>,
+        seed: [f32; 2],
+    ) -> (Refined, Option<Run>, bool) {
+        let answer = self.refiner.refine_samples(image, seed);
+        let original = crate::rust_or_rule::run(|| self.refiner.refine(image, seed));
+        if original.is_some_and(|other| bits_of(&other) != bits_of(&answer)) {
+            crate::rust_or_rule::broken("a lent operator gives words another answer than bytes");
+        }
+        if answer.status == 2 {
+            return (answer, None, original.is_none());
+        }
+        let mirrored = self.mirror.run_words(&words(image, &image.samples()), seed);
+        let run = self.held_by_mirror(&answer, mirrored);
+        (answer, run, original.is_none())
+    }
+
+    /// What the mirror counts of an answer that is its own, bit for bit. Ends the
+    /// program where it is not.
+    fn held_by_mirror(
+        &self,
+        answer: &Refined,
+        mirrored: Result<probe::saddle_point::Mirrored, (f32, rust::RefineStatus)>,
+    ) -> Option<Run> {
         let same = |a: f32, b: f32| crate::words::bits32(a) == crate::words::bits32(b);
         let hold = |holds: bool, what: &str| {
             if !holds {
                 crate::rust_or_rule::broken(what);
             }
         };
-        let mirrored = match image.deep {
-            None => self.mirror.run(&view(image), seed),
-            Some(_) => self.mirror.run_words(&words(image, &image.samples()), seed),
-        };
-        match mirrored {
+        let m = match mirrored {
             Err((score, refused)) => {
                 hold(
                     status(refused) == answer.status && same(score, answer.score),
                     "the mirror refuses otherwise",
                 );
-                (answer, None)
+                return None;
             }
-            Ok(m) => {
-                hold(answer.status == 0, "the mirror accepts what was refused");
-                hold(
-                    same(m.xy[0], answer.x)
-                        && same(m.xy[1], answer.y)
-                        && same(m.score, answer.score),
-                    "the mirror finds another place",
-                );
-                hold(
-                    m.converged == answer.converged,
-                    "the mirror parts on convergence",
-                );
-                let asked = m.covariance.filter(|_| self.covariance);
-                hold(
-                    asked.map(|c| c.map(crate::words::bits32))
-                        == answer.covariance.map(|c| c.map(crate::words::bits32)),
-                    "the mirror finds another covariance",
-                );
-                let run = Run {
-                    tries: m.tries,
-                    steps: m.steps,
-                    newtons: m.newtons,
-                    far: m.far,
-                    fits: m.fits,
-                    stuck: m.stuck,
-                    fresh_slope: m.fresh_slope,
-                    reach: m.reach,
-                };
-                (answer, Some(run))
-            }
-        }
+            Ok(m) => m,
+        };
+        hold(answer.status == 0, "the mirror accepts what was refused");
+        hold(
+            same(m.xy[0], answer.x) && same(m.xy[1], answer.y) && same(m.score, answer.score),
+            "the mirror finds another place",
+        );
+        hold(
+            m.converged == answer.converged,
+            "the mirror parts on convergence",
+        );
+        let asked = m.covariance.filter(|_| self.covariance);
+        hold(
+            asked.map(|c| c.map(crate::words::bits32))
+                == answer.covariance.map(|c| c.map(crate::words::bits32)),
+            "the mirror finds another covariance",
+        );
+        Some(counts(&m))
     }
-}
 
-impl Counted {
     /// On bytes the estimator over words gives what the original gives, bit for
     /// bit: so it may judge the deep images. Ends the program where it does not.
     fn held_by_words(&mut self, image: View<'_>, seed: [f32; 2], answer: &Refined) {
@@ -302,27 +330,46 @@ impl Counted {
             return;
         }
         let again = self.refiner.refine_samples(image, seed);
-        let bits = |a: &Refined| {
-            let covariance = a.covariance.map(|c| c.map(crate::words::bits32));
-            let floats = [a.x, a.y, a.score].map(crate::words::bits32);
-            (a.status, floats, a.converged, covariance)
-        };
-        if bits(&again) != bits(answer) {
+        if bits_of(&again) != bits_of(answer) {
             crate::rust_or_rule::broken("words of bytes are refined otherwise than bytes");
         }
     }
 }
 
-/// The mirror alone, for a hunt: the greatest offset of a candidate.
-pub struct Reach(probe::saddle_point::Mirror);
+/// What an answer has, by its bits; one NaN is another.
+fn bits_of(a: &Refined) -> (u32, [u32; 3], bool, Option<[u32; 3]>) {
+    let covariance = a.covariance.map(|c| c.map(crate::words::bits32));
+    let floats = [a.x, a.y, a.score].map(crate::words::bits32);
+    (a.status, floats, a.converged, covariance)
+}
 
-impl Reach {
+/// What the mirror counted.
+fn counts(m: &probe::saddle_point::Mirrored) -> Run {
+    Run {
+        tries: m.tries,
+        steps: m.steps,
+        newtons: m.newtons,
+        far: m.far,
+        fits: m.fits,
+        stuck: m.stuck,
+        fresh_slope: m.fresh_slope,
+        reach: m.reach,
+    }
+}
+
+/// The mirror alone, for a hunt: what it counts, nothing where no seed is accepted.
+pub struct Alone(probe::saddle_point::Mirror);
+
+impl Alone {
     pub fn new(s: &Settings) -> Self {
-        Reach(probe::saddle_point::Mirror::new(settings(s)))
+        Alone(probe::saddle_point::Mirror::new(settings(s)))
     }
 
-    pub fn of<'a>(&self, image: impl Into<View<'a>>, seed: [f32; 2]) -> f32 {
-        self.0.reach(&view(image.into()), seed)
+    pub fn run<'a>(&self, image: impl Into<View<'a>>, seed: [f32; 2]) -> Run {
+        match self.0.run(&view(image.into()), seed) {
+            Ok(m) => counts(&m),
+            Err(_) => Run::default(),
+        }
     }
 }
 

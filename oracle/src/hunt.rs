@@ -1,7 +1,7 @@
 //! Looks for runs of the refiner that are hard to meet, and prints what it
 //! saw. Nothing of the lists comes from here.
 
-use crate::lists::refine;
+use crate::lists::{lent, refine};
 use crate::random::Random;
 use crate::rust_or_rule::run;
 use crate::types::*;
@@ -130,9 +130,9 @@ fn alternating(random: &mut Random, radius: usize) -> Option<(Image, [f32; 2])> 
 /// Looks on such pictures for a candidate far from its centre.
 pub fn far(turns: usize, seed: u64) {
     let mut random = Random::of(seed, "far");
-    let mirrors: Vec<plain::Reach> = (1..=3)
+    let mirrors: Vec<plain::Alone> = (1..=3)
         .map(|radius| {
-            plain::Reach::new(&Settings {
+            plain::Alone::new(&Settings {
                 radius,
                 det_margin: 0.0,
                 max_offset: 1e30,
@@ -148,7 +148,7 @@ pub fn far(turns: usize, seed: u64) {
             continue;
         };
         tried += 1;
-        let here = mirrors[radius - 1].of(&image, at);
+        let here = mirrors[radius - 1].run(&image, at).reach;
         long += usize::from(here > 1e6);
         if here > best {
             best = here;
@@ -157,5 +157,51 @@ pub fn far(turns: usize, seed: u64) {
     }
     println!(
         "{tried} pictures, {long} with a candidate beyond 1,000,000, farthest candidate {best}"
+    );
+}
+
+/// Looks on pictures of 32 by 30 at radius 7 for the most tries, by the picture's
+/// number.
+pub fn tries(turns: usize, seed: u64) {
+    let mirror = plain::Alone::new(&refine::through(7));
+    let mut most = 0;
+    for number in seed..seed + turns as u64 {
+        let (image, at) = refine::wide(number);
+        let here = mirror.run(&image, at).tries;
+        if here > most {
+            most = here;
+            println!("tries {most}: picture {number} {at:?}");
+        }
+        if most == 64 {
+            return;
+        }
+    }
+    println!("{turns} pictures, most tries {most}");
+}
+
+/// Looks among lent operators of any content, by the number of the run, for a base
+/// that leaves 32 bits and for a seed that converged after steps without a finite
+/// covariance, though the operator is finite.
+pub fn lent(turns: usize, seed: u64) {
+    let (mut accepted, mut far, mut not_finite) = (0, 0, 0);
+    for number in seed..seed + turns as u64 {
+        let case = lent::numbered(number);
+        let (a, run) = case.run();
+        accepted += usize::from(a.status == 0);
+        if run.far > 0 {
+            far += 1;
+            println!("a base leaves 32 bits: number {number} {a:?} {run:?}");
+        }
+        let op = &case.operator;
+        let finite = op.columns.iter().chain(&op.overlap).all(|v| v.is_finite());
+        if a.converged && a.covariance.is_none() && run.steps > 0 && finite {
+            not_finite += 1;
+            if not_finite <= 5 {
+                println!("covariance not finite: number {number} {a:?} {run:?}");
+            }
+        }
+    }
+    println!(
+        "{turns} runs, {accepted} accepted, {far} with a base beyond 32 bits, {not_finite} covariances not finite after steps"
     );
 }

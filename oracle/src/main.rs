@@ -2,8 +2,8 @@
 //! `oracle marked` runs document 01's examples and shortcuts on the Rust.
 //! `oracle differences` runs the smallest inputs of docs/DIFFERENCES.md on it.
 //! `oracle road FOLDER` writes the board of examples/ and its corners.
-//! `oracle hunt TURNS SEED` and `oracle far TURNS SEED` look for runs of the
-//! refiner that are hard to meet.
+//! `oracle hunt TURNS SEED`, and in its place `far`, `tries` or `lent`, look for
+//! runs of the refiner that are hard to meet.
 
 use std::path::Path;
 use std::process::ExitCode;
@@ -52,6 +52,22 @@ fn said(lines: Vec<(String, bool)>) -> bool {
     lines.iter().all(|(_, holds)| *holds)
 }
 
+/// A hunt by its name.
+fn hunted(name: &str) -> Option<fn(usize, u64)> {
+    match name {
+        "hunt" => Some(oracle::hunt::all),
+        "far" => Some(oracle::hunt::far),
+        "tries" => Some(oracle::hunt::tries),
+        "lent" => Some(oracle::hunt::lent),
+        _ => None,
+    }
+}
+
+fn usage() -> bool {
+    eprintln!("oracle: write FOLDER [SEED], road FOLDER, marked, differences, or hunt, far, tries or lent with TURNS SEED");
+    false
+}
+
 fn main() -> ExitCode {
     oracle::rust_or_rule::quiet();
     let args: Vec<String> = std::env::args().skip(1).collect();
@@ -65,24 +81,14 @@ fn main() -> ExitCode {
         ["road", folder] => road(Path::new(folder)),
         ["marked"] => said(oracle::marked::all()),
         ["differences"] => said(oracle::differences::all()),
-        ["hunt", turns, seed] if number(turns).is_some() && number(seed).is_some() => {
-            oracle::hunt::all(
-                number(turns).unwrap_or(0) as usize,
-                number(seed).unwrap_or(0),
-            );
-            true
-        }
-        ["far", turns, seed] if number(turns).is_some() && number(seed).is_some() => {
-            oracle::hunt::far(
-                number(turns).unwrap_or(0) as usize,
-                number(seed).unwrap_or(0),
-            );
-            true
-        }
-        _ => {
-            eprintln!("oracle: write FOLDER [SEED], road FOLDER, marked, differences, hunt TURNS SEED, or far TURNS SEED");
-            false
-        }
+        [hunt, turns, seed] => match (hunted(hunt), number(turns), number(seed)) {
+            (Some(hunt), Some(turns), Some(seed)) => {
+                hunt(turns as usize, seed);
+                true
+            }
+            _ => usage(),
+        },
+        _ => usage(),
     };
     if good {
         ExitCode::SUCCESS

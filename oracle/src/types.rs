@@ -202,6 +202,25 @@ pub struct Operator {
     pub inverse: [[f64; 6]; 6],
 }
 
+/// An operator that is lent, of any content: five numbers a sample of radius 7, of
+/// which a radius uses the first, and nine overlaps of 5 by 5.
+#[derive(Clone, Debug)]
+pub struct LentOperator {
+    pub columns: [f32; 1125],
+    pub overlap: [f32; 225],
+}
+
+impl LentOperator {
+    /// The five numbers of each sample of a radius, and the overlaps.
+    pub fn rows(&self, radius: i32) -> (Vec<[f32; 5]>, [[[f32; 5]; 5]; 9]) {
+        let side = (2 * radius + 1) as usize;
+        let rows = self.columns.as_chunks().0[..side * side].to_vec();
+        let at = |k: usize, i: usize| core::array::from_fn(|j| self.overlap[25 * k + 5 * i + j]);
+        let overlap = core::array::from_fn(|k| core::array::from_fn(|i| at(k, i)));
+        (rows, overlap)
+    }
+}
+
 /// What the mirror of the steps counts. Tries are the candidates tried; far
 /// ones have a base that leaves 32 bits; reach is the greatest offset of one.
 #[derive(Clone, Copy, Debug, Default)]

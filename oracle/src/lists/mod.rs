@@ -12,6 +12,7 @@ pub mod fallback;
 pub mod floats;
 pub mod gradient;
 pub mod graymap;
+pub mod lent;
 pub mod merge;
 pub mod merge_print;
 pub mod operator;
@@ -34,6 +35,7 @@ pub const ALL: &[Writer] = &[
     ("order64", floats::order64),
     ("response", response::list),
     ("refine", refine::list),
+    ("lent", lent::list),
     ("refine_list", refine_list::list),
     ("fallback", fallback::list),
     ("merge", merge::list),
@@ -61,6 +63,7 @@ pub const ENOUGH: usize = 120_000;
 const REACHED: &[(&str, &[u32])] = &[
     ("response", &[0, 10, 11, 13, 14, 15]),
     ("refine", &[0, 1, 2, 3, 4, 5, 6, 7, 10, 11, 12]),
+    ("lent", &[0, 1, 2, 3, 4, 5, 6, 7]),
     ("refine_list", &[0, 10, 11, 12, 15, 16, 19]),
     ("fallback", &[0, 10, 11, 12, 15, 16, 19]),
     ("merge", &[0, 16, 17, 18, 19]),
@@ -107,8 +110,18 @@ pub fn missing(list: &List) -> Vec<String> {
                 "below the tolerance, not converged",
                 "converged, with covariance",
                 "run of 16 steps",
+                "tries 64",
                 "run with a Newton step",
                 "run with more fits than the cache holds",
+            ]
+            .map(String::from),
+        ),
+        "lent" => wanted.extend(
+            [
+                "accepted, not converged",
+                "converged, with covariance",
+                "converged, covariance asked for and not finite",
+                "run with a base that leaves 32 bits",
             ]
             .map(String::from),
         ),

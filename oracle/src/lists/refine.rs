@@ -2,18 +2,17 @@
 //! seeds.
 
 use super::*;
+use crate::rust_or_rule::Decided;
 use crate::{pictures, plain};
 
-/// One seed's record: 14 words.
-fn put_seed(
+/// One seed's record, 14 words, by its answer, the counts of its run and who decided.
+pub fn put_seed(
     list: &mut List,
     case: &mut Case,
-    image: &Image,
-    s: &Settings,
     seed: [f32; 2],
     covariance: bool,
+    (a, run, decided): (Refined, Run, Decided),
 ) {
-    let (a, run, decided) = calls::refine_one(image.into(), s, seed, covariance);
     case.floats(&seed);
     let number = a.status;
     put_decision(case, Decision { number, decided });
@@ -29,44 +28,43 @@ fn put_seed(
     if a.status == 0 {
         assert!(a.score > 0.0, "an accepted score is above zero");
         assert!(run.tries <= 64);
-        list.tally(match run.tries {
-            0 => "tries 0",
-            1 => "tries 1",
-            2..=4 => "tries 2 to 4",
-            5..=16 => "tries 5 to 16",
-            17..=40 => "tries 17 to 40",
-            41..=63 => "tries 41 to 63",
-            _ => "tries 64",
-        });
-        list.tally(match (a.converged, covariance, a.covariance.is_some()) {
-            (false, _, _) => "accepted, not converged",
-            (true, false, _) => "converged, covariance not asked for",
-            (true, true, false) => "converged, covariance asked for and not finite",
-            (true, true, true) => "converged, with covariance",
-        });
-        if run.newtons > 0 {
-            list.tally("run with a Newton step");
-        }
-        if run.stuck {
-            list.tally("run that stops: no candidate taken");
-        }
-        if run.steps == 16 {
-            list.tally("run of 16 steps");
-        }
-        if run.fits > 9 {
-            list.tally("run with more fits than the cache holds");
-        }
-        if run.far > 0 {
-            list.tally("run with a base that leaves 32 bits");
-        }
-        if run.reach >= 8192.0 {
-            list.tally("run with a candidate farther than 8,192 pixels");
-        }
-        if run.fresh_slope {
-            list.tally("slope without the four cached fits");
-        }
-        if !a.converged && !run.stuck && run.steps < 16 {
-            list.tally("below the tolerance, not converged");
+        tally_run(list, &a, &run, covariance);
+    }
+}
+
+/// The counts of an accepted seed's run.
+fn tally_run(list: &mut List, a: &Refined, run: &Run, covariance: bool) {
+    list.tally(match run.tries {
+        0 => "tries 0",
+        1 => "tries 1",
+        2..=4 => "tries 2 to 4",
+        5..=16 => "tries 5 to 16",
+        17..=40 => "tries 17 to 40",
+        41..=63 => "tries 41 to 63",
+        _ => "tries 64",
+    });
+    list.tally(match (a.converged, covariance, a.covariance.is_some()) {
+        (false, _, _) => "accepted, not converged",
+        (true, false, _) => "converged, covariance not asked for",
+        (true, true, false) => "converged, covariance asked for and not finite",
+        (true, true, true) => "converged, with covariance",
+    });
+    let below = !a.converged && !run.stuck && run.steps < 16;
+    for (holds, what) in [
+        (run.newtons > 0, "run with a Newton step"),
+        (run.stuck, "run that stops: no candidate taken"),
+        (run.steps == 16, "run of 16 steps"),
+        (run.fits > 9, "run with more fits than the cache holds"),
+        (run.far > 0, "run with a base that leaves 32 bits"),
+        (
+            run.reach >= 8192.0,
+            "run with a candidate farther than 8,192 pixels",
+        ),
+        (run.fresh_slope, "slope without the four cached fits"),
+        (below, "below the tolerance, not converged"),
+    ] {
+        if holds {
+            list.tally(what);
         }
     }
 }
@@ -77,7 +75,8 @@ fn write(list: &mut List, image: &Image, s: &Settings, seeds: &[[f32; 2]], covar
     put_settings(&mut case, s);
     case.flag(covariance).count(seeds.len());
     for &seed in seeds {
-        put_seed(list, &mut case, image, s, seed, covariance);
+        let found = calls::refine_one(image.into(), s, seed, covariance);
+        put_seed(list, &mut case, seed, covariance, found);
     }
     list.push(&case);
     list.tally(format!("cases of radius {}", s.radius));
@@ -125,9 +124,38 @@ fn digits(rows: &[&str], step: u8) -> Image {
     Image::new(rows[0].len(), rows.len(), bytes)
 }
 
-/// Runs met by `oracle hunt` and `oracle far`: picture, radius, seed.
+/// Settings that let everything through.
+pub fn through(radius: i32) -> Settings {
+    Settings {
+        radius,
+        det_margin: 0.0,
+        max_offset: 1e30,
+        min_abs_det: 0.0,
+    }
+}
+
+/// The number of the picture with 64 tries, the first found by `oracle tries`.
+const MOST_TRIES: u64 = 894_527;
+
+/// A picture of 32 by 30 by its number, and a seed about its middle.
+pub fn wide(number: u64) -> (Image, [f32; 2]) {
+    let mut random = Random::of(number, "wide");
+    let image = match random.below(4) {
+        0 => pictures::noise(&mut random, 32, 30),
+        1 => pictures::few_levels(&mut random, 32, 30, &[0, 255]),
+        2 => pictures::few_levels(&mut random, 32, 30, &[0, 0, 0, 1, 2]),
+        _ => pictures::any(&mut random, 32, 30),
+    };
+    let at = [8.0 + 16.0 * random.unit(), 8.0 + 14.0 * random.unit()];
+    (image, at)
+}
+
+/// Runs met by `oracle hunt`, `oracle far` and `oracle tries`: picture, radius, seed.
 pub fn met() -> Vec<(Image, i32, [f32; 2])> {
+    let (most, seed) = wide(MOST_TRIES);
     vec![
+        // 64 tries.
+        (most, 7, seed),
         // Candidates 368,377,800, 55,924,068, 13,421,770 and 5,592,405
         // pixels away.
         (
@@ -574,13 +602,7 @@ pub fn list(seed: u64) -> List {
     let (stuck, at) = stuck_corner();
     write(&mut list, &stuck, &stuck_settings(), &[at], true);
     for (image, radius, at) in met() {
-        let s = Settings {
-            radius,
-            det_margin: 0.0,
-            max_offset: 1e30,
-            min_abs_det: 0.0,
-        };
-        write(&mut list, &image, &s, &[at], true);
+        write(&mut list, &image, &through(radius), &[at], true);
     }
     rare_runs(&mut list, seed);
     let mut random = Random::of(seed, "refine");

@@ -92,6 +92,20 @@ pub fn settle(refiner: &mut SaddlePointRefiner, cfg: SaddlePointConfig, reports:
     refiner.reports_covariance = reports;
 }
 
+/// An operator of other contents.
+fn lent((columns, overlap): &Operator) -> FitOperator {
+    FitOperator {
+        columns: columns.clone(),
+        overlap: Box::new(*overlap),
+    }
+}
+
+/// Other contents for the operator of a refiner; where there is none, there is
+/// none still.
+pub fn lend(refiner: &mut SaddlePointRefiner, op: &Operator) {
+    refiner.fit_op = refiner.fit_op.take().map(|_| lent(op));
+}
+
 /// Twelve-bit samples for the Rust's own estimator, which reads an image through
 /// its private `Pixels` (W-212): rows without padding.
 pub struct Words<'a> {
@@ -213,6 +227,11 @@ impl Mirror {
         self.cfg = cfg;
     }
 
+    /// Other contents for the operator, as `lend` has it.
+    pub fn lend(&mut self, op: &Operator) {
+        self.op = self.op.take().map(|_| lent(op));
+    }
+
     pub fn run(
         &self,
         image: &ImageView<'_>,
@@ -234,11 +253,6 @@ impl Mirror {
             Some(op) => mirror_with(op, &self.cfg, words, seed),
             None => Err((0.0, RefineStatus::IllConditioned)),
         }
-    }
-
-    /// The greatest offset of a candidate, 0 where no seed is accepted.
-    pub fn reach(&self, image: &ImageView<'_>, seed: [f32; 2]) -> f32 {
-        self.run(image, seed).map_or(0.0, |m| m.reach)
     }
 }
 
