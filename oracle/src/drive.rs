@@ -289,22 +289,23 @@ impl Counted {
         answer: &Refined,
         mirrored: Result<probe::saddle_point::Mirrored, (f32, rust::RefineStatus)>,
     ) -> Option<Run> {
-        let same = |a: f32, b: f32| crate::words::bits32(a) == crate::words::bits32(b);
-        let hold = |holds: bool, what: &str| {
-            if !holds {
-                crate::rust_or_rule::broken(what);
-            }
-        };
-        let m = match mirrored {
+        match mirrored {
             Err((score, refused)) => {
                 hold(
                     status(refused) == answer.status && same(score, answer.score),
                     "the mirror refuses otherwise",
                 );
-                return None;
+                None
             }
-            Ok(m) => m,
-        };
+            Ok(m) => {
+                self.held_alike(answer, &m);
+                Some(counts(&m))
+            }
+        }
+    }
+
+    /// An accepted answer is the mirror's.
+    fn held_alike(&self, answer: &Refined, m: &probe::saddle_point::Mirrored) {
         hold(answer.status == 0, "the mirror accepts what was refused");
         hold(
             same(m.xy[0], answer.x) && same(m.xy[1], answer.y) && same(m.score, answer.score),
@@ -320,7 +321,6 @@ impl Counted {
                 == answer.covariance.map(|c| c.map(crate::words::bits32)),
             "the mirror finds another covariance",
         );
-        Some(counts(&m))
     }
 
     /// On bytes the estimator over words gives what the original gives, bit for
@@ -334,6 +334,18 @@ impl Counted {
             crate::rust_or_rule::broken("words of bytes are refined otherwise than bytes");
         }
     }
+}
+
+/// Ends the program where a check of the oracle does not hold.
+fn hold(holds: bool, what: &str) {
+    if !holds {
+        crate::rust_or_rule::broken(what);
+    }
+}
+
+/// The same bits; one NaN is another.
+fn same(a: f32, b: f32) -> bool {
+    crate::words::bits32(a) == crate::words::bits32(b)
 }
 
 /// What an answer has, by its bits; one NaN is another.
