@@ -1,7 +1,8 @@
 //! The tie's rows: places about their own corners, among others. The Rust has
 //! no such call, so beside it stands its rule in a plain loop.
 
-use super::{in_turn, ratio, timed, Times};
+use super::times::Times;
+use super::{in_turn, ratio, timed};
 use crate::port;
 use oracle::random::Random;
 use oracle::types::{Board, Triple};
@@ -122,16 +123,15 @@ fn row(r: &Row) -> bool {
 }
 
 fn told(r: &Row, inner: usize, t: &[Times]) {
-    let each = |times: &Times| times.part(50) * 1e6 / (r.at_once * inner) as f64;
     println!(
-        "| tie {}: {inner} places, {} corners | {} | {} | {} | {:.0} | {:.0} |",
+        "| tie {}: {inner} places, {} corners | {} | {} | {} | {} | {} |",
         r.name,
         r.corners,
         t[0].told(),
         t[1].told(),
         ratio(&t[0], &t[1]),
-        each(&t[0]),
-        each(&t[1]),
+        t[0].each(r.at_once * inner),
+        t[1].each(r.at_once * inner),
     );
 }
 

@@ -1,7 +1,7 @@
 //! The coverage's rows: one update of lists of several lengths. The Rust has no
 //! such calls, so beside each stands its rule in plain Rust.
 
-use super::{in_turn, ratio, timed, Times};
+use super::{in_turn, ratio, timed};
 use crate::port::{self, ROOM};
 use oracle::random::Random;
 use oracle::types::{Asked, Triple};
@@ -136,14 +136,13 @@ fn row(name: &str, count: usize, asked: &[Asked], at_once: usize) -> bool {
     };
     let mut plain_side = || timed(|| calls_of(&mut theirs, in_plain, asked, at_once)).0;
     let t = in_turn(&mut [&mut port_side, &mut plain_side], 401);
-    let each = |times: &Times| times.part(50) * 1e6 / at_once as f64;
     println!(
-        "| {name}, {count} corners, {at_once} calls | {} | {} | {} | {:.1} | {:.1} |",
+        "| {name}, {count} corners, {at_once} calls | {} | {} | {} | {} | {} |",
         t[0].told(),
         t[1].told(),
         ratio(&t[0], &t[1]),
-        each(&t[0]),
-        each(&t[1]),
+        t[0].each(at_once),
+        t[1].each(at_once),
     );
     let bits = |h: &Held| h.list.map(f32::to_bits);
     well && bits(&ours) == bits(&theirs) && ours.counts == theirs.counts

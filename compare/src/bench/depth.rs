@@ -2,7 +2,8 @@
 //! above 4095 is timed by a call that is refused with 11 straight after it.
 
 use super::refine::{settings, Board, LISTS, SEEDS};
-use super::{in_turn, ratio, timed, Times};
+use super::times::Times;
+use super::{in_turn, ratio, timed};
 use crate::port;
 use oracle::calls;
 use oracle::random::Random;

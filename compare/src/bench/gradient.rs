@@ -2,7 +2,7 @@
 //! Rust makes its stencil once for a tile, the port's call once for each cell,
 //! so beside it stands the Rust with a stencil for each cell too.
 
-use super::{in_turn, ratio, timed, Times};
+use super::{in_turn, ratio, timed};
 use crate::port;
 use oracle::plain::Gradients;
 use oracle::random::Random;
@@ -55,17 +55,16 @@ fn row(side: u32) -> bool {
         timed(|| (0..rounds).for_each(all)).0
     };
     let t = in_turn(&mut [&mut by_port, &mut by_rust, &mut by_rust_anew], 201);
-    let each = |times: &Times| times.part(50) * 1e6 / calls as f64;
     println!(
-        "| gradient at {} cells of a tile of {side}, {calls} calls | {} | {} | {} | {} | {:.0} | {:.0} | {:.0} |",
+        "| gradient at {} cells of a tile of {side}, {calls} calls | {} | {} | {} | {} | {} | {} | {} |",
         places.len(),
         t[0].told(),
         t[1].told(),
         ratio(&t[0], &t[1]),
         ratio(&t[0], &t[2]),
-        each(&t[0]),
-        each(&t[1]),
-        each(&t[2]),
+        t[0].each(calls),
+        t[1].each(calls),
+        t[2].each(calls),
     );
     same
 }

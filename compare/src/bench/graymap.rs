@@ -2,7 +2,7 @@
 //! The Rust has no such call, so beside it stands a plain loop that tests every
 //! sample.
 
-use super::{in_turn, ratio, timed, Times};
+use super::{in_turn, ratio, timed};
 use crate::port;
 use oracle::random::Random;
 use oracle::rules;
@@ -40,14 +40,13 @@ fn row(maximum: u8) -> bool {
         || timed(|| (0..AT_ONCE).all(|_| port::graymap(black_box(&file), &mut given) == 0)).0;
     let mut by_loop = || timed(|| (0..AT_ONCE).all(|_| in_a_loop(black_box(&file)).is_some())).0;
     let t = in_turn(&mut [&mut by_port, &mut by_loop], 201);
-    let each = |times: &Times| times.part(50) * 1e6 / (AT_ONCE * WIDTH * HEIGHT) as f64;
     println!(
-        "| graymap {WIDTH} by {HEIGHT}, maximum {maximum}, {AT_ONCE} calls | {} | {} | {} | {:.3} | {:.3} |",
+        "| graymap {WIDTH} by {HEIGHT}, maximum {maximum}, {AT_ONCE} calls | {} | {} | {} | {} | {} |",
         t[0].told(),
         t[1].told(),
         ratio(&t[0], &t[1]),
-        each(&t[0]),
-        each(&t[1]),
+        t[0].each(AT_ONCE * WIDTH * HEIGHT),
+        t[1].each(AT_ONCE * WIDTH * HEIGHT),
     );
     let want = [WIDTH, HEIGHT, usize::from(maximum)];
     [given.width, given.height, given.maximum] == want && given.start + WIDTH * HEIGHT == file.len()

@@ -1,7 +1,7 @@
 //! The refiner's rows: lists, operators, single seeds.
 
 use super::pitch::{self, Call};
-use super::{in_turn, of_rust, ratio, timed, Times};
+use super::{in_turn, of_rust, ratio, timed};
 use crate::{picture, port};
 use oracle::plain::original as rust;
 use oracle::random::Random;
@@ -109,11 +109,6 @@ pub fn settings(radius: i32) -> (Settings, port::Settings, rust::SaddlePointConf
     (s, lent, config)
 }
 
-/// Nanoseconds of one of `count`, by the median.
-fn each(times: &Times, count: usize) -> f64 {
-    times.part(50) * 1e6 / count as f64
-}
-
 fn list(board: &Board, near: bool, radius: i32) -> bool {
     let name = if near { "near corners" } else { "anywhere" };
     let mut random = Random::of(3, name);
@@ -149,14 +144,14 @@ fn list(board: &Board, near: bool, radius: i32) -> bool {
     let t = in_turn(&mut [&mut by_port, &mut by_built, &mut by_kept], 20 * LISTS);
     call(0);
     println!(
-        "| list {name}, radius {radius}: {SEEDS} to {count} | {} | {} | {} | {} | {} | {:.0} | {:.0} |",
+        "| list {name}, radius {radius}: {SEEDS} to {count} | {} | {} | {} | {} | {} | {} | {} |",
         t[0].told(),
         t[1].told(),
         ratio(&t[0], &t[1]),
         t[2].told(),
         ratio(&t[0], &t[2]),
-        each(&t[0], SEEDS),
-        each(&t[1], SEEDS),
+        t[0].each(SEEDS),
+        t[1].each(SEEDS),
     );
     let (_, want) = calls::refine_list(board.view(), &s, &floats[0], 3 * SEEDS);
     count == want.len() && calls::same_floats(&out[..3 * count], &want.concat())
@@ -211,9 +206,9 @@ fn operator(radius: i32) -> bool {
     };
     let t = in_turn(&mut [&mut by_port, &mut by_rust], 400);
     println!(
-        "| operator, radius {radius} | {:.0} | {:.0} | {} |",
-        each(&t[0], BUILT),
-        each(&t[1], BUILT),
+        "| operator, radius {radius} | {} | {} | {} |",
+        t[0].told_each(BUILT),
+        t[1].told_each(BUILT),
         ratio(&t[0], &t[1]),
     );
     let want = calls::operator(radius).expect("an operator");
@@ -273,11 +268,11 @@ fn single(board: &Board, radius: i32, covariance: bool) -> bool {
     let t = in_turn(&mut [&mut by_port, &mut by_rust, &mut by_estimate], 100);
     let asked = if covariance { "with" } else { "without" };
     println!(
-        "| one seed, radius {radius}, {asked} covariance | {:.0} | {:.0} | {} | {:.0} | {} |",
-        each(&t[0], SEEDS),
-        each(&t[1], SEEDS),
+        "| one seed, radius {radius}, {asked} covariance | {} | {} | {} | {} | {} |",
+        t[0].told_each(SEEDS),
+        t[1].told_each(SEEDS),
         ratio(&t[0], &t[1]),
-        each(&t[2], SEEDS),
+        t[2].told_each(SEEDS),
         ratio(&t[0], &t[2]),
     );
     seeds.iter().all(|seed| {
@@ -307,10 +302,10 @@ pub fn tables() -> bool {
     for radius in [2, 7] {
         same &= padded_list(&board, radius);
     }
-    println!("\nNanoseconds, by the medians.\n");
+    println!("\nNanoseconds of one.\n");
     println!("| call | ours | the Rust's | ours / Rust |");
     println!("|---|---|---|---|");
-    for radius in [2, 7] {
+    for radius in 1..=7 {
         same &= operator(radius);
     }
     println!("\n| call | ours | the Rust's `refine` | ours / Rust | the Rust's estimate alone | ours / estimate |");

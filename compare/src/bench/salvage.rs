@@ -1,7 +1,7 @@
 //! The salvage's rows: files of 4,096 records. The Rust has no such call, so
 //! beside it stands its rule in a plain loop.
 
-use super::{in_turn, ratio, timed, Times};
+use super::{in_turn, ratio, timed};
 use crate::port;
 use oracle::calls;
 use oracle::random::Random;
@@ -121,15 +121,14 @@ fn row(r: &Row) -> bool {
         timed(|| (0..AT_ONCE).all(call)).0
     };
     let t = in_turn(&mut [&mut by_port, &mut by_loop], 401);
-    let each = |times: &Times| times.part(50) * 1e6 / (AT_ONCE * RECORDS) as f64;
     println!(
-        "| salvage {RECORDS} records, {}, {AT_ONCE} calls | {} | {} | {} | {:.2} | {:.2} |",
+        "| salvage {RECORDS} records, {}, {AT_ONCE} calls | {} | {} | {} | {} | {} |",
         r.name,
         t[0].told(),
         t[1].told(),
         ratio(&t[0], &t[1]),
-        each(&t[0]),
-        each(&t[1]),
+        t[0].each(AT_ONCE * RECORDS),
+        t[1].each(AT_ONCE * RECORDS),
     );
     ours == theirs
         && ours.0[..saved.kept.len()] == saved.kept
