@@ -8,6 +8,7 @@ mod depth;
 mod fallback;
 mod gradient;
 mod graymap;
+mod growth;
 mod merge;
 mod peaks;
 mod pitch;
@@ -22,7 +23,7 @@ use times::{in_turn, ratio, timed, Side};
 /// A table by its name.
 type Table = (&'static str, fn() -> bool);
 
-const TABLES: [Table; 11] = [
+const TABLES: [Table; 12] = [
     ("response", response::table),
     ("peaks", peaks::table),
     ("merge", merge::table),
@@ -34,6 +35,7 @@ const TABLES: [Table; 11] = [
     ("coverage", coverage::table),
     ("gradient", gradient::table),
     ("depth", depth::table),
+    ("growth", growth::table),
 ];
 
 /// Prints the tables, or one of them by its name. `false` where the two sides

@@ -1,55 +1,107 @@
-//! The reader's rows: an image of 640 by 480 without a sample above the maximum.
-//! The Rust has no such call, so beside it stands a plain loop that tests every
-//! sample.
+//! The readers' rows: images without a sample above the maximum. The Rust has no
+//! such calls, so beside each stands a plain loop that tests every sample.
 
-use super::{in_turn, ratio, timed};
+use super::times::{timed_all, Times};
+use super::{in_turn, ratio};
 use crate::port;
 use oracle::random::Random;
 use oracle::rules;
 use std::hint::black_box;
 
-const WIDTH: usize = 640;
-const HEIGHT: usize = 480;
-
 /// Calls in one timing.
 const AT_ONCE: usize = 16;
 
-fn file(maximum: u8) -> Vec<u8> {
+fn head([width, height]: [usize; 2], maximum: u16) -> Vec<u8> {
+    format!("P5\n{width} {height}\n{maximum}\n").into_bytes()
+}
+
+/// A file of one byte a sample, or two where the maximum asks for them.
+pub fn file(size: [usize; 2], maximum: u16) -> Vec<u8> {
     let mut random = Random::of(u64::from(maximum), "bench");
-    let mut file = format!("P5\n{WIDTH} {HEIGHT}\n{maximum}\n").into_bytes();
-    let sample = |_| random.below(usize::from(maximum) + 1) as u8;
-    file.extend((0..WIDTH * HEIGHT).map(sample));
+    let mut file = head(size, maximum);
+    for _ in 0..size[0] * size[1] {
+        let sample = random.below(usize::from(maximum) + 1) as u16;
+        match maximum > 255 {
+            true => file.extend(sample.to_be_bytes()),
+            false => file.push(sample as u8),
+        }
+    }
     file
 }
 
+/// The first sample above the maximum, where there is one.
+type Read = Result<[u64; 3], usize>;
+
 /// The header by the rules, and then every sample.
-fn in_a_loop(file: &[u8]) -> Option<[u64; 3]> {
+pub fn in_a_loop(file: &[u8]) -> Option<Read> {
     let (numbers, pixels) = rules::header(rules::behind_magic(file)?)?;
-    for sample in pixels {
+    for (k, sample) in pixels.iter().enumerate() {
         if u64::from(*sample) > numbers[2] {
-            return None;
+            return Some(Err(k));
         }
     }
-    Some(numbers)
+    Some(Ok(numbers))
 }
 
-fn row(maximum: u8) -> bool {
-    let file = file(maximum);
+/// The same of samples of two bytes: first the test, since a refusal writes none.
+pub fn deep_in_a_loop(file: &[u8], out: &mut [u16]) -> Option<Read> {
+    let (numbers, pixels) = rules::header(rules::behind_magic(file)?)?;
+    let words = || {
+        pixels
+            .chunks_exact(2)
+            .map(|b| u16::from_be_bytes([b[0], b[1]]))
+    };
+    for (k, sample) in words().enumerate() {
+        if u64::from(sample) > numbers[2] {
+            return Some(Err(k));
+        }
+    }
+    for (to, sample) in out.iter_mut().zip(words()) {
+        *to = sample;
+    }
+    Some(Ok(numbers))
+}
+
+fn row(size: [usize; 2], maximum: u16) -> bool {
+    let file = file(size, maximum);
     let mut given = port::Given::painted(0);
-    let mut by_port =
-        || timed(|| (0..AT_ONCE).all(|_| port::graymap(black_box(&file), &mut given) == 0)).0;
-    let mut by_loop = || timed(|| (0..AT_ONCE).all(|_| in_a_loop(black_box(&file)).is_some())).0;
+    let mut by_port = || timed_all(AT_ONCE, || port::graymap(black_box(&file), &mut given));
+    let mut by_loop = || timed_all(AT_ONCE, || in_a_loop(black_box(&file)));
     let t = in_turn(&mut [&mut by_port, &mut by_loop], 201);
+    told("graymap", size, maximum, &t);
+    is_read(&given, &file, size, maximum, 1)
+}
+
+fn deep_row(size: [usize; 2], maximum: u16) -> bool {
+    let file = file(size, maximum);
+    let mut given = port::Given::painted(0);
+    let [mut ours, mut theirs] = [vec![1u16; size[0] * size[1]], vec![2; size[0] * size[1]]];
+    let mut by_port = || {
+        timed_all(AT_ONCE, || {
+            port::graymap_u16(black_box(&file), &mut ours, &mut given)
+        })
+    };
+    let mut by_loop = || timed_all(AT_ONCE, || deep_in_a_loop(black_box(&file), &mut theirs));
+    let t = in_turn(&mut [&mut by_port, &mut by_loop], 101);
+    told("graymap_u16", size, maximum, &t);
+    ours == theirs && is_read(&given, &file, size, maximum, 2)
+}
+
+fn told(name: &str, [width, height]: [usize; 2], maximum: u16, t: &[Times]) {
     println!(
-        "| graymap {WIDTH} by {HEIGHT}, maximum {maximum}, {AT_ONCE} calls | {} | {} | {} | {} | {} |",
+        "| {name} {width} by {height}, maximum {maximum}, {AT_ONCE} calls | {} | {} | {} | {} | {} |",
         t[0].told(),
         t[1].told(),
         ratio(&t[0], &t[1]),
-        t[0].each(AT_ONCE * WIDTH * HEIGHT),
-        t[1].each(AT_ONCE * WIDTH * HEIGHT),
+        t[0].each(AT_ONCE * width * height),
+        t[1].each(AT_ONCE * width * height),
     );
-    let want = [WIDTH, HEIGHT, usize::from(maximum)];
-    [given.width, given.height, given.maximum] == want && given.start + WIDTH * HEIGHT == file.len()
+}
+
+fn is_read(given: &port::Given, file: &[u8], size: [usize; 2], maximum: u16, bytes: usize) -> bool {
+    let want = [size[0], size[1], usize::from(maximum)];
+    [given.width, given.height, given.maximum] == want
+        && given.start + bytes * size[0] * size[1] == file.len()
 }
 
 pub fn table() -> bool {
@@ -59,7 +111,10 @@ pub fn table() -> bool {
     println!("|---|---|---|---|---|---|");
     let mut same = true;
     for maximum in [254, 255] {
-        same &= row(maximum);
+        same &= row([640, 480], maximum);
+    }
+    for maximum in [1023, 4095] {
+        same &= deep_row([640, 480], maximum);
     }
     same
 }

@@ -111,6 +111,32 @@ impl Lists {
         timed(|| rust::merge_corners_simple(&mut corners, self.radius)).0
     }
 
+    /// All lists in one timing, as a short one is over too soon to be timed.
+    pub fn all_by_port(&self, lents: &mut [Lent]) -> f64 {
+        for (lent, floats) in lents.iter_mut().zip(&self.floats) {
+            lent.list.copy_from_slice(floats);
+        }
+        timed(|| {
+            for (lent, cells) in lents.iter_mut().zip(&self.cells) {
+                let heads = &mut lent.heads[..*cells];
+                port::merge(
+                    &mut lent.list,
+                    self.radius,
+                    heads,
+                    &mut lent.links,
+                    &mut lent.kept,
+                );
+            }
+        })
+        .0
+    }
+
+    pub fn all_by_rust(&self) -> f64 {
+        let mut lists = self.of_rust.clone();
+        let call = |list: &mut Vec<rust::Corner>| rust::merge_corners_simple(list, self.radius);
+        timed(|| lists.iter_mut().map(call).collect::<Vec<_>>()).0
+    }
+
     /// Whether ours keeps what the Rust keeps of the first list, and how many.
     pub fn same(&self, lent: &mut Lent) -> (bool, usize) {
         self.by_port(0, lent);

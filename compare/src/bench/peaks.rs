@@ -4,7 +4,7 @@ use super::{in_turn, ratio, timed};
 use crate::{picture, port};
 use oracle::plain::original as rust;
 use oracle::random::Random;
-use oracle::types::{paper_ring, Image, PeakSettings, Region};
+use oracle::types::{paper_ring, Image, PeakSettings, Region, Triple};
 use oracle::{calls, rules};
 
 const SIZE: [usize; 2] = [640, 480];
@@ -43,25 +43,74 @@ fn of_noise(turn: u64) -> Vec<f32> {
     (0..count).map(|_| 2.0 * random.unit() - 1.0).collect()
 }
 
+/// A response and a window, for both sides: the Rust's defaults but for the
+/// window, that is threshold 0 and clusters of 2.
+pub struct Scene {
+    size: [usize; 2],
+    window: usize,
+    pub response: Vec<f32>,
+    map: rust::ResponseMap,
+}
+
+impl Scene {
+    pub fn new(size: [usize; 2], response: Vec<f32>, window: usize) -> Self {
+        Scene {
+            size,
+            window,
+            map: rust::ResponseMap::new(size[0], size[1], response.clone()),
+            response,
+        }
+    }
+
+    fn params(&self) -> rust::ChessParams {
+        let mut params = rust::ChessParams::default();
+        params.nms_radius = self.window as u32;
+        params
+    }
+
+    pub fn by_port(&self, out: &mut [f32], count: &mut usize) -> u32 {
+        let params = self.params();
+        let lent = port::PeakSettings {
+            ring_radius: 5,
+            window_radius: self.window,
+            refine_radius: 2,
+            threshold: params.threshold,
+            min_cluster_size: params.min_cluster_size,
+        };
+        port::peaks(&self.response, self.size, lent, out, count)
+    }
+
+    pub fn by_rust(&self) -> Vec<rust::Corner> {
+        rust::detect_peaks_from_response_with_refine_radius(&self.map, &self.params(), 2)
+    }
+
+    /// The peaks by the rule, which decides ties otherwise than the Rust.
+    pub fn expected(&self) -> Vec<Triple> {
+        let params = self.params();
+        let s = PeakSettings {
+            threshold: params.threshold,
+            ring_radius: 5,
+            window_radius: self.window as i32,
+            refiner_radius: 2,
+            min_cluster_size: params.min_cluster_size,
+        };
+        rules::peaks(self.size[0], self.size[1], &self.response, &s)
+    }
+
+    /// An output with room for any number of peaks: no two share a square of
+    /// side window + 1.
+    pub fn room(&self) -> Vec<f32> {
+        let squares = self.size.map(|side| side.div_ceil(self.window + 1));
+        vec![1.0; 3 * squares[0] * squares[1]]
+    }
+}
+
 fn row(name: &str, made: fn(u64) -> Vec<f32>, window: usize) -> bool {
-    let responses: Vec<Vec<f32>> = (1..=RESPONSES as u64).map(made).collect();
-    let [w, h] = SIZE;
-    let map = |response: &Vec<f32>| rust::ResponseMap::new(w, h, response.clone());
-    let maps: Vec<_> = responses.iter().map(map).collect();
-    // The Rust's defaults but for the window: threshold 0, clusters of 2.
-    let mut params = rust::ChessParams::default();
-    params.nms_radius = window as u32;
-    let lent = port::PeakSettings {
-        ring_radius: 5,
-        window_radius: window,
-        refine_radius: 2,
-        threshold: params.threshold,
-        min_cluster_size: params.min_cluster_size,
-    };
-    let mut out = vec![1.0f32; 3 * w * h];
-    let mut count = 0;
-    let mut call =
-        |k: usize| timed(|| port::peaks(&responses[k], SIZE, lent, &mut out, &mut count)).0;
+    let scenes: Vec<Scene> = (1..=RESPONSES as u64)
+        .map(|turn| Scene::new(SIZE, made(turn), window))
+        .collect();
+    let (mut out, mut count) = (scenes[0].room(), 0);
+    let mut call = |k: usize| timed(|| scenes[k].by_port(&mut out, &mut count)).0;
     let (mut turn, mut rust_turn) = (0, 0);
     let mut by_port = || {
         turn += 1;
@@ -69,26 +118,18 @@ fn row(name: &str, made: fn(u64) -> Vec<f32>, window: usize) -> bool {
     };
     let mut by_rust = || {
         rust_turn += 1;
-        let map = &maps[rust_turn % RESPONSES];
-        timed(|| rust::detect_peaks_from_response_with_refine_radius(map, &params, 2)).0
+        timed(|| scenes[rust_turn % RESPONSES].by_rust()).0
     };
     let t = in_turn(&mut [&mut by_port, &mut by_rust], 50 * RESPONSES);
     call(0);
-    let theirs = rust::detect_peaks_from_response_with_refine_radius(&maps[0], &params, 2).len();
     println!(
-        "| peaks of {name}, window {window}: {count}, the Rust's {theirs} | {} | {} | {} |",
+        "| peaks of {name}, window {window}: {count}, the Rust's {} | {} | {} | {} |",
+        scenes[0].by_rust().len(),
         t[0].told(),
         t[1].told(),
         ratio(&t[0], &t[1]),
     );
-    let s = PeakSettings {
-        threshold: params.threshold,
-        ring_radius: 5,
-        window_radius: window as i32,
-        refiner_radius: 2,
-        min_cluster_size: params.min_cluster_size,
-    };
-    let expected = rules::peaks(w, h, &responses[0], &s);
+    let expected = scenes[0].expected();
     count == expected.len() && calls::same_floats(&out[..3 * count], &expected.concat())
 }
 

@@ -17,6 +17,7 @@ pub const LISTS: usize = 8;
 /// A board, turned so that its corners lie anywhere between pixels, blurred
 /// over two pixels and with a little noise.
 pub struct Board {
+    size: [usize; 2],
     image: oracle::types::Image,
     corners: Vec<[f32; 2]>,
 }
@@ -48,21 +49,46 @@ pub fn board(seed: u64, levels: i64) -> oracle::types::Image {
     image
 }
 
-impl Board {
-    pub fn new() -> Self {
-        let [w, h] = SIZE;
-        let image = board(1, 3);
-        let mut corners = Vec::new();
-        for j in -30i32..60 {
-            for i in -30i32..60 {
-                let at = |k: usize| i as f32 * ACROSS[k] + j as f32 * DOWN[k];
-                let inside = |v: f32, size: usize| v > 10.0 && v < size as f32 - 11.0;
-                if inside(at(0), w) && inside(at(1), h) {
-                    corners.push([at(0), at(1)]);
-                }
+/// The corners of the board that lie ten pixels inside a field.
+fn corners_in(field: [usize; 2]) -> Vec<[f32; 2]> {
+    let mut corners = Vec::new();
+    for j in -30i32..60 {
+        for i in -30i32..60 {
+            let at = [0, 1].map(|k| i as f32 * ACROSS[k] + j as f32 * DOWN[k]);
+            let inside = |v: f32, side: usize| v > 10.0 && v < side as f32 - 11.0;
+            if inside(at[0], field[0]) && inside(at[1], field[1]) {
+                corners.push(at);
             }
         }
-        Board { image, corners }
+    }
+    corners
+}
+
+impl Board {
+    pub fn new() -> Self {
+        Board::of(SIZE)
+    }
+
+    /// The board over any size: cut off, or again and again from its first
+    /// pixel on. A corner near a seam is not one of its corners.
+    pub fn of(size: [usize; 2]) -> Self {
+        let once = board(1, 3);
+        let ([w, h], [across, down]) = (size, SIZE);
+        let at = |k: usize| once.bytes[k / w % down * across + k % w % across];
+        let image = oracle::types::Image::new(w, h, (0..w * h).map(at).collect());
+        let mut corners = Vec::new();
+        for top in (0..h).step_by(down) {
+            for left in (0..w).step_by(across) {
+                let field = [across.min(w - left), down.min(h - top)];
+                let moved = |[x, y]: [f32; 2]| [x + left as f32, y + top as f32];
+                corners.extend(corners_in(field).into_iter().map(moved));
+            }
+        }
+        Board {
+            size,
+            image,
+            corners,
+        }
     }
 
     /// Seeds within 0.8 pixels of a corner on each axis, or anywhere.
@@ -72,7 +98,7 @@ impl Board {
                 let corner = random.pick(&self.corners);
                 let [x, y] = [0, 1].map(|k| match near {
                     true => corner[k] + 1.6 * (random.unit() - 0.5),
-                    false => SIZE[k] as f32 * random.unit(),
+                    false => self.size[k] as f32 * random.unit(),
                 });
                 [x, y, random.unit()]
             })
@@ -84,7 +110,8 @@ impl Board {
     }
 
     pub fn rust(&self) -> rust::ImageView<'_> {
-        rust::ImageView::from_u8_slice(SIZE[0], SIZE[1], &self.image.bytes).expect("a whole image")
+        let [w, h] = self.size;
+        rust::ImageView::from_u8_slice(w, h, &self.image.bytes).expect("a whole image")
     }
 
     pub fn view(&self) -> View<'_> {
@@ -109,40 +136,84 @@ pub fn settings(radius: i32) -> (Settings, port::Settings, rust::SaddlePointConf
     (s, lent, config)
 }
 
+/// Lists of seeds on a board at a radius, for both sides.
+pub struct Lists<'a> {
+    board: &'a Board,
+    lent: port::Settings,
+    config: rust::SaddlePointConfig,
+    floats: Vec<Vec<f32>>,
+    of_rust: Vec<Vec<rust::Corner>>,
+}
+
+impl<'a> Lists<'a> {
+    /// Lists of the first `count` seeds of each drawing.
+    pub fn new(board: &'a Board, near: bool, radius: i32, count: usize) -> Self {
+        let name = if near { "near corners" } else { "anywhere" };
+        let mut random = Random::of(3, name);
+        let (_, lent, config) = settings(radius);
+        let lists: Vec<Vec<Triple>> = (0..LISTS)
+            .map(|_| board.seeds(&mut random, near)[..count].to_vec())
+            .collect();
+        Lists {
+            board,
+            lent,
+            config,
+            floats: lists.iter().map(|list| list.concat()).collect(),
+            of_rust: lists.iter().map(|list| of_rust(list)).collect(),
+        }
+    }
+
+    pub fn by_port(&self, turn: usize, out: &mut [f32], count: &mut usize) -> f64 {
+        let seeds = &self.floats[turn % LISTS];
+        timed(|| port::refine_list(self.board.lent(), self.lent, seeds, out, count)).0
+    }
+
+    /// The refiner is built in the call.
+    pub fn by_rust(&self, turn: usize) -> f64 {
+        let list = self.of_rust[turn % LISTS].clone();
+        timed(|| self.of_list(list)).0
+    }
+
+    fn of_list(&self, list: Vec<rust::Corner>) -> Vec<rust::Corner> {
+        let mut refiner = rust::SaddlePointRefiner::new(self.config);
+        rust::refine_corners_on_image(list, Some(self.board.rust()), None, &mut refiner)
+    }
+
+    fn by_kept(&self, turn: usize, kept: &mut rust::SaddlePointRefiner) -> f64 {
+        let list = self.of_rust[turn % LISTS].clone();
+        timed(|| rust::refine_corners_on_image(list, Some(self.board.rust()), None, kept)).0
+    }
+
+    /// Whether ours accepts what the Rust accepts of the first list, and how many.
+    pub fn same(&self) -> (bool, usize) {
+        let (mut out, mut count) = (vec![1.0f32; self.floats[0].len()], 0);
+        self.by_port(0, &mut out, &mut count);
+        let want = self.of_list(self.of_rust[0].clone());
+        let want: Vec<f32> = want.iter().flat_map(|c| [c.x, c.y, c.strength]).collect();
+        (calls::same_floats(&out[..3 * count], &want), count)
+    }
+}
+
 fn list(board: &Board, near: bool, radius: i32) -> bool {
     let name = if near { "near corners" } else { "anywhere" };
-    let mut random = Random::of(3, name);
-    let (s, lent, config) = settings(radius);
-    let lists: Vec<Vec<Triple>> = (0..LISTS).map(|_| board.seeds(&mut random, near)).collect();
-    let floats: Vec<Vec<f32>> = lists.iter().map(|list| list.concat()).collect();
-    let rust_lists: Vec<_> = lists.iter().map(|list| of_rust(list)).collect();
-    let mut out = vec![1.0f32; 3 * SEEDS];
-    let mut count = 0;
-    let mut call = |k: usize| {
-        timed(|| port::refine_list(board.lent(), lent, &floats[k], &mut out, &mut count)).0
-    };
-    let mut kept = rust::SaddlePointRefiner::new(config);
+    let lists = Lists::new(board, near, radius, SEEDS);
+    let (mut out, mut count) = (vec![1.0f32; 3 * SEEDS], 0);
+    let mut kept = rust::SaddlePointRefiner::new(lists.config);
     let (mut turn, mut built_turn, mut kept_turn) = (0, 0, 0);
     let mut by_port = || {
         turn += 1;
-        call(turn % LISTS)
+        lists.by_port(turn, &mut out, &mut count)
     };
     let mut by_built = || {
         built_turn += 1;
-        let list = rust_lists[built_turn % LISTS].clone();
-        timed(|| {
-            let mut refiner = rust::SaddlePointRefiner::new(config);
-            rust::refine_corners_on_image(list, Some(board.rust()), None, &mut refiner)
-        })
-        .0
+        lists.by_rust(built_turn)
     };
     let mut by_kept = || {
         kept_turn += 1;
-        let list = rust_lists[kept_turn % LISTS].clone();
-        timed(|| rust::refine_corners_on_image(list, Some(board.rust()), None, &mut kept)).0
+        lists.by_kept(kept_turn, &mut kept)
     };
     let t = in_turn(&mut [&mut by_port, &mut by_built, &mut by_kept], 20 * LISTS);
-    call(0);
+    let (same, count) = lists.same();
     println!(
         "| list {name}, radius {radius}: {SEEDS} to {count} | {} | {} | {} | {} | {} | {} | {} |",
         t[0].told(),
@@ -153,8 +224,7 @@ fn list(board: &Board, near: bool, radius: i32) -> bool {
         t[0].each(SEEDS),
         t[1].each(SEEDS),
     );
-    let (_, want) = calls::refine_list(board.view(), &s, &floats[0], 3 * SEEDS);
-    count == want.len() && calls::same_floats(&out[..3 * count], &want.concat())
+    same
 }
 
 /// Lists near corners at several pitches.
