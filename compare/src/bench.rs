@@ -9,6 +9,7 @@ mod fallback;
 mod gradient;
 mod graymap;
 mod growth;
+mod hardest;
 mod merge;
 mod peaks;
 mod pitch;
@@ -16,6 +17,7 @@ mod refine;
 mod response;
 mod salvage;
 mod times;
+mod worst;
 
 use merge::of_rust;
 use times::{in_turn, ratio, timed, Side};
@@ -23,7 +25,7 @@ use times::{in_turn, ratio, timed, Side};
 /// A table by its name.
 type Table = (&'static str, fn() -> bool);
 
-const TABLES: [Table; 12] = [
+const TABLES: [Table; 13] = [
     ("response", response::table),
     ("peaks", peaks::table),
     ("merge", merge::table),
@@ -36,6 +38,7 @@ const TABLES: [Table; 12] = [
     ("gradient", gradient::table),
     ("depth", depth::table),
     ("growth", growth::table),
+    ("worst", worst::table),
 ];
 
 /// Prints the tables, or one of them by its name. `false` where the two sides

@@ -14,7 +14,7 @@ const LIMIT: f32 = 25.0;
 /// Boards of each row, called one after the other.
 const BOARDS: usize = 8;
 
-struct Row {
+pub struct Row {
     name: &'static str,
     rows: u64,
     columns: u64,
@@ -85,7 +85,8 @@ fn in_a_loop(board: Board<'_>, corners: &[f32], answers: &mut [u16]) -> u32 {
     0
 }
 
-fn row(r: &Row) -> bool {
+/// The times of ours and of the loop, and whether they answer alike.
+pub fn times(r: &Row) -> (Vec<Times>, bool) {
     let mut random = Random::of(5, r.name);
     let scenes: Vec<Scene> = (0..BOARDS).map(|_| scene(&mut random, r)).collect();
     let board = |k: usize| Board {
@@ -114,15 +115,17 @@ fn row(r: &Row) -> bool {
         timed(|| (0..r.at_once).all(|k| in_loop(loop_turn + k, &mut theirs) == 0)).0
     };
     let t = in_turn(&mut [&mut by_port, &mut by_loop], 20 * BOARDS);
-    told(r, inner, &t);
-    (0..BOARDS).all(|k| {
+    let same = (0..BOARDS).all(|k| {
         let (decision, _, tied) = calls::tie(&board(k), &scenes[k].corners, inner);
         let numbers = [decision.number, call(k, &mut ours), in_loop(k, &mut theirs)];
         numbers == [0; 3] && ours == tied && theirs == tied
-    })
+    });
+    (t, same)
 }
 
-fn told(r: &Row, inner: usize, t: &[Times]) {
+fn row(r: &Row) -> bool {
+    let (t, same) = times(r);
+    let inner = ((r.rows - 1) * (r.columns - 1)) as usize;
     println!(
         "| tie {}: {inner} places, {} corners | {} | {} | {} | {} | {} |",
         r.name,
@@ -133,25 +136,26 @@ fn told(r: &Row, inner: usize, t: &[Times]) {
         t[0].each(r.at_once * inner),
         t[1].each(r.at_once * inner),
     );
+    same
 }
+
+/// The largest board, and every corner is looked at for each place.
+pub const WORST: Row = Row {
+    name: "scattered, the nearest last",
+    rows: 32,
+    columns: 32,
+    corners: 4096,
+    last: true,
+    at_once: 1,
+};
 
 const ROWS: [Row; 3] = [
     Row {
         name: "scattered",
-        rows: 32,
-        columns: 32,
-        corners: 4096,
         last: false,
-        at_once: 1,
+        ..WORST
     },
-    Row {
-        name: "scattered, the nearest last",
-        rows: 32,
-        columns: 32,
-        corners: 4096,
-        last: true,
-        at_once: 1,
-    },
+    WORST,
     Row {
         name: "of a small board, 64 calls",
         rows: 8,

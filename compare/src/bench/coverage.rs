@@ -1,6 +1,7 @@
 //! The coverage's rows: one update of lists of several lengths. The Rust has no
 //! such calls, so beside each stands its rule in plain Rust.
 
+use super::times::Times;
 use super::{in_turn, ratio, timed};
 use crate::port::{self, ROOM};
 use oracle::random::Random;
@@ -126,7 +127,8 @@ fn calls_of(
     well
 }
 
-fn row(name: &str, count: usize, asked: &[Asked], at_once: usize) -> bool {
+/// The times of ours and of plain Rust, and whether they leave the same.
+pub fn times(count: usize, asked: &[Asked], at_once: usize) -> (Vec<Times>, bool) {
     let [mut ours, mut theirs] = [held(count), held(count)];
     let mut well = true;
     let mut port_side = || {
@@ -136,6 +138,13 @@ fn row(name: &str, count: usize, asked: &[Asked], at_once: usize) -> bool {
     };
     let mut plain_side = || timed(|| calls_of(&mut theirs, in_plain, asked, at_once)).0;
     let t = in_turn(&mut [&mut port_side, &mut plain_side], 401);
+    let bits = |h: &Held| h.list.map(f32::to_bits);
+    let same = well && bits(&ours) == bits(&theirs) && ours.counts == theirs.counts;
+    (t, same)
+}
+
+fn row(name: &str, count: usize, asked: &[Asked], at_once: usize) -> bool {
+    let (t, same) = times(count, asked, at_once);
     println!(
         "| {name}, {count} corners, {at_once} calls | {} | {} | {} | {} | {} |",
         t[0].told(),
@@ -144,8 +153,7 @@ fn row(name: &str, count: usize, asked: &[Asked], at_once: usize) -> bool {
         t[0].each(at_once),
         t[1].each(at_once),
     );
-    let bits = |h: &Held| h.list.map(f32::to_bits);
-    well && bits(&ours) == bits(&theirs) && ours.counts == theirs.counts
+    same
 }
 
 pub fn table() -> bool {

@@ -7,7 +7,7 @@ use oracle::calls;
 use oracle::random::Random;
 use std::hint::black_box;
 
-const SIZE: [u64; 2] = [640, 480];
+pub const SIZE: [u64; 2] = [640, 480];
 const RECORDS: usize = 4096;
 
 /// Calls in one timing.
@@ -21,7 +21,7 @@ struct Row {
     roomy: bool,
 }
 
-fn file(bad: usize) -> Vec<u8> {
+pub fn file(bad: usize) -> Vec<u8> {
     let mut random = Random::of(bad as u64, "bench");
     let mut file = Vec::new();
     for _ in 0..RECORDS {
@@ -54,7 +54,7 @@ fn fault(bytes: &[u8], last: [f32; 2]) -> u16 {
 
 /// The rule in a plain loop: the records are counted first only where there may be
 /// too little room.
-fn in_a_loop(
+pub fn in_a_loop(
     file: &[u8],
     size: [u64; 2],
     out: &mut [u8],
