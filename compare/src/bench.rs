@@ -2,7 +2,10 @@
 //! are the thread's time on the processor: on a busy computer the clock on the
 //! wall would count the work of others, the more the longer a call takes.
 
+#[cfg(feature = "anchors")]
+mod anchors;
 mod board;
+mod calls;
 mod coverage;
 mod depth;
 mod fallback;
@@ -25,7 +28,7 @@ use times::{in_turn, ratio, timed, Side};
 /// A table by its name.
 type Table = (&'static str, fn() -> bool);
 
-const TABLES: [Table; 13] = [
+const TABLES: &[Table] = &[
     ("response", response::table),
     ("peaks", peaks::table),
     ("merge", merge::table),
@@ -37,8 +40,11 @@ const TABLES: [Table; 13] = [
     ("coverage", coverage::table),
     ("gradient", gradient::table),
     ("depth", depth::table),
+    ("calls", calls::table),
     ("growth", growth::table),
     ("worst", worst::table),
+    #[cfg(feature = "anchors")]
+    ("anchors", anchors::table),
 ];
 
 /// Prints the tables, or one of them by its name. `false` where the two sides
@@ -47,7 +53,7 @@ pub fn run(one: Option<&str>) -> bool {
     println!("Milliseconds on the processor: median (least, quartiles, greatest). Nanoseconds of one: median (least, greatest). Ratios: of the medians (of the least).");
     let mut same = true;
     for (name, table) in TABLES {
-        if one.is_none_or(|one| one == name) {
+        if one.is_none_or(|one| one == *name) {
             println!();
             same &= table();
         }

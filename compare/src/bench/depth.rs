@@ -10,7 +10,7 @@ use oracle::random::Random;
 use oracle::types::{paper_ring, Region};
 
 /// The words of the samples of bytes.
-fn words(bytes: &[u8]) -> Vec<u16> {
+pub fn words(bytes: &[u8]) -> Vec<u16> {
     bytes.iter().map(|b| u16::from(*b)).collect()
 }
 

@@ -22,8 +22,8 @@ pub fn board([width, height]: [usize; 2]) -> Vec<u8> {
 /// An image and a ring, for every side.
 pub struct Scene {
     pub size: [usize; 2],
-    radius: usize,
-    bytes: Vec<u8>,
+    pub radius: usize,
+    pub bytes: Vec<u8>,
     ring: Ring,
     region: Region,
 }

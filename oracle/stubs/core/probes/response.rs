@@ -6,7 +6,8 @@ pub fn at(img: &[u8], w: usize, x: i32, y: i32, ring: &[(i32, i32); 16]) -> f32 
     chess_response_at_u8(img, w, x, y, ring)
 }
 
-/// The row kernel, private there.
+/// The row kernel, private there. The SIMD build has another in its place.
+#[cfg(not(feature = "simd"))]
 #[allow(clippy::too_many_arguments)]
 pub fn row(
     img: &[u8],
