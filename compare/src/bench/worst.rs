@@ -3,7 +3,9 @@
 //! where the Rust has no such call.
 
 use super::times::{timed_all, Times};
-use super::{board, coverage, graymap, hardest, in_turn, merge, peaks, ratio, response, salvage};
+use super::{
+    board, coverage, gradient, graymap, hardest, in_turn, merge, peaks, ratio, response, salvage,
+};
 use crate::port::{self, Given};
 use oracle::calls;
 use oracle::random::Random;
@@ -191,9 +193,9 @@ fn graymaps() -> bool {
     let mut above = graymap::file([4096; 2], 1);
     let last = above.len() - 1;
     above[last] = 2;
-    let mut comments = b"P5\n#".to_vec();
-    comments.resize(1 << 20, b'c');
-    comments.extend(b"\n1 1\n255\n7");
+    let mut comments = b"P5\n".to_vec();
+    comments.extend(b"#\n".repeat(1 << 19));
+    comments.extend(b"1 1\n255\n7");
     read(
         "4096 by 4096, maximum 1, the last sample above it",
         &above,
@@ -201,7 +203,7 @@ fn graymaps() -> bool {
         1,
         "pixels",
     ) & read(
-        "a header with a comment of a megabyte",
+        "a header with a megabyte of empty comments",
         &comments,
         0,
         1,
@@ -271,6 +273,17 @@ fn responses() -> bool {
     scene.same(&out)
 }
 
+fn gradients() -> bool {
+    let (t, calls, same) = gradient::times(21);
+    row(
+        "gradient: the cells of a tile of 21",
+        &t,
+        calls,
+        "nothing: 21 places, whatever the tile",
+    );
+    same
+}
+
 fn boards() -> bool {
     let (t, same) = board::times(&board::WORST);
     row(
@@ -286,7 +299,7 @@ pub fn table() -> bool {
     println!("| call: worst case | ours | the Rust's, or a plain loop (graymap, salvage, coverage, tie) | ours / it | grows as |");
     println!("|---|---|---|---|---|");
     let parts = [
-        responses, all_peaks, merges, boards, graymaps, salvages, covers,
+        responses, all_peaks, merges, boards, graymaps, salvages, covers, gradients,
     ];
     parts.into_iter().fold(true, |same, part| part() & same) & hardest::rows()
 }
