@@ -6,6 +6,7 @@ pub mod FrameLaws
 pub mod PeakLaws
 pub mod ListLaws
 pub mod GatherLaws
+pub mod NarrowLaws
 pub mod PartLaws
 pub mod ChosenLaws
 pub mod CallLaws

@@ -1,7 +1,7 @@
 -- Numbers that have a property, in order, cut in two and picked out of more; and a list that grows by them.
 use mathlib.Core.Path.{_≡_, refl, sym, ap, _∙_, subst}
 use mathlib.Core.Logic.{⊎-elim}
-use mathlib.Core.Bool.{Bool, true, false, cond}
+use mathlib.Core.Bool.{Bool, true, false, _&&_, cond}
 use mathlib.Core.List.{List, [], _∷_, _++_, append-nil, append-assoc}
 use Prim.Native.Nat.{ℕ, zero, suc, _+_, _-_, _≤_, _<_}
 use native.Mathlib.Nat.{add-zero, add-suc, add-assoc, not-suc-le-zero}
@@ -119,6 +119,18 @@ module _ (p : ℕ → Bool) where
       last true e = append-nil (one (p (k + n)) (k + n))
       last false e = sym (ap (λ (z : Bool). one z (k + n)) (f (k + n) (omega arith) (omega arith) e))
 
+  -- what is picked of those that have q has both
+  pub picked-both : (q : ℕ → Bool) (k n : ℕ) → picked (between k n q) p ≡ between k n (λ i. q i && p i)
+  unfolding between picked
+  picked-both q k zero = refl
+  picked-both q k (suc n) =
+      picked-append (between k n q) (one (q (k + n)) (k + n)) ∙ ap (λ (z : List ℕ). z ++ picked (one (q (k + n)) (k + n)) p) (picked-both q k n)
+      ∙ ap (λ (z : List ℕ). between k n (λ i. q i && p i) ++ z) (last (q (k + n)))
+    where
+      last : (b : Bool) → picked (one b (k + n)) p ≡ one (b && p (k + n)) (k + n)
+      last true = append-nil (one (p (k + n)) (k + n))
+      last false = refl
+
 -- ---- a list that grows
 pub added-none : (list : List ℕ) (m : ℕ) → m ≤ length list → Added list list m m []
 added-none list m h = record { long = refl; few = h; total = sym (add-zero m); listed = sym (append-nil (take m list)) }
@@ -167,6 +179,17 @@ module _ {list list' : List ℕ} {m r : ℕ} {more : List ℕ} (a : Added list l
         ∙ ap (λ (n : ℕ). getD (take m list ++ more) n 0) (let e : i ≡ m + (i - m) = omega arith in e ∙ ap (λ (n : ℕ). n + (i - m)) (sym front-length)) ∙ getD-append-add (take m list) more (i - m) 0,
     let e = a .total in omega arith,
   )
+
+-- of what is new some is picked
+pub added-picked : {list list' list'' : List ℕ} {m r t : ℕ} {more more' : List ℕ} (p : ℕ → Bool) → picked more p ≡ more' → Added list list' m r more → Added list' list'' m t (picked (drop m (take r list')) p) → Added list list'' m t more'
+added-picked {list} {list'} {list''} {m} {r} {t} {more} {more'} p f a c =
+    let e : picked (drop m (take r list')) p ≡ more' = ap (λ (z : List ℕ). picked z p) (added-behind a) ∙ f in
+    record {
+      long = c .long ∙ a .long;
+      few = a .few;
+      total = c .total ∙ ap (λ (z : List ℕ). m + length z) e;
+      listed = c .listed ∙ ap (λ (z : List ℕ). z ++ picked (drop m (take r list')) p) (added-front a) ∙ ap (λ (z : List ℕ). take m list ++ z) e;
+    }
 
 -- kept in place: what is written lies before what is still to be read
 pub kept-none : (p : ℕ → Bool) (list : List ℕ) (m : ℕ) → m ≤ length list → Added list list m m (picked (drop m (take m list)) p)

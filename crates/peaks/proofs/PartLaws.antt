@@ -10,12 +10,13 @@ use lib.ListN.{length, getD, take, drop}
 use lib.Ieee.{Float, nan, lt, le}
 use Rattle.peaks.specs.Peak.{Scan, border, floorOf, isPeak}
 use Rattle.peaks.specs.Call.{peakAt}
-use Rattle.peaks.specs.Steps.{Sound, runAt, Bordered, InsideBorder, between, picked, standsOut, Added, Spaced, Within, Part}
+use Rattle.peaks.specs.Steps.{Sound, runAt, Bordered, InsideBorder, between, picked, standsOut, beatsSix, mayPeak, Added, Spaced, Within, Part}
 use Rattle.shapes.proofs.TestLaws.{every-miss}
 use Rattle.peaks.proofs.PeakLaws.{not-highest, not-above, right-out, within}
 use Rattle.peaks.proofs.WindowLaws.{lost-left, lost-right}
 use Rattle.peaks.proofs.FrameLaws.{in-row, size-most}
-use Rattle.peaks.proofs.ListLaws.{between-cut, between-clear, between-most, between-at, picked-between, added-none, added-is, added-front, added-behind, added-at}
+use Rattle.peaks.proofs.ListLaws.{between-cut, between-clear, between-most, between-at, picked-between, picked-both, added-none, added-is, added-at, added-picked}
+use Rattle.peaks.proofs.NarrowLaws.{one-of, rim, six-peak}
 
 -- one of three tests fails
 three : {P : Type 0} (a b c : Bool) → (a && b && c) ≡ false → (a ≡ false → P) → (b ≡ false → P) → (c ≡ false → P) → P
@@ -84,23 +85,28 @@ module _ {s : Scan} {floor : Float} {y start n : ℕ} (b : Bordered s floor y st
           let w = between-at q (y * s .width + start) n (i - m) (z .1) in
           column-of (getD list' i 0) (subst (λ (k : ℕ). y * s .width + start ≤ k) (sym (z .0)) (w .0)) (subst (λ (k : ℕ). k < y * s .width + start + n) (sym (z .0)) (w .1))
 
-  no-peak : (k : ℕ) → y * s .width + start ≤ k → k < y * s .width + start + n → standsOut (s .values) floor k ≡ false → peakAt s k ≡ false
+  -- the last row of their windows
+  pub columns-foot : ((y + s .window) * s .width + start + n ≤ length (s .values)) × (length (s .values) ≤ 16777216)
+  columns-foot = (in-row s start (y + s .window) n (b .sound) (let r = b .right in omega arith) (let r = b .below in omega arith), size-most s (b .sound))
+
+  no-peak : (k : ℕ) → y * s .width + start ≤ k → k < y * s .width + start + n → mayPeak (s .values) floor (s .width) k ≡ false → peakAt s k ≡ false
   no-peak k h l e =
       let c = column-of k h l in
-      let f = within b (k - y * s .width) (c .2) (c .3) .framed in
+      let x = k - y * s .width in
+      let f = within b x (c .2) (c .3) .framed in
+      let q : y * s .width + x ≡ k = omega (arith, c .0) in
       by-number s y k (c .0) (c .1)
-      ∙ out-peak s floor (k - y * s .width) y (b .floor-is) (b .sound .window-least) (f .left) (f .above) (ap (standsOut (s .values) floor) (let q : y * s .width + (k - y * s .width) ≡ k = omega (arith, c .0) in q) ∙ e)
+      ∙ one-of (standsOut (s .values) floor k) (beatsSix (s .values) (s .width) k) e
+      (λ g. out-peak s floor x y (b .floor-is) (b .sound .window-least) (f .left) (f .above) (ap (standsOut (s .values) floor) q ∙ g))
+      (λ g. six-peak s x y (s .window - 1) (omega (arith, b .sound .window-least)) (f .left) (f .above) (rim s x y f) (ap (beatsSix (s .values) (s .width)) q ∙ g))
 
-  pub columns-peaks : {list list' list'' : List ℕ} {m r t : ℕ} → Added list list' m r (between (y * s .width + start) n (standsOut (s .values) floor)) → Added list' list'' m t (picked (drop m (take r list')) (peakAt s))
+  pub columns-narrowed : {list list' list'' : List ℕ} {m r t : ℕ} → Added list list' m r (between (y * s .width + start) n (standsOut (s .values) floor)) → Added list' list'' m t (picked (drop m (take r list')) (beatsSix (s .values) (s .width)))
+      → Added list list'' m t (between (y * s .width + start) n (mayPeak (s .values) floor (s .width)))
+  columns-narrowed = added-picked (beatsSix (s .values) (s .width)) (picked-both (beatsSix (s .values) (s .width)) (standsOut (s .values) floor) (y * s .width + start) n)
+
+  pub columns-peaks : {list list' list'' : List ℕ} {m r t : ℕ} → Added list list' m r (between (y * s .width + start) n (mayPeak (s .values) floor (s .width))) → Added list' list'' m t (picked (drop m (take r list')) (peakAt s))
       → Added list list'' m t (between (y * s .width + start) n (peakAt s))
-  columns-peaks {list} {list'} {list''} {m} {r} {t} a c =
-      let e = ap (λ (z : List ℕ). picked z (peakAt s)) (added-behind a) ∙ picked-between (peakAt s) (standsOut (s .values) floor) (y * s .width + start) n no-peak in
-      record {
-        long = c .long ∙ a .long;
-        few = a .few;
-        total = c .total ∙ ap (λ (z : List ℕ). m + length z) e;
-        listed = c .listed ∙ ap (λ (z : List ℕ). z ++ picked (drop m (take r list')) (peakAt s)) (added-front a) ∙ ap (λ (z : List ℕ). take m list ++ z) e;
-      }
+  columns-peaks = added-picked (peakAt s) (picked-between (peakAt s) (mayPeak (s .values) floor (s .width)) (y * s .width + start) n no-peak)
 
 -- ---- a pixel listed
 pub row-fits : {s : Scan} {floor : Float} {y : ℕ} {list : List ℕ} {first last : ℕ} → Within s floor y list first last → y * s .width ≤ 16777216

@@ -73,6 +73,12 @@ left-lost false l r b e = refl
 above-lost : (a l r b : Bool) → a ≡ false → false ≡ (a && (l && (r && b)))
 above-lost a l r b e = sym (ap (λ (z : Bool). z && (l && (r && b))) e)
 
+below-lost : (a l r b : Bool) → b ≡ false → false ≡ (a && (l && (r && b)))
+below-lost true true true b e = sym e
+below-lost true true false b e = refl
+below-lost true false r b e = refl
+below-lost false l r b e = refl
+
 by-below : (a l r b : Bool) → r ≡ true → l ≡ true → a ≡ true → b ≡ (a && (l && (r && b)))
 by-below a l r b e f g = sym (ap (λ (z : Bool). z && (l && (r && b))) g ∙ ap (λ (z : Bool). z && (r && b)) f ∙ ap (λ (z : Bool). z && b) e)
 
@@ -102,7 +108,7 @@ module _ (s : Scan) (x y : ℕ) (low : s .window ≤ x) (high : s .window ≤ y)
   above : (j : ℕ) → neighbour s x y j ≡ blockAt (s .values) corner (s .width) (side s) j
   above j = near j (j / side s) (j % side s) refl refl
 
-  corner-is : corner + n * s .width + n ≡ at
+  pub corner-is : corner + n * s .width + n ≡ at
   corner-is = rest (y * s .width) (n * s .width) (mul-le-mul-right (s .width) high)
     where
       rest : (p q : ℕ) → q ≤ p → p + x - q - n + q + n ≡ p + x
@@ -198,6 +204,9 @@ module _ (s : Scan) (x y : ℕ) (low : s .window ≤ x) (high : s .window ≤ y)
 
   pub lost-above : beatsAbove ≡ false → false ≡ highest s x y
   lost-above e = above-lost beatsAbove beatsLeft beatsRight beatsBelow e ∙ sym highest-is
+
+  pub lost-below : beatsBelow ≡ false → false ≡ highest s x y
+  lost-below e = below-lost beatsAbove beatsLeft beatsRight beatsBelow e ∙ sym highest-is
 
   pub won-by-below : beatsRight ≡ true → beatsLeft ≡ true → beatsAbove ≡ true → beatsBelow ≡ highest s x y
   won-by-below e f g = by-below beatsAbove beatsLeft beatsRight beatsBelow e f g ∙ sym highest-is

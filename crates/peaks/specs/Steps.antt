@@ -99,6 +99,16 @@ pub record Added (list list' : List ℕ) (m r : ℕ) (more : List ℕ) : Type 0 
 abbrev pub standsOut : List Float → Float → ℕ → Bool
 standsOut values floor k = lt floor (entry values k) && lt (entry values (k - 1)) (entry values k) && le (entry values (k + 1)) (entry values k)
 
+-- and beats the three above it and the three below
+abbrev pub beatsSix : List Float → ℕ → ℕ → Bool
+beatsSix values width k =
+    lt (entry values (k - width - 1)) (entry values k) && lt (entry values (k - width)) (entry values k) && lt (entry values (k - width + 1)) (entry values k) && le (entry values (k + width - 1)) (entry values k)
+    && le (entry values (k + width)) (entry values k)
+    && le (entry values (k + width + 1)) (entry values k)
+
+abbrev pub mayPeak : List Float → Float → ℕ → ℕ → Bool
+mayPeak values floor width k = standsOut values floor k && beatsSix values width k
+
 -- the n values from `start` on have one on either side, and the list has room for them
 pub record Spaced (values : List Float) (list : List ℕ) (start n m : ℕ) : Type 0 where
   pub first : 1 ≤ start
@@ -125,6 +135,15 @@ pub record Grouped (values : List Float) (groups list : List ℕ) (start n m : �
   pub long : length list ≡ 1280
   pub room : m + 8 * n ≤ 1280
   pub last : (j : ℕ) → j < n → start + 8 * getD groups j 0 + 9 ≤ length values
+
+-- the pixels listed from `first` up to `last` have three values above and three below
+pub record Amid (values : List Float) (width : ℕ) (list : List ℕ) (first last : ℕ) : Type 0 where
+  pub order : first ≤ last
+  pub most : last ≤ 1280
+  pub long : length list ≡ 1280
+  pub size : length values ≤ 16777216
+  pub up : (i : ℕ) → first ≤ i → i < last → width + 1 ≤ getD list i 0
+  pub down : (i : ℕ) → first ≤ i → i < last → getD list i 0 + width + 2 ≤ length values
 
 -- the pixels listed from `first` up to `last` are of row y and inside the border
 pub record Within (s : Scan) (floor : Float) (y : ℕ) (list : List ℕ) (first last : ℕ) : Type 0 where

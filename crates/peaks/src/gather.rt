@@ -1,12 +1,12 @@
-// Pixels of a row that may be peaks, gathered before any is tested: nothing here branches on a value.
+// Pixels of a row that may be peaks, gathered and then narrowed before the window of any is tested: nothing here branches on a value.
 ghost use mathlib.Core.Path.{_≡_};
 ghost use mathlib.Core.Bool.{cond, _&&_};
 ghost use Prim.Native.Nat.{_+_, _*_, _≤_};
-ghost use lib.ListN.{length, take};
+ghost use lib.ListN.{length, take, drop};
 ghost use lib.Ieee.{lt, le};
 ghost use Rattle.shapes.specs.Tests.{some};
 ghost use Rattle.peaks.specs.Call.{chosen};
-ghost use Rattle.peaks.specs.Steps.{runAt, between, standsOut, anyAbove, gathered, Added, Spaced, Grouped};
+ghost use Rattle.peaks.specs.Steps.{runAt, between, picked, standsOut, beatsSix, anyAbove, gathered, Added, Spaced, Grouped, Amid};
 
 // 1 for a value above the floor that beats those before and after it.
 fn stands_out(floor: f32, before: f32, v: f32, after: f32) -> usize
@@ -120,4 +120,63 @@ pub fn gather(
         count,
         list,
     )
+}
+
+// 1 for a pixel that beats the three above it and the three below.
+fn beats_six(response: &[f32], width: usize, at: usize) -> usize
+    requires { ⌜ (width + 1 ≤ at) × (at + width + 2 ≤ length (now response)) × (length (now response) ≤ 16777216) ⌝ }
+    ensures { λ r. ⌜ r ≡ cond (beatsSix (now (response .entry)) width at) 1 0 ⌝ }
+{
+    let v = response[at];
+    let six = (response[at - width - 1] < v)
+        & (response[at - width] < v)
+        & (response[at - width + 1] < v)
+        & (response[at + width - 1] <= v)
+        & (response[at + width] <= v)
+        & (response[at + width + 1] <= v);
+    if six { 1 } else { 0 }
+}
+
+// Of the pixels listed from `first` up to `last`, keeps those that beat the three above and the three below.
+pub fn narrow(
+    response: &[f32],
+    width: usize,
+    first: usize,
+    last: usize,
+    list: &mut [u32; 1280],
+) -> usize
+    requires { ⌜ Amid (now response) width (now list) first last ⌝ }
+    ensures { λ r. ⌜ Added (now (list .entry)) (now (list .exit)) first r (picked (drop first (take last (now (list .entry)))) (beatsSix (now (response .entry)) width)) ⌝ }
+{
+    let mut count = first;
+    let mut i = first;
+    while i < last {
+        let k = list[i];
+        list[count] = k;
+        count += beats_six(response, width, k as usize);
+        i += 1;
+    }
+    count
+}
+
+// 1 for a value above the floor.
+fn over(floor: f32, w: f32) -> usize
+    ensures { λ r. ⌜ r ≤ 1 ⌝ }
+{
+    if floor < w { 1 } else { 0 }
+}
+
+// Reads every sixteenth of the n values from `from` on, so that the processor has all of them at hand. How many of those are above the floor is of no
+// use, but a read whose value is not asked for is left out by the compiler.
+pub fn read_ahead(response: &[f32], floor: f32, from: usize, n: usize) -> usize
+    requires { ⌜ (from + n ≤ length (now response)) × (n ≤ 256) ⌝ }
+    ensures { λ r. ⌜ r ≤ n ⌝ }
+{
+    let mut count = 0;
+    let mut i = 0;
+    while i < n {
+        count += over(floor, response[from + i]);
+        i += 16;
+    }
+    count
 }

@@ -77,7 +77,8 @@ fn keep(
     count
 }
 
-// Lists the peaks of n columns of row y from `start` on, which are inside the border, after the first m of the list.
+// Lists the peaks of n columns of row y from `start` on, which are inside the border, after the first m of the list. The last row of their windows is
+// read first, in one go: else each window that is tested waits for it. No answer to that is above n.
 fn list_columns(
     response: &[f32],
     rule: Rule,
@@ -91,8 +92,14 @@ fn list_columns(
     requires { ⌜ Bordered (scanOf (now response) rule) floor y start n ⌝ ∗ ⌜ (m ≤ 1024) × (length (now list) ≡ 1280) ⌝ }
     ensures { λ r. ⌜ Added (now (list .entry)) (now (list .exit)) m r (between (y * rule .width + start) n (peakAt (scanOf (now (response .entry)) rule))) ⌝ }
 {
-    let last = gather::gather(response, floor, y * rule.width + start, n, m, list);
-    keep(response, rule, floor, y, m, last, list)
+    let width = rule.width;
+    let foot = (y + rule.window) * width + start;
+    if n < gather::read_ahead(response, floor, foot, n) {
+        return m;
+    }
+    let last = gather::gather(response, floor, y * width + start, n, m, list);
+    let near = gather::narrow(response, width, m, last, list);
+    keep(response, rule, floor, y, m, near, list)
 }
 
 // Lists the peaks from the pixel k on, of at most 256 columns of its row, after the first m of the list.
