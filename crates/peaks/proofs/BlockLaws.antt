@@ -2,8 +2,8 @@
 use mathlib.Core.Path.{_≡_, sym, ap, _∙_}
 use mathlib.Core.Bool.{Bool, true, false, _&&_}
 use mathlib.Core.List.{List}
-use Prim.Native.Nat.{ℕ, _+_, _-_, _*_, _%_, _≤_, _<_}
-use native.Mathlib.Nat.{suc-mul, mul-le-mul, mul-le-mul-right, le-trans, zero-mul}
+use Prim.Native.Nat.{ℕ, _+_, _-_, _*_, _/_, _%_, _≤_, _<_}
+use native.Mathlib.Nat.{suc-mul, mul-le-mul, mul-le-mul-right, le-trans, zero-mul, add-assoc, div-add-mod'}
 use native.Mathlib.Numerals.{add-one}
 use native.Mathlib.Omega.{arith}
 use lib.Arith.{digits-mod, digits-div}
@@ -64,3 +64,31 @@ module _ (values : List Float) (start width side : ℕ) (test : Float → Bool) 
 
 pub few : (r n side : ℕ) → r ≤ n → n ≤ 17 → side ≤ 17 → r * side ≤ 289
 few r n side h l m = mul-le-mul (le-trans h l) m
+
+-- ---- a run in fours, and what is left behind them
+module _ (values : List Float) (start n : ℕ) (test : Float → Bool) where
+  abbrev whole : ℕ
+  whole = n / 4 * 4
+
+  abbrev inFours : Bool
+  inFours = every whole (λ j. test (blockAt values start 4 4 j))
+
+  abbrev inRest : Bool
+  inRest = every (n - whole) (λ i. test (runAt values (start + whole) i))
+
+  run-cut : every n (λ i. test (runAt values start i)) ≡ (inFours && inRest)
+  run-cut =
+      ap (λ (k : ℕ). every k (λ i. test (runAt values start i))) (let e : n ≡ whole + (n - whole) = omega arith in e) ∙ every-cut (λ i. test (runAt values start i)) whole (n - whole)
+      ∙ ap (λ (z : Bool). z && every (n - whole) (λ i. test (runAt values start (whole + i))))
+      (every-same whole (λ i. test (runAt values start i)) (λ j. test (blockAt values start 4 4 j)) (λ j h. ap (λ (k : ℕ). test (getD values k nan)) (place j (j / 4 * 4) (j % 4) (div-add-mod' j 4))))
+      ∙ ap (λ (z : Bool). inFours && z)
+      (every-same (n - whole) (λ i. test (runAt values start (whole + i))) (λ i. test (runAt values (start + whole) i)) (λ i h. ap (λ (k : ℕ). test (getD values k nan)) (sym (add-assoc start whole i))))
+    where
+      place : (j q r : ℕ) → q + r ≡ j → start + j ≡ start + q + r
+      place j q r e = omega arith
+
+  pub fours-fail : inFours ≡ false → false ≡ every n (λ i. test (runAt values start i))
+  fours-fail e = sym (run-cut ∙ ap (λ (z : Bool). z && inRest) e)
+
+  pub fours-pass : inFours ≡ true → inRest ≡ every n (λ i. test (runAt values start i))
+  fours-pass e = sym (run-cut ∙ ap (λ (z : Bool). z && inRest) e)

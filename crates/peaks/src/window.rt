@@ -18,8 +18,40 @@ fn beats(v: f32, w: f32, earlier: bool) -> bool
     if earlier { w < v } else { w <= v }
 }
 
-// Whether v beats the n values from `start` on, all of them earlier ones or all later.
-pub fn beats_run(response: &[f32], start: usize, n: usize, v: f32, earlier: bool) -> bool
+// Whether v beats the four values from `at` on: tested at once, without a branch between them.
+fn beats_four(response: &[f32], at: usize, v: f32, earlier: bool) -> bool
+    requires { ⌜ at + 4 ≤ length (now response) ⌝ }
+    ensures { λ r. ⌜ r ≡ every 4 (λ i. beatsAt earlier v (runAt (now (response .entry)) at i)) ⌝ }
+{
+    if earlier {
+        return (response[at + 0] < v)
+            & (response[at + 1] < v)
+            & (response[at + 2] < v)
+            & (response[at + 3] < v);
+    }
+    (response[at + 0] <= v)
+        & (response[at + 1] <= v)
+        & (response[at + 2] <= v)
+        & (response[at + 3] <= v)
+}
+
+// Whether v beats n times four values from `start` on.
+fn beats_fours(response: &[f32], start: usize, n: usize, v: f32, earlier: bool) -> bool
+    requires { ⌜ start + n * 4 ≤ length (now response) ⌝ }
+    ensures { λ r. ⌜ r ≡ every (n * 4) (λ j. beatsAt earlier v (blockAt (now (response .entry)) start 4 4 j)) ⌝ }
+{
+    let mut r = 0;
+    while r < n {
+        if !beats_four(response, start + r * 4, v, earlier) {
+            return false;
+        }
+        r += 1;
+    }
+    true
+}
+
+// Whether v beats the n values from `start` on, one after the other.
+fn beats_few(response: &[f32], start: usize, n: usize, v: f32, earlier: bool) -> bool
     requires { ⌜ start + n ≤ length (now response) ⌝ }
     ensures { λ r. ⌜ r ≡ every n (λ i. beatsAt earlier v (runAt (now (response .entry)) start i)) ⌝ }
 {
@@ -31,6 +63,18 @@ pub fn beats_run(response: &[f32], start: usize, n: usize, v: f32, earlier: bool
         i += 1;
     }
     true
+}
+
+// Whether v beats the n values from `start` on, all of them earlier ones or all later.
+pub fn beats_run(response: &[f32], start: usize, n: usize, v: f32, earlier: bool) -> bool
+    requires { ⌜ start + n ≤ length (now response) ⌝ }
+    ensures { λ r. ⌜ r ≡ every n (λ i. beatsAt earlier v (runAt (now (response .entry)) start i)) ⌝ }
+{
+    let fours = n / 4;
+    if !beats_fours(response, start, fours, v, earlier) {
+        return false;
+    }
+    beats_few(response, start + fours * 4, n - fours * 4, v, earlier)
 }
 
 // Whether v beats n rows of `side` values each, `width` apart, the first of them from `start` on.
