@@ -106,6 +106,7 @@ beatsSix values width k =
     && le (entry values (k + width)) (entry values k)
     && le (entry values (k + width + 1)) (entry values k)
 
+-- both, as every peak does
 abbrev pub mayPeak : List Float → Float → ℕ → ℕ → Bool
 mayPeak values floor width k = standsOut values floor k && beatsSix values width k
 

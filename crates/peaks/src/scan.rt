@@ -78,7 +78,7 @@ fn keep(
 }
 
 // Lists the peaks of n columns of row y from `start` on, which are inside the border, after the first m of the list. The last row of their windows is
-// read first, in one go: else each window that is tested waits for it. No answer to that is above n.
+// read first, in one go: else each window that is tested waits for it. What that answers is never above n, so the first branch is never taken.
 fn list_columns(
     response: &[f32],
     rule: Rule,
