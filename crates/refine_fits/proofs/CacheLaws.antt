@@ -3,7 +3,7 @@ use mathlib.Core.Path.{_≡_, refl, sym, ap, _∙_, subst}
 use mathlib.Core.Logic.{_⊎_, ⊎-elim, inl, inr}
 use mathlib.Core.List.{List, [], _∷_}
 use Prim.Native.Nat.{ℕ, _+_, _*_, _/_, _%_, _≤_, _<_}
-use native.Mathlib.Nat.{eq-or-lt-of-le, le-of-suc-le-suc, add-zero}
+use native.Mathlib.Nat.{add-assoc, eq-or-lt-of-le, le-of-suc-le-suc, add-zero}
 use native.Mathlib.Omega.{arith}
 use mathlib.Core.Bool.{Bool, true, false, _&&_, cond}
 use lib.Dec.{T, leb, ltb, eqb, leb→le}
@@ -263,8 +263,12 @@ room01 w = record { sound = w .sound; left = w .left; right = omega (arith, w .r
 pub room11 : {img : Image} {radius x y : ℕ} → FourWithin img radius x y → PatchWithin img radius (x + 1) (y + 1)
 room11 w = record { sound = w .sound; left = omega (arith, w .left); right = w .right; above = omega (arith, w .above); below = w .below }
 
-pub room-at : {img : Image} {radius x y : ℕ} (k : ℕ) → FourWithin img radius x y → k < 4 → PatchWithin img radius (x + k % 2) (y + k / 2)
-room-at k w h = record { sound = w .sound; left = omega (arith, w .left); right = omega (arith, w .right); above = omega (arith, w .above); below = omega (arith, w .below) }
+-- of which the first and the second stand in row k / 2
+pub room-left : {img : Image} {radius x y : ℕ} (k : ℕ) → FourWithin img radius x y → k < 4 → PatchWithin img radius x (y + k / 2)
+room-left k w h = record { sound = w .sound; left = w .left; right = omega (arith, w .right); above = omega (arith, w .above); below = omega (arith, w .below) }
+
+pub room-right : {img : Image} {radius x y : ℕ} (k : ℕ) → FourWithin img radius x y → k < 4 → PatchWithin img radius (x + 1) (y + k / 2)
+room-right k w h = record { sound = w .sound; left = omega (arith, w .left); right = omega (arith, w .right); above = omega (arith, w .above); below = omega (arith, w .below) }
 
 -- the four, by one of them
 module _ (img : Image) (columns : List Float) (radius x y : ℕ) where
@@ -367,6 +371,25 @@ module _ (img : Image) (columns : List Float) (radius x y : ℕ) where
         third = λ j q. l .fourth j (let r : k ≡ j + 1 = omega arith in r);
         fourth = λ j q. e ∙ ap about (let r : k ≡ j = omega arith in r);
       }
+
+  -- two in a row
+  pub look-row : (fits : IntegerFits) (c00 c10 c01 c11 : List Float) (k : ℕ) (a : List Float) (between : IntegerFits) (b : List Float) (next : IntegerFits) → Looking fits c00 c10 c01 c11 k → k % 2 ≡ 0 → k < 4
+      → a ≡ coefficients img columns radius x (y + k / 2) → Kept img columns radius between → b ≡ coefficients img columns radius (x + 1) (y + k / 2) → Kept img columns radius next → Looking next c01 c11 a b (k + 2)
+  look-row fits c00 c10 c01 c11 k a between b next l e h p m q n =
+      subst (Looking next c01 c11 a b) (add-assoc k 1 1)
+      (look-next between c10 c01 c11 a (k + 1) b next (look-next fits c00 c10 c01 c11 k a between l h (p ∙ ap (λ (u : ℕ). coefficients img columns radius u (y + k / 2)) (left k e)) m) (low k e h) (q ∙ ap (λ (u : ℕ). coefficients img columns radius u (y + k / 2)) (right k e) ∙ ap (λ (v : ℕ). coefficients img columns radius (x + (k + 1) % 2) v) (row k e)) n)
+    where
+      left : (k : ℕ) → k % 2 ≡ 0 → x ≡ x + k % 2
+      left k e = omega arith
+
+      right : (k : ℕ) → k % 2 ≡ 0 → x + 1 ≡ x + (k + 1) % 2
+      right k e = omega arith
+
+      row : (k : ℕ) → k % 2 ≡ 0 → y + k / 2 ≡ y + (k + 1) / 2
+      row k e = omega arith
+
+      low : (k : ℕ) → k % 2 ≡ 0 → k < 4 → k + 1 < 4
+      low k e h = omega arith
 
   pub look-last : (fits : IntegerFits) (c00 c10 c01 c11 : List Float) (k : ℕ) → FourWithin img radius x y → Looking fits c00 c10 c01 c11 k → 4 ≤ k → Surrounds img columns radius x y (record { fits = fits; corners = record { c00 = c00; c10 = c10; c01 = c01; c11 = c11 } })
   look-last fits c00 c10 c01 c11 k w l h =

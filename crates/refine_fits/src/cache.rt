@@ -44,7 +44,7 @@ impl IntegerFits {
         Looked { coefs, fits: self }
     }
 
-    // The four fits about (x, y), one after the other.
+    // The four fits about (x, y), one after the other. Two calls of `at` stand here, so that its copies lie in a frame of their own and not in that of the steps.
     pub fn look(
         self,
         bytes: &[u8],
@@ -68,14 +68,17 @@ impl IntegerFits {
         };
         let mut k: usize = 0;
         while k < 4 {
-            // each fit comes in at the end and moves up, so that the first of four is c00
-            c00 = c10;
-            c10 = c01;
+            // a row of two at a time; the row before moves up, so that the first is c00
+            c00 = c01;
+            c10 = found.coefs;
+            found = found
+                .fits
+                .at(bytes, words, sizes, x, y + k / 2, radius, columns);
             c01 = found.coefs;
             found = found
                 .fits
-                .at(bytes, words, sizes, x + k % 2, y + k / 2, radius, columns);
-            k += 1;
+                .at(bytes, words, sizes, x + 1, y + k / 2, radius, columns);
+            k += 2;
         }
         let c11 = found.coefs;
         let corners = Corners { c00, c10, c01, c11 };
