@@ -3,11 +3,11 @@
 use replay::Next;
 use replay::Tally;
 
-mod answers;
-mod seeds;
-
 // More cases than the list has, so that the loop ends.
 const MOST: u32 = 2000;
+
+// The words before the records: the settings, whether a covariance is wanted, and the number of seeds.
+const BEFORE: usize = 6;
 
 // What is counted by each call.
 pub struct Both {
@@ -55,9 +55,27 @@ fn new() -> Both {
 
 // The seeds of a case by each call.
 fn trial(tally: Both, case: &mut [u8]) -> Both {
-    let own = seeds::own(tally.own, case);
-    let lent = seeds::lent(tally.lent, case);
+    let own = own(tally.own, case);
+    let lent = lent(tally.lent, case);
     Both { own, lent }
+}
+
+// Every seed by the call that builds its own operator.
+fn own(tally: Tally, case: &mut [u8]) -> Tally {
+    let columns = [0.0f32; 1125];
+    let overlap = [0.0f32; 225];
+    replay_seeds::every(tally, case, BEFORE, false, &columns, &overlap)
+}
+
+// The same by the call that is lent the operator; where there is none for the radius, the case is passed over.
+fn lent(tally: Tally, case: &mut [u8]) -> Tally {
+    let mut columns = [0.0f32; 1125];
+    let mut overlap = [0.0f32; 225];
+    let radius = words::word(case, replay::behind_image(case)) as usize;
+    if chess_corners::chess_corners_fit_operator(radius, &mut columns, &mut overlap) != 0 {
+        return tally;
+    }
+    replay_seeds::every(tally, case, BEFORE, true, &columns, &overlap)
 }
 
 fn ended(tally: Both) -> Both {

@@ -1,16 +1,16 @@
--- `replay_refine::seeds::every` is proved safe and ending: the case keeps its length.
+-- `replay_seeds::every` is proved safe and ending: the case keeps its length.
 use mathlib.Core.Path.{_≡_}
 use Prim.Native.Nat.{_-_, _≤_}
 use lib.ListN.{length}
 use borrow.Author.Needs.{needs}
-use Rattle.replay_refine.proofs.seeds.every.Statement.{statement}
-use Rattle.replay_refine.proofs.seeds.every.Tie as tie
+use Rattle.replay_seeds.proofs.every.Statement.{statement}
+use Rattle.replay_seeds.proofs.every.Tie as tie
 
 abbrev Inv-loop : tie.InvT-loop
-Inv-loop case₀ lent columns overlap at k tally₀ i₀ case tally i = (length case ≡ length case₀) × (k ≤ 100)
+Inv-loop case₀ before lent columns overlap at k tally₀ i₀ case tally i = (length case ≡ length case₀) × (k ≤ 100)
 
 abbrev μ-loop : tie.MeasureT-loop
-μ-loop case₀ lent columns overlap at k tally₀ i₀ case tally i = k - i
+μ-loop case₀ before lent columns overlap at k tally₀ i₀ case tally i = k - i
 
 behind-image-requires : tie.Need-behind-image-requires Inv-loop μ-loop
 behind-image-requires c κs = search needs

@@ -1,37 +1,23 @@
-// The seeds of a case. Behind the image stand the settings, whether a covariance is wanted, the number of seeds, and fourteen words for each.
-use crate::answers;
+// What the replays of single seeds share. Behind the image stand the settings, whether a covariance is wanted, the number of seeds, in one list the
+// lent operator, and fourteen words for each seed.
+mod answers;
+
 use replay::Aim;
 use replay::Tally;
 ghost use mathlib.Core.Path.{_≡_};
 ghost use Prim.Native.Nat.{_≤_};
 ghost use lib.ListN.{length};
 
-// Every seed by the call that builds its own operator.
-pub fn own(tally: Tally, case: &mut [u8]) -> Tally {
-    let columns = [0.0f32; 1125];
-    let overlap = [0.0f32; 225];
-    every(tally, case, false, &columns, &overlap)
-}
-
-// The same by the call that is lent the operator; where there is none for the radius, the case is passed over.
-pub fn lent(tally: Tally, case: &mut [u8]) -> Tally {
-    let mut columns = [0.0f32; 1125];
-    let mut overlap = [0.0f32; 225];
-    let radius = words::word(case, replay::behind_image(case)) as usize;
-    if chess_corners::chess_corners_fit_operator(radius, &mut columns, &mut overlap) != 0 {
-        return tally;
-    }
-    every(tally, case, true, &columns, &overlap)
-}
-
-fn every(
+// Every seed of a case whose records begin some words behind its image, by the call that is lent the operator or by the one that builds its own.
+pub fn every(
     start: Tally,
     case: &mut [u8],
+    before: usize,
     lent: bool,
     columns: &[f32; 1125],
     overlap: &[f32; 225],
 ) -> Tally {
-    let at = replay::place(replay::behind_image(case), 6);
+    let at = replay::place(replay::behind_image(case), before);
     let k = number(case);
     let mut tally = start;
     let mut i = 0;
