@@ -186,7 +186,17 @@ fn spot_at(
     ensures { λ _. ⌜ FirstFits (imageOf (now (bytes .entry)) (now (words .entry)) sizes) cfg (now (columns .entry)) (now (corners .entry)) (i / 4) (now (flat .exit)) ⌝ }
 {
     if held != i / 4 {
-        list::first_fits(bytes, words, sizes, cfg, columns, corners, i / 4, flat);
+        list::first_fits(
+            bytes,
+            words,
+            sizes,
+            cfg,
+            columns,
+            false,
+            corners,
+            i / 4,
+            flat,
+        );
     }
     refine_seed::spot_with(
         bytes,
@@ -196,6 +206,7 @@ fn spot_at(
         corners[3 * i],
         corners[3 * i + 1],
         columns,
+        false,
         flat,
         i % 4,
     )

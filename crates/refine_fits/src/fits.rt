@@ -6,6 +6,7 @@ ghost use mathlib.Core.Path.{_≡_};
 ghost use Prim.Native.Nat.{_+_, _*_, _<_, _≤_};
 ghost use lib.ListN.{length, take, drop};
 ghost use Rattle.imageview.specs.Image.{imageOf, samplesOf};
+ghost use Rattle.refine_patch.specs.StepsFrom.{Repeats};
 ghost use Rattle.refine_fits.specs.Fit.{coefficients};
 ghost use Rattle.refine_fits.specs.StepsAdding.{added, rowAdded, PatchWithin, FourWithin};
 ghost use Rattle.refine_fits.specs.StepsBases.{firstPlace, Laid};
@@ -136,10 +137,12 @@ pub fn fit_about(
     y: usize,
     radius: usize,
     columns: &[f32; 1125],
+    fourfold: bool,
     flat: &mut [f32; 40],
     to: usize,
 )
     requires { ⌜ FourWithin (imageOf (now bytes) (now words) sizes) radius x y ⌝ ∗ ⌜ (length (now flat) ≡ 40) × (to ≤ 20) ⌝ }
+    requires { ⌜ Repeats fourfold radius (now columns) ⌝ }
     ensures { λ _. ⌜ Laid (imageOf (now (bytes .entry)) (now (words .entry)) sizes) (now (columns .entry)) radius x y to (now (flat .entry)) (now (flat .exit)) ⌝ }
 {
     let pitch = sizes.pitch;
@@ -156,6 +159,7 @@ pub fn fit_about(
         sizes.deep,
         pitch,
         columns,
+        fourfold,
         radius,
         firsts,
         flat,

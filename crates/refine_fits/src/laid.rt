@@ -14,6 +14,7 @@ ghost use mathlib.Core.Bool.{false};
 ghost use Prim.Native.Nat.{_+_, _<_, _≤_};
 ghost use lib.ListN.{length};
 ghost use Rattle.imageview.specs.Image.{imageOf};
+ghost use Rattle.refine_patch.specs.StepsFrom.{Repeats};
 ghost use Rattle.refine_fits.specs.StepsAdding.{Sound, FourWithin, hasRoom};
 ghost use Rattle.refine_fits.specs.StepsCache.{Kept};
 ghost use Rattle.refine_fits.specs.StepsBases.{coefsIn, cornersIn, sideBySide, NoBases, Held, Prepares, Relays};
@@ -40,9 +41,11 @@ impl Bases {
         w: Window,
         radius: usize,
         columns: &[f32; 1125],
+        fourfold: bool,
         flat: &mut [f32; 40],
     ) -> Ready
         requires { ⌜ Sound (imageOf (now bytes) (now words) sizes) radius ⌝ ∗ ⌜ Held (imageOf (now bytes) (now words) sizes) (now columns) radius self (now flat) ⌝ ∗ ⌜ (w .«base_x» ≤ 8192) × (w .«base_y» ≤ 8192) ⌝ }
+        requires { ⌜ Repeats fourfold radius (now columns) ⌝ }
         ensures { λ r. ⌜ Prepares (imageOf (now (bytes .entry)) (now (words .entry)) sizes) (now (columns .entry)) radius (w .«base_x») (w .«base_y») r (now (flat .exit)) ⌝ }
     {
         if !has_room(sizes, w.base_x, w.base_y, radius) {
@@ -62,6 +65,7 @@ impl Bases {
             w.base_y,
             radius,
             columns,
+            fourfold,
             flat,
         )
     }
@@ -76,9 +80,11 @@ impl Bases {
         y: usize,
         radius: usize,
         columns: &[f32; 1125],
+        fourfold: bool,
         flat: &mut [f32; 40],
     ) -> Ready
         requires { ⌜ FourWithin (imageOf (now bytes) (now words) sizes) radius x y ⌝ ∗ ⌜ Held (imageOf (now bytes) (now words) sizes) (now columns) radius self (now flat) ⌝ }
+        requires { ⌜ Repeats fourfold radius (now columns) ⌝ }
         ensures { λ r. ⌜ Prepares (imageOf (now (bytes .entry)) (now (words .entry)) sizes) (now (columns .entry)) radius x y r (now (flat .exit)) ⌝ }
     {
         if self.x1 < 8192 {
@@ -90,10 +96,32 @@ impl Bases {
             };
         }
         if self.x0 < 8192 {
-            fits::fit_about(bytes, words, sizes, x, y, radius, columns, flat, 20);
+            fits::fit_about(
+                bytes,
+                words,
+                sizes,
+                x,
+                y,
+                radius,
+                columns,
+                fourfold,
+                flat,
+                20,
+            );
             return self.ending(x, y).at(true, 20);
         }
-        fits::fit_about(bytes, words, sizes, x, y, radius, columns, flat, 0);
+        fits::fit_about(
+            bytes,
+            words,
+            sizes,
+            x,
+            y,
+            radius,
+            columns,
+            fourfold,
+            flat,
+            0,
+        );
         self.beginning(x, y).at(true, 0)
     }
 

@@ -1,10 +1,12 @@
 -- What the list's inner functions do: records written to the front of the output, and the first fits of four seeds at once.
 use mathlib.Core.Path.{_≡_}
-use mathlib.Core.Bool.{Bool}
+use mathlib.Core.Bool.{Bool, _&&_, cond}
 use mathlib.Core.List.{List, _++_}
-use Prim.Native.Nat.{ℕ, _+_, _*_, _/_, _≤_, _<_}
+use Prim.Native.Nat.{ℕ, _+_, _-_, _*_, _/_, _≤_, _<_}
+use lib.Dec.{leb, ltb}
 use lib.ListN.{length, drop}
 use lib.Ieee.{Float}
+use Rattle.shapes.specs.Lists.{tabulated}
 use Rattle.shapes.specs.Numbers.{entry}
 use Rattle.imageview.specs.Image.{Image}
 use Rattle.refine_formulas.specs.declared.SaddlePointConfig.{SaddlePointConfig}
@@ -33,6 +35,19 @@ pub record Going (spots : ℕ → Spot) (corners out : List Float) (i w : ℕ) (
 pub record Usable (cfg : SaddlePointConfig) (columns : List Float) : Type 0 where
   pub overlap : List Float
   pub same : (img : Image) (x y : Float) (wanted : Bool) → refineLent img cfg x y wanted columns overlap ≡ refineOf img cfg x y wanted
+
+-- ---- columns that repeat their numbers
+-- each of the first 125 once more four times, side by side, from 624 on
+unfoldable pub repeated : List Float → List Float
+unfolding tabulated
+repeated old = tabulated 1125 (λ i. cond (leb 624 i && ltb i 1124) (entry old ((i - 624) / 4)) (entry old i))
+
+-- after k of them
+pub record Repeating (old : List Float) (k : ℕ) (now : List Float) : Type 0 where
+  pub long : length now ≡ 1125
+  pub front : (i : ℕ) → i < 624 → entry now i ≡ entry old i
+  pub here : (i l : ℕ) → i < k → l < 4 → entry now (624 + 4 * i + l) ≡ entry old i
+  pub past : (i : ℕ) → 624 + 4 * k ≤ i → entry now i ≡ entry old i
 
 -- ---- the first fits of four seeds at once
 -- those of the seeds 4 · group to 4 · group + 3 stand at the front of the list, one after the other; past the last seed anything may stand

@@ -4,8 +4,9 @@ ghost use mathlib.Core.List.{_++_};
 ghost use Prim.Native.Nat.{_+_, _*_, _/_, _<_, _≤_};
 ghost use lib.ListN.{length, take, drop};
 ghost use Rattle.imageview.specs.Image.{imageOf};
+ghost use Rattle.refine_patch.specs.StepsFrom.{Repeats};
 ghost use Rattle.refine_list.specs.Refining.{recordOf};
-ghost use Rattle.refine_list.specs.Steps.{AllWritten, Usable, FirstFits, Begins};
+ghost use Rattle.refine_list.specs.Steps.{AllWritten, Usable, FirstFits, Begins, repeated};
 ghost use Rattle.refine_seed.specs.StepsSpot.{Ready};
 use corners::Corner;
 use imageview::Sizes;
@@ -29,9 +30,40 @@ pub fn refine_list(
     let mut columns = [0.0f32; 1125];
     let operator = refine_operator::fit_columns(cfg.radius, &mut columns);
     match operator {
-        Operator::Built => refine_all(bytes, words, sizes, cfg, &columns, corners, out),
+        Operator::Built => {
+            if cfg.radius < 3 {
+                repeat(&mut columns);
+            }
+            refine_all(
+                bytes,
+                words,
+                sizes,
+                cfg,
+                &columns,
+                cfg.radius < 3,
+                corners,
+                out,
+            )
+        }
         Operator::Singular => 0,
         Operator::Refused(_) => 0,
+    }
+}
+
+// Each of the first 125 numbers four times more, side by side: such a number needs no copies in a register. Only for lists: one seed would not earn it back.
+fn repeat(columns: &mut [f32; 1125])
+    requires { ⌜ length (now columns) ≡ 1125 ⌝ }
+    ensures { λ _. ⌜ now (columns .exit) ≡ repeated (now (columns .entry)) ⌝ }
+{
+    let mut k: usize = 0;
+    while k < 125 {
+        let number = columns[k];
+        let i = 624 + 4 * k;
+        columns[i + 0] = number;
+        columns[i + 1] = number;
+        columns[i + 2] = number;
+        columns[i + 3] = number;
+        k += 1;
     }
 }
 
@@ -42,10 +74,12 @@ fn refine_all(
     sizes: Sizes,
     cfg: SaddlePointConfig,
     columns: &[f32; 1125],
+    fourfold: bool,
     corners: &[f32],
     out: &mut [f32],
 ) -> usize
     requires { ⌜ length (now corners) ≤ length (now out) ⌝ ∗ ⌜ Usable cfg (now columns) ⌝ ∗ ⌜ Ready (imageOf (now bytes) (now words) sizes) cfg ⌝ }
+    requires { ⌜ Repeats fourfold (cfg .radius) (now columns) ⌝ }
     ensures { λ n. ⌜ AllWritten (imageOf (now (bytes .entry)) (now (words .entry)) sizes) cfg (now (corners .entry)) (now (out .entry)) n (now (out .exit)) ⌝ }
 {
     let n = corners.len() / 3;
@@ -54,7 +88,17 @@ fn refine_all(
     let mut i = 0;
     while i < n {
         if i % 4 == 0 {
-            first_fits(bytes, words, sizes, cfg, columns, corners, i / 4, &mut flat);
+            first_fits(
+                bytes,
+                words,
+                sizes,
+                cfg,
+                columns,
+                fourfold,
+                corners,
+                i / 4,
+                &mut flat,
+            );
         }
         let spot = refine_seed::spot_with(
             bytes,
@@ -64,6 +108,7 @@ fn refine_all(
             corners[3 * i],
             corners[3 * i + 1],
             columns,
+            fourfold,
             &flat,
             i % 4,
         );
@@ -80,11 +125,13 @@ pub fn first_fits(
     sizes: Sizes,
     cfg: SaddlePointConfig,
     columns: &[f32; 1125],
+    fourfold: bool,
     corners: &[f32],
     group: usize,
     flat: &mut [f32; 40],
 )
     requires { ⌜ Ready (imageOf (now bytes) (now words) sizes) cfg ⌝ ∗ ⌜ (length (now flat) ≡ 40) × (4 * group < length (now corners) / 3) ⌝ }
+    requires { ⌜ Repeats fourfold (cfg .radius) (now columns) ⌝ }
     ensures { λ _. ⌜ FirstFits (imageOf (now (bytes .entry)) (now (words .entry)) sizes) cfg (now (columns .entry)) (now (corners .entry)) group (now (flat .exit)) ⌝ }
 {
     let radius = cfg.radius;
@@ -105,6 +152,7 @@ pub fn first_fits(
         sizes.deep,
         sizes.pitch,
         columns,
+        fourfold,
         radius,
         at,
         flat,

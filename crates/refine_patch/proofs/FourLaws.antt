@@ -5,6 +5,7 @@ use mathlib.Core.Logic.{_⊎_, inl, inr, ⊎-elim}
 use mathlib.Core.List.{List}
 use Prim.Native.Nat.{ℕ, zero, suc, _+_, _-_, _*_, _/_, _%_, _≤_, _<_, zero-le, suc-le-suc}
 use native.Mathlib.Nat.{eq-or-lt-of-le, div-add-mod', mod-lt}
+use native.Mathlib.Numerals.{add-one}
 use native.Mathlib.Omega.{arith}
 use borrow.Author.Tests.{le-leb, lt-leb, le-ltb, lt-ltb}
 use lib.Dec.{leb, ltb}
@@ -14,9 +15,10 @@ use lib.Ieee.{Float, nan}
 use Rattle.shapes.specs.Numbers.{entry}
 use Rattle.shapes.proofs.ListLaws.{length-tabulated, getD-tabulated, tabulated-by, tabulated-cong}
 use Rattle.refine_patch.specs.declared.Firsts.{Firsts}
+use Rattle.refine_patch.specs.declared.Quad.{Quad}
 use Rattle.refine_patch.specs.declared.Sums.{Sums}
 use Rattle.refine_patch.specs.StepsFrom.{fourWritten}
-use Rattle.refine_patch.specs.StepsFour.{fourOf, laneOf, laneIn, sumIn, fourSet, blocks, Gathered}
+use Rattle.refine_patch.specs.StepsFour.{fourOf, laneOf, laneIn, sumIn, quadBy, fourSet, blocks, Gathered}
 
 -- ---- four entries side by side
 module _ {A : Type 0} (d : A) (l : List A) (m : ℕ) (g : ℕ → A) where
@@ -64,27 +66,28 @@ lanes-read list at n (suc zero) = refl
 lanes-read list at n (suc (suc zero)) = refl
 lanes-read list at n (suc (suc (suc l))) = refl
 
-pub gathered-more : (list : List ℕ) (at : Firsts) (n : ℕ) (row after : List ℕ) → n < 16 → Gathered list at n row → after ≡ fourSet row (4 * n) (fourOf (getD list (at .a + n) 0) (getD list (at .b + n) 0) (getD list (at .c + n) 0) (getD list (at .d + n) 0)) → Gathered list at (n + 1) after
-gathered-more list at n row after h g e =
+pub gathered-none : (list : List ℕ) (at : Firsts) (to : ℕ) (row : List ℕ) → length row ≡ 112 → Gathered list at 0 to row row
+gathered-none list at to row h = record { long = h; here = λ i l p q. absurd (let z : ⊥ = omega arith in z); before = λ m p. refl }
+
+pub gathered-more : (list : List ℕ) (at : Firsts) (n to : ℕ) (old row after : List ℕ) → to + 4 * n + 4 ≤ 112 → Gathered list at n to old row → after ≡ fourSet row (to + 4 * n) (fourOf (getD list (at .a + n) 0) (getD list (at .b + n) 0) (getD list (at .c + n) 0) (getD list (at .d + n) 0)) → Gathered list at (n + 1) to old after
+gathered-more list at n to old row after h g e =
     let v = fourOf (getD list (at .a + n) 0) (getD list (at .b + n) 0) (getD list (at .c + n) 0) (getD list (at .d + n) 0) in
     record {
-      long = ap length e ∙ length-four 0 row (4 * n) v ∙ g .long;
+      long = ap length e ∙ length-four 0 row (to + 4 * n) v ∙ g .long;
       here =
           λ i l p q.
-          ap (λ (r : List ℕ). getD r (4 * i + l) 0) e
+          ap (λ (r : List ℕ). getD r (to + 4 * i + l) 0) e
           ∙ ⊎-elim
           (λ (same : i ≡ n).
-          subst (λ (k : ℕ). getD (fourSet row (4 * n) v) (4 * k + l) 0 ≡ getD list (laneOf at l + k) 0) (sym same)
-          (four-here 0 row (4 * n) v (room n (length row) h (g .long)) l q ∙ lanes-read list at n l))
-          (λ (less : i < n). four-before 0 row (4 * n) v (4 * i + l) (omega arith) ∙ g .here i l less q)
+          subst (λ (k : ℕ). getD (fourSet row (to + 4 * n) v) (to + 4 * k + l) 0 ≡ getD list (laneOf at l + k) 0) (sym same)
+          (four-here 0 row (to + 4 * n) v (room (to + 4 * n) (length row) h (g .long)) l q ∙ lanes-read list at n l))
+          (λ (less : i < n). four-before 0 row (to + 4 * n) v (to + 4 * i + l) (omega arith) ∙ g .here i l less q)
           (eq-or-lt-of-le (omega arith));
+      before = λ m p. ap (λ (r : List ℕ). getD r m 0) e ∙ four-before 0 row (to + 4 * n) v m (omega arith) ∙ g .before m p;
     }
   where
-    room : (n count : ℕ) → n < 16 → count ≡ 64 → 4 * n + 4 ≤ count
-    room n count h e = omega arith
-
-pub gathered-fewer : (list : List ℕ) (at : Firsts) (m n : ℕ) (row : List ℕ) → m ≤ n → Gathered list at n row → Gathered list at m row
-gathered-fewer list at m n row h g = record { long = g .long; here = λ i l p q. g .here i l (omega arith) q }
+    room : (m count : ℕ) → m + 4 ≤ 112 → count ≡ 112 → m + 4 ≤ count
+    room m count h e = omega arith
 
 -- ---- blocks of four
 module _ (f : ℕ → ℕ → Float) (to : ℕ) (old : List Float) where
@@ -112,7 +115,7 @@ module _ (f : ℕ → ℕ → Float) (to : ℕ) (old : List Float) where
       (λ (less : c < n). four-before nan (blocks n f to old) (to + 4 * n) (f n) (to + 4 * c + j) (omega arith) ∙ blocks-here n (omega arith) c j less q)
       (eq-or-lt-of-le (omega arith))
 
-lt-or-le : (a b : ℕ) → (a < b) ⊎ (b ≤ a)
+pub lt-or-le : (a b : ℕ) → (a < b) ⊎ (b ≤ a)
 lt-or-le a zero = inr zero-le
 lt-or-le zero (suc b) = inl (suc-le-suc zero-le)
 lt-or-le (suc a) (suc b) = ⊎-elim (λ p. inl (suc-le-suc p)) (λ q. inr (suc-le-suc q)) (lt-or-le a b)
@@ -184,7 +187,20 @@ module _ (f : ℕ → ℕ → Float) (to : ℕ) (old : List Float) where
       ∙ ap (λ (m : ℕ). f m ((to + 4 * c + l - to) % 4)) (let e : (to + 4 * c + l - to) / 4 ≡ c = omega arith in e)
       ∙ ap (λ (m : ℕ). f c m) (let e : (to + 4 * c + l - to) % 4 ≡ l = omega arith in e)
 
--- five blocks, one after the other
+-- one block after the other
+pub blocks-none : (f : ℕ → ℕ → Float) (to : ℕ) (old : List Float) → old ≡ blocks 0 f to old
+unfolding blocks
+blocks-none f to old = refl
+
+pub block-more : (f : ℕ → ℕ → Float) (to n : ℕ) (old l after : List Float) (v : Quad) → l ≡ blocks n f to old → v ≡ quadBy (f n) → after ≡ fourSet l (to + 4 * n) (laneIn v) → after ≡ blocks (n + 1) f to old
+unfolding blocks
+block-more f to n old l after v e q p =
+    p
+    ∙ ap (λ (k : List Float). fourSet k (to + 4 * n) (laneIn v)) e
+    ∙ ap (λ (w : Quad). fourSet (blocks n f to old) (to + 4 * n) (laneIn w)) q
+    ∙ ap (λ (k : ℕ). blocks k f to old) (sym (add-one n))
+
+-- five blocks
 pub stored : (s : Sums) (to : ℕ) (old a b c d e : List Float) → a ≡ fourSet old (to + 0) (laneIn (s .a)) → b ≡ fourSet a (to + 4) (laneIn (s .b)) → c ≡ fourSet b (to + 8) (laneIn (s .c)) → d ≡ fourSet c (to + 12) (laneIn (s .d)) → e ≡ fourSet d (to + 16) (laneIn (s .e)) → e ≡ blocks 5 (sumIn s) to old
 unfolding blocks
 stored s to old a b c d e pa pb pc pd pe =

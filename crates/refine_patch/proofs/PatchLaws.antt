@@ -1,5 +1,6 @@
 -- The fit on a patch that is given by its first place is the fit about a pixel of an image.
 use mathlib.Core.Path.{_≡_, ap, _∙_}
+use mathlib.Core.Bool.{false, false≢true}
 use mathlib.Core.List.{List}
 use Prim.Native.Nat.{ℕ, _+_, _-_, _*_, _/_, _%_}
 use native.Mathlib.Nat.{add-mul}
@@ -13,7 +14,7 @@ use Rattle.shapes.proofs.TurnLaws.{turns-cong}
 use Rattle.imageview.specs.Image.{Image, pixel}
 use Rattle.refine_operator.specs.Basis.{side, samples}
 use Rattle.refine_formulas.specs.Numbers.{_⊕_, _⊖_, _⊗_}
-use Rattle.refine_patch.specs.StepsFrom.{sampleFrom, coefficientFrom}
+use Rattle.refine_patch.specs.StepsFrom.{sampleFrom, coefficientFrom, Repeats}
 
 -- the first place of the patch about (x, y)
 abbrev pub firstOf : Image → ℕ → ℕ → ℕ → ℕ
@@ -41,3 +42,7 @@ coefficient-about img columns radius x y i =
     (λ k a. a ⊕ entry columns (5 * k + i) ⊗ (patchSample img radius x y k ⊖ patchSample img radius x y (samples radius / 2))) plusZero
     (λ k h a. ap (λ (v : Float). a ⊕ entry columns (5 * k + i) ⊗ (v ⊖ sampleFrom (img .samples) (img .pitch) radius (firstOf img radius x y) (samples radius / 2))) (sample-about img radius x y k)
     ∙ ap (λ (v : Float). a ⊕ entry columns (5 * k + i) ⊗ (patchSample img radius x y k ⊖ v)) (sample-about img radius x y (samples radius / 2)))
+
+-- columns of which nothing is said
+pub once : (radius : ℕ) (columns : List Float) → Repeats false radius columns
+once radius columns = record { few = λ e. absurd (false≢true e); each = λ e. absurd (false≢true e) }

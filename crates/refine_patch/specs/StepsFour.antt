@@ -1,7 +1,9 @@
 -- Four patches side by side: a number for each, a row of their samples, their sums while samples are added, and where the sums are put.
 use mathlib.Core.Path.{_≡_}
+use mathlib.Core.Bool.{cond}
 use mathlib.Core.List.{List}
 use Prim.Native.Nat.{ℕ, zero, suc, _+_, _*_, _≤_, _<_}
+use lib.Dec.{ltb}
 use lib.IntN.{pos}
 use lib.ListN.{length, getD, set}
 use lib.Ieee.{Float, binary32, ofInt}
@@ -71,11 +73,21 @@ pub record PatchesInside (count pitch radius : ℕ) (at : Firsts) : Type 0 where
   pub third : at .c + 2 * radius * pitch + 2 * radius < count
   pub fourth : at .d + 2 * radius * pitch + 2 * radius < count
 
--- n samples of every row of the four, at least the row's own, lie in the list: those of the last row do
-pub record Reaches (count pitch radius : ℕ) (at : Firsts) (n : ℕ) : Type 0 where
-  pub least : 2 * radius + 1 ≤ n
-  pub most : n ≤ 16
-  pub last : FourReach (count + 1) n (movedBy at (2 * radius * pitch))
+-- how many samples of a row are read: its own and some more
+abbrev pub wideOf : ℕ → ℕ
+wideOf radius = cond (ltb radius 4) 8 16
+
+-- so many of every row of the four lie in the list: those of the last row do
+abbrev pub Reaches : ℕ → ℕ → ℕ → Firsts → Type 0
+Reaches count pitch radius at = FourReach (count + 1) (wideOf radius) (movedBy at (2 * radius * pitch))
+
+-- how many rows are gathered at a time, at most
+abbrev pub rowsOf : ℕ → ℕ
+rowsOf radius = cond (ltb radius 3) 5 1
+
+-- so many of each of some rows do
+pub record RowsReach (count pitch radius : ℕ) (at : Firsts) (rows : ℕ) : Type 0 where
+  pub each : (j : ℕ) → j < rows → FourReach (count + 1) (wideOf radius) (movedBy at (j * pitch))
 
 -- ---- writing four side by side
 abbrev pub fourSet : {A : Type 0} → List A → ℕ → (ℕ → A) → List A
@@ -86,10 +98,16 @@ unfoldable pub blocks : ℕ → (ℕ → ℕ → Float) → ℕ → List Float �
 blocks zero f to l = l
 blocks (suc n) f to l = fourSet (blocks n f to l) (to + 4 * n) (f n)
 
--- n samples of a row of each patch
-pub record Gathered (list : List ℕ) (at : Firsts) (n : ℕ) (row : List ℕ) : Type 0 where
-  pub long : length row ≡ 64
-  pub here : (i l : ℕ) → i < n → l < 4 → getD row (4 * i + l) 0 ≡ getD list (laneOf at l + i) 0
+-- n samples of a row of each patch, from `to` on; what lies before stays
+pub record Gathered (list : List ℕ) (at : Firsts) (n to : ℕ) (old row : List ℕ) : Type 0 where
+  pub long : length row ≡ 112
+  pub here : (i l : ℕ) → i < n → l < 4 → getD row (to + 4 * i + l) 0 ≡ getD list (laneOf at l + i) 0
+  pub before : (m : ℕ) → m < to → getD row m 0 ≡ getD old m 0
+
+-- some rows of so many samples each, one after the other
+pub record Rows (list : List ℕ) (pitch side : ℕ) (at : Firsts) (rows : ℕ) (row : List ℕ) : Type 0 where
+  pub long : length row ≡ 112
+  pub here : (j i l : ℕ) → j < rows → i < side → l < 4 → getD row (4 * (j * side + i) + l) 0 ≡ getD list (laneOf at l + j * pitch + i) 0
 
 -- ---- adding
 abbrev pub floatOf : ℕ → Float
@@ -102,7 +120,7 @@ levelOf f centre = quadBy (λ l. floatOf (f l) ⊖ laneIn centre l)
 abbrev pub added : List Float → ℕ → Quad → Sums → Sums
 added columns k z s = sumsBy (λ c l. sumIn s c l ⊕ entry columns (5 * k + c) ⊗ laneIn z l)
 
--- with n samples of a row whose first is the sample from
+-- with n samples, the first of which is the sample from
 unfoldable pub rowAdded : List Float → List ℕ → Quad → ℕ → ℕ → Sums → Sums
 rowAdded columns row centre from zero s = s
 rowAdded columns row centre from (suc n) s = added columns (from + n) (levelOf (λ l. getD row (4 * n + l) 0) centre) (rowAdded columns row centre from n s)

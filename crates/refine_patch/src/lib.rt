@@ -1,16 +1,19 @@
 // The fits of four patches at once, given by the places of their first samples. The four stand side by side in each sum, so that one product serves all.
 // An index with `+ 0` is the definition's `+ c` or `+ l` at 0.
 ghost use mathlib.Core.Path.{_≡_};
+ghost use mathlib.Core.Bool.{true};
 ghost use Prim.Native.Nat.{_+_, _-_, _*_, _≤_, _<_};
 ghost use lib.Dec.{leb};
 ghost use lib.ListN.{length};
 ghost use Rattle.shapes.specs.Numbers.{plusZero};
 ghost use Rattle.imageview.specs.Image.{samplesOf};
-ghost use Rattle.refine_operator.specs.Basis.{samples};
-ghost use Rattle.refine_patch.specs.StepsFrom.{coefficientFrom, fourWritten};
-ghost use Rattle.refine_patch.specs.StepsFour.{laneOf, sampleIn, sumIn, fourOf, fourSet, quadBy, sumsBy, movedBy, floatOf, levelOf, added, rowAdded, FourReach, PatchesInside, Reaches, Gathered};
+ghost use Rattle.refine_operator.specs.Basis.{side, samples};
+ghost use Rattle.refine_patch.specs.StepsFrom.{coefficientFrom, fourWritten, Repeats};
+ghost use Rattle.refine_patch.specs.StepsFour.{laneOf, sampleIn, sumIn, fourOf, fourSet, quadBy, sumsBy, movedBy, floatOf, levelOf, added, rowAdded, wideOf, rowsOf, FourReach, PatchesInside, Reaches, RowsReach, Gathered, Rows};
 ghost use Rattle.refine_patch.specs.StepsRows.{centresOf, sumsAfter};
 
+mod each;
+mod fourfold;
 mod reads;
 mod stores;
 
@@ -54,6 +57,7 @@ pub fn fit_four(
     deep: bool,
     pitch: usize,
     columns: &[f32; 1125],
+    fourfold: bool,
     radius: usize,
     at: Firsts,
     out: &mut [f32],
@@ -61,10 +65,55 @@ pub fn fit_four(
 )
     requires { ⌜ (length (now out) ≡ 40) × (to ≤ 20) ⌝ }
     requires { ⌜ PatchesInside (length (samplesOf (now bytes) (now words) deep)) pitch radius at ⌝ }
+    requires { ⌜ Repeats fourfold radius (now columns) ⌝ }
+    ensures { λ _. ⌜ now (out .exit) ≡ fourWritten (λ c l. coefficientFrom (samplesOf (now (bytes .entry)) (now (words .entry)) deep) pitch (now (columns .entry)) radius (laneOf at l) c) to (now (out .entry)) ⌝ }
+{
+    if reach(imageview::count(bytes, words, deep), pitch, radius, at) {
+        fit_rows(
+            bytes,
+            words,
+            deep,
+            pitch,
+            columns,
+            fourfold,
+            radius,
+            at,
+            out,
+            to,
+        );
+    } else {
+        each::fit_each(bytes, words, deep, pitch, columns, radius, at, out, to);
+    }
+}
+
+// The same where some more samples than its own lie behind each row.
+fn fit_rows(
+    bytes: &[u8],
+    words: &[u16],
+    deep: bool,
+    pitch: usize,
+    columns: &[f32; 1125],
+    fourfold: bool,
+    radius: usize,
+    at: Firsts,
+    out: &mut [f32],
+    to: usize,
+)
+    requires { ⌜ (length (now out) ≡ 40) × (to ≤ 20) ⌝ ∗ ⌜ PatchesInside (length (samplesOf (now bytes) (now words) deep)) pitch radius at ⌝ ∗ ⌜ Repeats fourfold radius (now columns) ⌝ ∗ ⌜ Reaches (length (samplesOf (now bytes) (now words) deep)) pitch radius at ⌝ }
     ensures { λ _. ⌜ now (out .exit) ≡ fourWritten (λ c l. coefficientFrom (samplesOf (now (bytes .entry)) (now (words .entry)) deep) pitch (now (columns .entry)) radius (laneOf at l) c) to (now (out .entry)) ⌝ }
 {
     let centre = centres(bytes, words, deep, at, radius * pitch + radius);
-    let sums = sum_rows(bytes, words, deep, pitch, columns, radius, at, centre);
+    let sums = sum_rows(
+        bytes,
+        words,
+        deep,
+        pitch,
+        columns,
+        fourfold,
+        radius,
+        at,
+        centre,
+    );
     stores::store(out, to, sums);
 }
 
@@ -109,8 +158,8 @@ fn centres(bytes: &[u8], words: &[u16], deep: bool, at: Firsts, by: usize) -> Qu
 }
 
 // Four samples side by side.
-fn put_four(row: &mut [u16; 64], at: usize, v: Four)
-    requires { ⌜ (length (now row) ≡ 64) × (at + 4 ≤ 64) ⌝ }
+fn put_four(row: &mut [u16; 112], at: usize, v: Four)
+    requires { ⌜ (length (now row) ≡ 112) × (at + 4 ≤ 112) ⌝ }
     ensures { λ _. ⌜ now (row .exit) ≡ fourSet (now (row .entry)) at (sampleIn v) ⌝ }
 {
     row[at + 0] = v.p;
@@ -119,14 +168,22 @@ fn put_four(row: &mut [u16; 64], at: usize, v: Four)
     row[at + 3] = v.s;
 }
 
-// So many samples of one row of the four patches: sample i of patch l goes to 4 · i + l. The place is counted beside i: as a product the compiler does not read eight at once.
-fn gather(bytes: &[u8], words: &[u16], deep: bool, at: Firsts, count: usize, row: &mut [u16; 64])
-    requires { ⌜ (length (now row) ≡ 64) × (count ≤ 16) ⌝ }
+// So many samples of one row of the four patches: sample i of patch l goes to `to + 4 · i + l`. The place is counted beside i: as a product the compiler does not read eight at once.
+fn gather(
+    bytes: &[u8],
+    words: &[u16],
+    deep: bool,
+    at: Firsts,
+    count: usize,
+    row: &mut [u16; 112],
+    to: usize,
+)
+    requires { ⌜ (length (now row) ≡ 112) × (to + 4 * count ≤ 112) ⌝ }
     requires { ⌜ FourReach (length (samplesOf (now bytes) (now words) deep) + 1) count at ⌝ }
-    ensures { λ _. ⌜ Gathered (samplesOf (now (bytes .entry)) (now (words .entry)) deep) at count (now (row .exit)) ⌝ }
+    ensures { λ _. ⌜ Gathered (samplesOf (now (bytes .entry)) (now (words .entry)) deep) at count to (now (row .entry)) (now (row .exit)) ⌝ }
 {
     let mut i: usize = 0;
-    let mut n: usize = 0;
+    let mut n: usize = to;
     while i < count {
         put_four(row, n, reads::read_four(bytes, words, deep, at, i));
         i += 1;
@@ -134,12 +191,54 @@ fn gather(bytes: &[u8], words: &[u16], deep: bool, at: Firsts, count: usize, row
     }
 }
 
+// So many rows, sample after sample: what is read of a row past its own samples is written over by the next row.
+fn gather_rows(
+    bytes: &[u8],
+    words: &[u16],
+    deep: bool,
+    pitch: usize,
+    at: Firsts,
+    radius: usize,
+    rows: usize,
+    row: &mut [u16; 112],
+)
+    requires { ⌜ (length (now row) ≡ 112) × (radius ≤ 7) × (rows ≤ rowsOf radius) ⌝ }
+    requires { ⌜ RowsReach (length (samplesOf (now bytes) (now words) deep)) pitch radius at rows ⌝ }
+    ensures { λ _. ⌜ Rows (samplesOf (now (bytes .entry)) (now (words .entry)) deep) pitch (side radius) at rows (now (row .exit)) ⌝ }
+{
+    let mut j: usize = 0;
+    while j < rows {
+        gather(
+            bytes,
+            words,
+            deep,
+            moved(at, j * pitch),
+            wide_of(radius),
+            row,
+            4 * (j * (2 * radius + 1)),
+        );
+        j += 1;
+    }
+}
+
 // A row's samples and some more, so many that they are read eight at once.
 fn wide_of(radius: usize) -> usize
-    requires { ⌜ radius ≤ 7 ⌝ }
-    ensures { λ r. ⌜ (2 * radius + 1 ≤ r) × (r ≤ 16) ⌝ }
+    ensures { λ r. ⌜ r ≡ wideOf radius ⌝ }
 {
     if radius < 4 { 8 } else { 16 }
+}
+
+// How many rows are gathered before they are added: at the usual radius all of them, which the device reads while it adds.
+fn rows_of(radius: usize) -> usize
+    ensures { λ r. ⌜ r ≡ rowsOf radius ⌝ }
+{
+    if radius < 3 { 5 } else { 1 }
+}
+
+fn lesser(a: usize, b: usize) -> usize
+    ensures { λ r. ⌜ (r ≤ a) × (r ≤ b) × (0 < a → 0 < b → 0 < r) ⌝ }
+{
+    if a < b { a } else { b }
 }
 
 // Whether so many samples lie from the first of a patch's last row on.
@@ -150,21 +249,17 @@ fn has_more(count: usize, first: usize, last: usize, wide: usize) -> bool
     wide <= count - (first + last)
 }
 
-// How many samples of every row are read: some more than the row's own where the image has them behind the last row too.
-fn reach(count: usize, pitch: usize, radius: usize, at: Firsts) -> usize
+// Whether the image has some more samples than its own behind every row, that is behind the last.
+fn reach(count: usize, pitch: usize, radius: usize, at: Firsts) -> bool
     requires { ⌜ PatchesInside count pitch radius at ⌝ }
-    ensures { λ r. ⌜ Reaches count pitch radius at r ⌝ }
+    ensures { λ r. ⌜ (r ≡ true → Reaches count pitch radius at) ⌝ }
 {
     let n = wide_of(radius);
     let last = 2 * radius * pitch;
-    if has_more(count, at.a, last, n)
+    has_more(count, at.a, last, n)
         & has_more(count, at.b, last, n)
         & has_more(count, at.c, last, n)
         & has_more(count, at.d, last, n)
-    {
-        return n;
-    }
-    2 * radius + 1
 }
 
 // Four samples from the levels of their centres.
@@ -224,21 +319,21 @@ fn add_sample(s: Sums, columns: &[f32; 1125], k: usize, z: Quad) -> Sums
     }
 }
 
-// The sums with a row of samples, the first of which is the sample `from`.
+// The sums with so many samples, the first of which is the sample `from`.
 fn add_row(
     s: Sums,
     columns: &[f32; 1125],
-    row: &[u16; 64],
-    side: usize,
+    row: &[u16; 112],
+    count: usize,
     centre: Quad,
     from: usize,
 ) -> Sums
-    requires { ⌜ (side ≤ 15) × (from + side ≤ 225) ⌝ }
-    ensures { λ r. ⌜ r ≡ rowAdded (now (columns .entry)) (now (row .entry)) centre from side s ⌝ }
+    requires { ⌜ (count ≤ 25) × (from + count ≤ 225) ⌝ }
+    ensures { λ r. ⌜ r ≡ rowAdded (now (columns .entry)) (now (row .entry)) centre from count s ⌝ }
 {
     let mut sums = s;
     let mut i: usize = 0;
-    while i < side {
+    while i < count {
         let n = 4 * i;
         let z = levelled(row[n + 0], row[n + 1], row[n + 2], row[n + 3], centre);
         sums = add_sample(sums, columns, from + i, z);
@@ -265,30 +360,60 @@ fn no_sums() -> Sums
     }
 }
 
-// The sums of all samples, row after row.
+// The same with the numbers of the columns as they are lent.
+fn add_rows(
+    s: Sums,
+    columns: &[f32; 1125],
+    fourfold: bool,
+    row: &[u16; 112],
+    count: usize,
+    centre: Quad,
+    from: usize,
+) -> Sums
+    requires { ⌜ (count ≤ 25) × (from + count ≤ 225) × (fourfold ≡ true → from + count ≤ 25) ⌝ }
+    requires { ⌜ Repeats fourfold 2 (now columns) ⌝ }
+    ensures { λ r. ⌜ r ≡ rowAdded (now (columns .entry)) (now (row .entry)) centre from count s ⌝ }
+{
+    if fourfold {
+        return fourfold::add_row(s, columns, row, count, centre, from);
+    }
+    add_row(s, columns, row, count, centre, from)
+}
+
+// The sums of all samples, some rows at a time.
 fn sum_rows(
     bytes: &[u8],
     words: &[u16],
     deep: bool,
     pitch: usize,
     columns: &[f32; 1125],
+    fourfold: bool,
     radius: usize,
     at: Firsts,
     centre: Quad,
 ) -> Sums
-    requires { ⌜ PatchesInside (length (samplesOf (now bytes) (now words) deep)) pitch radius at ⌝ }
-    requires { ⌜ centre ≡ centresOf (samplesOf (now bytes) (now words) deep) at (radius * pitch + radius) ⌝ }
+    requires { ⌜ PatchesInside (length (samplesOf (now bytes) (now words) deep)) pitch radius at ⌝ ∗ ⌜ centre ≡ centresOf (samplesOf (now bytes) (now words) deep) at (radius * pitch + radius) ⌝ ∗ ⌜ Repeats fourfold radius (now columns) ⌝ ∗ ⌜ Reaches (length (samplesOf (now bytes) (now words) deep)) pitch radius at ⌝ }
     ensures { λ r. ⌜ r ≡ sumsAfter (samplesOf (now (bytes .entry)) (now (words .entry)) deep) pitch (now (columns .entry)) radius at (samples radius) ⌝ }
 {
     let side = 2 * radius + 1;
-    let count = reach(imageview::count(bytes, words, deep), pitch, radius, at);
-    let mut row = [0u16; 64];
+    let most = rows_of(radius);
+    let mut row = [0u16; 112];
     let mut sums = no_sums();
     let mut j: usize = 0;
     while j < side {
-        gather(bytes, words, deep, moved(at, j * pitch), count, &mut row);
-        sums = add_row(sums, columns, &row, side, centre, j * side);
-        j += 1;
+        let rows = lesser(most, side - j);
+        gather_rows(
+            bytes,
+            words,
+            deep,
+            pitch,
+            moved(at, j * pitch),
+            radius,
+            rows,
+            &mut row,
+        );
+        sums = add_rows(sums, columns, fourfold, &row, rows * side, centre, j * side);
+        j += rows;
     }
     sums
 }

@@ -6,7 +6,7 @@ ghost use Prim.Native.Nat.{_+_, _≤_};
 ghost use lib.ListN.{length};
 ghost use Rattle.refine_patch.specs.StepsFour.{fourSet, laneIn, sumIn, blocks};
 
-fn store_quad(out: &mut [f32], at: usize, v: Quad)
+pub fn store_quad(out: &mut [f32], at: usize, v: Quad)
     requires { ⌜ (length (now out) ≡ 40) × (at + 4 ≤ 40) ⌝ }
     ensures { λ _. ⌜ (now (out .exit) ≡ fourSet (now (out .entry)) at (laneIn v)) × (length (now (out .exit)) ≡ 40) ⌝ }
 {

@@ -237,7 +237,7 @@ pub fn stepped(
     requires { ⌜ PatchWithin (imageOf (now bytes) (now words) sizes) (cfg .radius) (seed .«centre_x») (seed .«centre_y») ⌝ ∗ ⌜ Solve.settled first ≡ false ⌝ }
     ensures { λ r. ⌜ Opens (ranOut (taskAt (imageOf (now (bytes .entry)) (now (words .entry)) sizes) (now (columns .entry)) cfg seed) first) seed r ⌝ }
 {
-    let e = steps::run(bytes, words, sizes, columns, cfg, seed, first);
+    let e = steps::run(bytes, words, sizes, columns, false, cfg, seed, first);
     if e.settled {
         return Opened::Open(at_window(e));
     }

@@ -18,6 +18,7 @@ ghost use lib.IntN.{pos};
 ghost use lib.Ieee.{binary32, ofInt};
 ghost use Rattle.imageview.specs.Image.{imageOf};
 ghost use Rattle.refine_formulas.specs.Numbers.{_⊕_};
+ghost use Rattle.refine_patch.specs.StepsFrom.{Repeats};
 ghost use Rattle.refine_fits.specs.Fit.{coefficients};
 ghost use Rattle.refine_fits.specs.StepsAdding.{PatchWithin};
 ghost use Rattle.refine_fits.specs.StepsBases.{coefsIn};
@@ -48,15 +49,27 @@ pub fn spot_with(
     x: f32,
     y: f32,
     columns: &[f32; 1125],
+    fourfold: bool,
     flat: &[f32; 40],
     at: usize,
 ) -> Spot
     requires { ⌜ Ready (imageOf (now bytes) (now words) sizes) cfg ⌝ ∗ ⌜ Fitted (imageOf (now bytes) (now words) sizes) (now columns) cfg x y (coefsIn (now flat) at) ⌝ ∗ ⌜ at ≤ 23 ⌝ }
+    requires { ⌜ Repeats fourfold (cfg .radius) (now columns) ⌝ }
     ensures { λ r. ⌜ Lands (λ overlap wanted. refineLent (imageOf (now (bytes .entry)) (now (words .entry)) sizes) cfg x y wanted (now (columns .entry)) overlap) r ⌝ }
 {
     let placed = entry::place_seed(sizes, cfg.radius, x, y);
     match placed {
-        Admitted::Good(seed) => spot_lent(bytes, words, sizes, cfg, seed, columns, flat, at),
+        Admitted::Good(seed) => spot_lent(
+            bytes,
+            words,
+            sizes,
+            cfg,
+            seed,
+            columns,
+            fourfold,
+            flat,
+            at,
+        ),
         Admitted::Unmoved(_) => Spot::Nowhere,
         Admitted::Refused(_) => Spot::Nowhere,
     }
@@ -70,16 +83,18 @@ fn spot_lent(
     cfg: SaddlePointConfig,
     seed: Seed,
     columns: &[f32; 1125],
+    fourfold: bool,
     flat: &[f32; 40],
     at: usize,
 ) -> Spot
     requires { ⌜ PatchWithin (imageOf (now bytes) (now words) sizes) (cfg .radius) (seed .«centre_x») (seed .«centre_y») ⌝ ∗ ⌜ coefsIn (now flat) at ≡ coefficients (imageOf (now bytes) (now words) sizes) (now columns) (cfg .radius) (seed .«centre_x») (seed .«centre_y») ⌝ ∗ ⌜ at ≤ 23 ⌝ }
+    requires { ⌜ Repeats fourfold (cfg .radius) (now columns) ⌝ }
     ensures { λ r. ⌜ Lands (λ overlap wanted. lentWith cfg (refineWith (imageOf (now (bytes .entry)) (now (words .entry)) sizes) cfg seed wanted (now (columns .entry)) overlap)) r ⌝ }
 {
     if cfg.radius == 0 {
         return Spot::Nowhere;
     }
-    spot_of_seed(bytes, words, sizes, cfg, seed, columns, flat, at)
+    spot_of_seed(bytes, words, sizes, cfg, seed, columns, fourfold, flat, at)
 }
 
 // A seed that passed the tests: the first fit decides acceptance.
@@ -90,10 +105,12 @@ fn spot_of_seed(
     cfg: SaddlePointConfig,
     seed: Seed,
     columns: &[f32; 1125],
+    fourfold: bool,
     flat: &[f32; 40],
     at: usize,
 ) -> Spot
     requires { ⌜ PatchWithin (imageOf (now bytes) (now words) sizes) (cfg .radius) (seed .«centre_x») (seed .«centre_y») ⌝ ∗ ⌜ coefsIn (now flat) at ≡ coefficients (imageOf (now bytes) (now words) sizes) (now columns) (cfg .radius) (seed .«centre_x») (seed .«centre_y») ⌝ ∗ ⌜ at ≤ 23 ⌝ }
+    requires { ⌜ Repeats fourfold (cfg .radius) (now columns) ⌝ }
     ensures { λ r. ⌜ Lands (λ overlap wanted. refineWith (imageOf (now (bytes .entry)) (now (words .entry)) sizes) cfg seed wanted (now (columns .entry)) overlap) r ⌝ }
 {
     let solved = solve::solve(cfg, laid::coefs_at(flat, at));
@@ -101,7 +118,7 @@ fn spot_of_seed(
         Solved::Refused(_, _) => Spot::Nowhere,
         Solved::Saddle(f) => {
             if tries::near_seed(cfg, seed, f.ux, f.uy) {
-                return spot_from(bytes, words, sizes, columns, cfg, seed, f);
+                return spot_from(bytes, words, sizes, columns, fourfold, cfg, seed, f);
             }
             Spot::Nowhere
         }
@@ -114,17 +131,19 @@ fn spot_from(
     words: &[u16],
     sizes: Sizes,
     columns: &[f32; 1125],
+    fourfold: bool,
     cfg: SaddlePointConfig,
     seed: Seed,
     first: PatchSaddle,
 ) -> Spot
     requires { ⌜ PatchWithin (imageOf (now bytes) (now words) sizes) (cfg .radius) (seed .«centre_x») (seed .«centre_y») ⌝ }
+    requires { ⌜ Repeats fourfold (cfg .radius) (now columns) ⌝ }
     ensures { λ r. ⌜ Comes (taskAt (imageOf (now (bytes .entry)) (now (words .entry)) sizes) (now (columns .entry)) cfg seed) first r ⌝ }
 {
     if solve::settled(first) {
         return spot_at(seed, 0.0, 0.0, first);
     }
-    let e = steps::run(bytes, words, sizes, columns, cfg, seed, first);
+    let e = steps::run(bytes, words, sizes, columns, fourfold, cfg, seed, first);
     if e.settled {
         let fit = e.fit;
         return spot_at(seed, e.ox, e.oy, fit);

@@ -23,6 +23,7 @@ ghost use Rattle.imageview.specs.Image.{imageOf};
 ghost use Rattle.refine_formulas.specs.Numbers.{_⊗_, half};
 ghost use Rattle.refine_formulas.specs.Sensitivity as Sensitivity;
 ghost use Rattle.refine_formulas.specs.Solve as Solve;
+ghost use Rattle.refine_patch.specs.StepsFrom.{Repeats};
 ghost use Rattle.refine_fits.specs.StepsAdding.{Sound};
 ghost use Rattle.refine_fits.specs.StepsCache.{Fresh};
 ghost use Rattle.refine_fits.specs.Candidate.{taskAt};
@@ -129,11 +130,13 @@ pub fn run(
     words: &[u16],
     sizes: Sizes,
     columns: &[f32; 1125],
+    fourfold: bool,
     cfg: SaddlePointConfig,
     seed: Seed,
     first: PatchSaddle,
 ) -> Ended
     requires { ⌜ Sound (imageOf (now bytes) (now words) sizes) (cfg .radius) ⌝ ∗ ⌜ (seed .«centre_x» < 4096) × (seed .«centre_y» < 4096) ⌝ ∗ ⌜ Solve.settled first ≡ false ⌝ }
+    requires { ⌜ Repeats fourfold (cfg .radius) (now columns) ⌝ }
     ensures { λ r. ⌜ Ends (taskAt (imageOf (now (bytes .entry)) (now (words .entry)) sizes) (now (columns .entry)) cfg seed) first r ⌝ }
 {
     let mut fits = no_fits();
@@ -146,7 +149,16 @@ pub fn run(
         let nx = step.ox + step.scale * step.x;
         let ny = step.oy + step.scale * step.y;
         let w = place::window_at(seed.centre_x, seed.centre_y, nx, ny);
-        let r = bases.ready(bytes, words, sizes, w, cfg.radius, columns, &mut flat);
+        let r = bases.ready(
+            bytes,
+            words,
+            sizes,
+            w,
+            cfg.radius,
+            columns,
+            fourfold,
+            &mut flat,
+        );
         bases = r.bases;
         if r.further {
             fits = fits.lay(bytes, words, sizes, w, cfg.radius, columns, &mut flat);

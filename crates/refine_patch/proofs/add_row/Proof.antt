@@ -8,10 +8,10 @@ use Rattle.refine_patch.proofs.add_row.Statement.{statement}
 use Rattle.refine_patch.proofs.add_row.Tie as tie
 
 abbrev Inv-loop : tie.InvT-loop
-Inv-loop columns row side centre from sums₀ i₀ sums i = (i ≤ side) × (sums ≡ rowAdded columns row centre from i sums₀)
+Inv-loop columns row count centre from sums₀ i₀ sums i = (i ≤ count) × (sums ≡ rowAdded columns row centre from i sums₀)
 
 abbrev μ-loop : tie.MeasureT-loop
-μ-loop columns row side centre from sums₀ i₀ sums i = side - i
+μ-loop columns row count centre from sums₀ i₀ sums i = count - i
 
 loop-holds : tie.Need-loop-holds Inv-loop μ-loop
 loop-holds c =
@@ -82,7 +82,7 @@ returns : tie.Need-returns Inv-loop μ-loop
 returns c =
     let l = c .before .loop in
     let a = c .before .before .args in
-    l .inv .1 ∙ ap (λ (n : ℕ). rowAdded (a .columns .now) (a .row .now) (a .centre) (a .from) n (a .s)) (let e : l .i ≡ a .side = omega arith in e)
+    l .inv .1 ∙ ap (λ (n : ℕ). rowAdded (a .columns .now) (a .row .now) (a .centre) (a .from) n (a .s)) (let e : l .i ≡ a .count = omega arith in e)
 
 pub add-row-spec : {M : Type 1} → statement M
 add-row-spec =

@@ -1,41 +1,38 @@
 -- `refine_patch::fit_four` meets its contract.
-use mathlib.Core.Path.{_∙_}
-use native.Mathlib.Omega.{arith}
+use mathlib.Core.Path.{sym, subst}
+use Prim.Native.Nat.{ℕ}
 use borrow.Author.Needs.{needs}
-use Rattle.imageview.specs.Image.{samplesOf}
-use Rattle.refine_patch.specs.StepsFrom.{coefficientFrom}
-use Rattle.refine_patch.specs.StepsFour.{laneOf}
-use Rattle.refine_patch.proofs.FourLaws.{blocks-written}
-use Rattle.refine_patch.proofs.RowLaws.{blocks-done, below}
+use Rattle.refine_patch.specs.StepsFour.{PatchesInside, Reaches}
 use Rattle.refine_patch.proofs.fit_four.Statement.{statement}
 use Rattle.refine_patch.proofs.fit_four.Tie as tie
 
-mul-centres : tie.Need-mul-centres
-mul-centres c = let a = c .before .before .before .args in omega (arith, below (a .bytes .now) (a .words .now) (a .deep) (omega arith) (omega arith))
+count-requires : tie.Need-count-requires
+count-requires c κs = search needs
 
-add-centres : tie.Need-add-centres
-add-centres c = let a = c .before .before .before .args in omega (arith, below (a .bytes .now) (a .words .now) (a .deep) (omega arith) (omega arith))
+reach-requires : tie.Need-reach-requires
+reach-requires c κs =
+    let s = c .before .before .before .before in
+    subst (λ (n : ℕ). PatchesInside n (s .args .pitch) (s .args .radius) (s .args .at)) (sym (c .count .ensures)) (s .pre .1 .0)
 
-centres-requires : tie.Need-centres-requires
-centres-requires c κs = search needs
+fit-rows-requires : tie.Need-fit-rows-requires
+fit-rows-requires c κs =
+    let s = c .before .before .before .before .before .before .before in
+    (s .pre .0, (s .pre .1 .0, (s .pre .1 .1, subst (λ (n : ℕ). Reaches n (s .args .pitch) (s .args .radius) (s .args .at)) (c .before .before .before .count .ensures) (c .before .before .reach .ensures (c .before .if1 .taken)))))
 
-sum-rows-requires : tie.Need-sum-rows-requires
-sum-rows-requires c κs = search needs
-
-store-requires : tie.Need-store-requires
-store-requires c κs = search needs
+fit-each-requires : tie.Need-fit-each-requires
+fit-each-requires c κs = let s = c .before .before .before .before .before .before .before in (s .pre .0, s .pre .1 .0)
 
 same-length : tie.Need-same-length
 same-length c = search needs
 
 returns : tie.Need-returns
-returns c =
-    let s = c .before .before .before .before .before .before .before .before .before in
-    let a = s .args in
-    let sums = c .before .before .before .before .sum-rows in
-    c .before .before .store .ensures
-    ∙ blocks-done (samplesOf (a .bytes .now) (a .words .now) (a .deep)) (a .pitch) (a .columns .now) (a .radius) (a .at) (sums .result) (a .to) (a .out .now) (sums .ensures)
-    ∙ blocks-written (λ c l. coefficientFrom (samplesOf (a .bytes .now) (a .words .now) (a .deep)) (a .pitch) (a .columns .now) (a .radius) (laneOf (a .at) l) c) (a .to) (a .out .now) (s .pre .0 .0) (s .pre .0 .1)
+returns c = search needs
+
+same-length-2 : tie.Need-same-length-2
+same-length-2 c = search needs
+
+returns-2 : tie.Need-returns-2
+returns-2 c = search needs
 
 pub fit-four-spec : {M : Type 1} → statement M
-fit-four-spec = tie.close (tie.spec mul-centres add-centres centres-requires sum-rows-requires store-requires same-length returns)
+fit-four-spec = tie.close (tie.spec count-requires reach-requires fit-rows-requires fit-each-requires same-length returns same-length-2 returns-2)

@@ -1,11 +1,15 @@
--- `refine_patch::reach` meets its contract: behind the last row of each patch there are so many, or the row's own are taken.
+-- `refine_patch::reach` meets its contract: behind the last row of each patch there are so many.
+use mathlib.Core.Path.{_≡_, ap, _∙_}
+use mathlib.Core.Bool.{Bool}
+use Prim.Native.Nat.{ℕ, _+_, _-_, _*_}
 use native.Mathlib.Omega.{arith}
-use Rattle.refine_patch.proofs.RowLaws.{begins, reaches-own, reaches-more}
+use lib.Dec.{leb}
+use Rattle.refine_patch.proofs.RowLaws.{begins, reaches-more}
 use Rattle.refine_patch.proofs.reach.Statement.{statement}
 use Rattle.refine_patch.proofs.reach.Tie as tie
 
 wide-of-requires : tie.Need-wide-of-requires
-wide-of-requires c κs = c .pre .small
+wide-of-requires c κs = tt
 
 mul-last : tie.Need-mul-last
 mul-last c = omega (arith, c .before .pre .small)
@@ -25,25 +29,20 @@ has-more-requires-3 c κs = let s = c .before .before .before in begins (s .args
 has-more-requires-4 : tie.Need-has-more-requires-4
 has-more-requires-4 c κs = let s = c .before .before .before .before in begins (s .args .count) (s .args .radius) (s .args .at .d) _ (s .pre .fourth)
 
+-- what was asked of so many
+of-wide : (x : ℕ) {n m : ℕ} {v : Bool} → n ≡ m → v ≡ leb n x → v ≡ leb m x
+of-wide x e q = q ∙ ap (λ (k : ℕ). leb k x) e
+
 returns : tie.Need-returns
 returns c =
-    let s = c .before .before .before .before .before .before in
+    let s = c .before .before .before .before .before in
     let a = s .args in
-    let n = c .before .before .before .before .before .wide-of in
-    let p = c .before .before .before .before .has-more in
-    let q = c .before .before .before .has-more2 in
-    let r = c .before .before .has-more3 in
-    let t = c .before .has-more4 in
-    reaches-more (a .count) (a .pitch) (a .radius) (n .result) (a .at) (p .result) (q .result) (r .result) (t .result) (s .pre) (n .ensures) (p .ensures) (q .ensures) (r .ensures) (t .ensures) (c .if1 .taken)
-
-mul-result : tie.Need-mul-result
-mul-result c = omega (arith, c .before .before .before .before .before .before .pre .small)
-
-add-result : tie.Need-add-result
-add-result c = omega (arith, c .before .before .before .before .before .before .pre .small)
-
-returns-2 : tie.Need-returns-2
-returns-2 c = let s = c .before .before .before .before .before .before in reaches-own (s .args .count) (s .args .pitch) (s .args .radius) (s .args .at) (s .pre)
+    let n = c .before .before .before .before .wide-of in
+    let p = c .before .before .before .has-more in
+    let q = c .before .before .has-more2 in
+    let r = c .before .has-more3 in
+    let t = c .has-more4 in
+    λ h. reaches-more (a .count) (a .pitch) (a .radius) (a .at) (p .result) (q .result) (r .result) (t .result) (s .pre) (of-wide (a .count - (a .at .a + 2 * a .radius * a .pitch)) (n .ensures) (p .ensures)) (of-wide (a .count - (a .at .b + 2 * a .radius * a .pitch)) (n .ensures) (q .ensures)) (of-wide (a .count - (a .at .c + 2 * a .radius * a .pitch)) (n .ensures) (r .ensures)) (of-wide (a .count - (a .at .d + 2 * a .radius * a .pitch)) (n .ensures) (t .ensures)) h
 
 pub reach-spec : {M : Type 1} → statement M
-reach-spec = tie.close (tie.spec wide-of-requires mul-last mul-last-2 has-more-requires has-more-requires-2 has-more-requires-3 has-more-requires-4 returns mul-result add-result returns-2)
+reach-spec = tie.close (tie.spec wide-of-requires mul-last mul-last-2 has-more-requires has-more-requires-2 has-more-requires-3 has-more-requires-4 returns)

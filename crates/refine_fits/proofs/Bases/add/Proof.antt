@@ -17,7 +17,7 @@ returns : tie.Need-returns
 returns c =
     let s = c .before .before .before .before .before in
     let a = s .args in
-    prepared-further (imageOf (a .bytes .now) (a .words .now) (a .sizes)) (a .columns .now) (a .radius) (a .x) (a .y) (a .self) (c .ending .result) (a .flat .now) (s .pre .0) (s .pre .1) (c .ending .ensures)
+    prepared-further (imageOf (a .bytes .now) (a .words .now) (a .sizes)) (a .columns .now) (a .radius) (a .x) (a .y) (a .self) (c .ending .result) (a .flat .now) (s .pre .0) (s .pre .1 .0) (c .ending .ensures)
 
 fit-about-requires : tie.Need-fit-about-requires
 fit-about-requires c κs = search needs
@@ -33,11 +33,11 @@ returns-2 c =
     let s = c .before .before .before .before .before .before .before .before .before .before in
     let a = s .args in
     let l = c .before .before .fit-about .ensures in
-    let flat = c .before .before .fit-about .last .1 .1 .1 .1 .1 .1 .1 .0 in
+    let flat = c .before .before .fit-about .last .1 .1 .1 .1 .1 .1 .1 .1 .0 in
     prepared-there (imageOf (a .bytes .now) (a .words .now) (a .sizes)) (a .columns .now) (a .radius) (a .x) (a .y) (c .before .ending2 .result) true 20 flat (c .at .result) (c .at .ensures)
     (record {
       is = l .is;
-      held = subst (λ (v : Bases). Held (imageOf (a .bytes .now) (a .words .now) (a .sizes)) (a .columns .now) (a .radius) v flat) (sym (c .before .ending2 .ensures)) (held-last (imageOf (a .bytes .now) (a .words .now) (a .sizes)) (a .columns .now) (a .radius) (a .x) (a .y) (a .self) (a .flat .now) flat (s .pre .1) l);
+      held = subst (λ (v : Bases). Held (imageOf (a .bytes .now) (a .words .now) (a .sizes)) (a .columns .now) (a .radius) v flat) (sym (c .before .ending2 .ensures)) (held-last (imageOf (a .bytes .now) (a .words .now) (a .sizes)) (a .columns .now) (a .radius) (a .x) (a .y) (a .self) (a .flat .now) flat (s .pre .1 .0) l);
       low = omega arith;
     })
 
@@ -55,7 +55,7 @@ returns-3 c =
     let s = c .before .before .before .before .before .before .before .before .before .before in
     let a = s .args in
     let l = c .before .before .fit-about2 .ensures in
-    let flat = c .before .before .fit-about2 .last .1 .1 .1 .1 .1 .1 .1 .0 in
+    let flat = c .before .before .fit-about2 .last .1 .1 .1 .1 .1 .1 .1 .1 .0 in
     prepared-there (imageOf (a .bytes .now) (a .words .now) (a .sizes)) (a .columns .now) (a .radius) (a .x) (a .y) (c .before .beginning .result) true 0 flat (c .at2 .result) (c .at2 .ensures)
     (record {
       is = l .is;

@@ -67,7 +67,9 @@ returns-3 c =
     })
 
 add-requires : tie.Need-add-requires
-add-requires c κs = (room (c .before .before .before .before .before .before .before .before .before .before .before), c .before .before .before .before .before .before .before .before .before .before .before .before .before .before .before .pre .1 .0)
+add-requires c κs =
+    let s = c .before .before .before .before .before .before .before .before .before .before .before .before .before .before .before in
+    (room (c .before .before .before .before .before .before .before .before .before .before .before), (s .pre .1 .0, s .pre .1 .1 .1))
 
 returns-4 : tie.Need-returns-4
 returns-4 c = search needs

@@ -10,12 +10,6 @@ use Rattle.refine_fits.proofs.fits.fit_about.Tie as tie
 first-place-requires : tie.Need-first-place-requires
 first-place-requires c κs = search needs
 
-add-t13 : tie.Need-add-t13
-add-t13 c =
-    let s = c .before .before .before in
-    let a = s .args in
-    omega (arith, c .first-place .ensures, s .pre .0 .right, s .pre .0 .below, s .pre .0 .sound .image .sized .width-most, s .pre .0 .sound .image .sized .height-most, s .pre .0 .sound .image .pitch-most, place-most (a .sizes .pitch) (a .radius) (a .y) (omega (arith, s .pre .0 .below, s .pre .0 .sound .image .sized .height-most)) (s .pre .0 .sound .image .pitch-most))
-
 add-t14 : tie.Need-add-t14
 add-t14 c =
     let s = c .before .before .before in
@@ -34,20 +28,26 @@ add-t16 c =
     let a = s .args in
     omega (arith, c .first-place .ensures, s .pre .0 .right, s .pre .0 .below, s .pre .0 .sound .image .sized .width-most, s .pre .0 .sound .image .sized .height-most, s .pre .0 .sound .image .pitch-most, place-most (a .sizes .pitch) (a .radius) (a .y) (omega (arith, s .pre .0 .below, s .pre .0 .sound .image .sized .height-most)) (s .pre .0 .sound .image .pitch-most))
 
+add-t17 : tie.Need-add-t17
+add-t17 c =
+    let s = c .before .before .before in
+    let a = s .args in
+    omega (arith, c .first-place .ensures, s .pre .0 .right, s .pre .0 .below, s .pre .0 .sound .image .sized .width-most, s .pre .0 .sound .image .sized .height-most, s .pre .0 .sound .image .pitch-most, place-most (a .sizes .pitch) (a .radius) (a .y) (omega (arith, s .pre .0 .below, s .pre .0 .sound .image .sized .height-most)) (s .pre .0 .sound .image .pitch-most))
+
 fit-four-requires : tie.Need-fit-four-requires
 fit-four-requires c κs =
     let s = c .before .before .before .before in
     let a = s .args in
-    (s .pre .1, inside-four (imageOf (a .bytes .now) (a .words .now) (a .sizes)) (a .radius) (a .x) (a .y) (c .before .first-place .result) (s .pre .0) (c .before .first-place .ensures))
+    (s .pre .1 .0, (inside-four (imageOf (a .bytes .now) (a .words .now) (a .sizes)) (a .radius) (a .x) (a .y) (c .before .first-place .result) (s .pre .0) (c .before .first-place .ensures), s .pre .1 .1))
 
 returns : tie.Need-returns
 returns c =
     let s = c .before .before .before .before .before in
     let a = s .args in
-    laid-about (imageOf (a .bytes .now) (a .words .now) (a .sizes)) (a .columns .now) (a .radius) (a .x) (a .y) (a .to) (a .flat .now) (c .fit-four .last .1 .1 .1 .1 .1 .1 .1 .0) (s .pre .0) (s .pre .1 .1)
+    laid-about (imageOf (a .bytes .now) (a .words .now) (a .sizes)) (a .columns .now) (a .radius) (a .x) (a .y) (a .to) (a .flat .now) (c .fit-four .last .1 .1 .1 .1 .1 .1 .1 .1 .0) (s .pre .0) (s .pre .1 .0 .1)
     (c .fit-four .ensures ∙ firsts-are (imageOf (a .bytes .now) (a .words .now) (a .sizes)) (a .columns .now) (a .radius) (a .x) (a .y) (c .before .before .first-place .result) (a .to) (a .flat .now) (c .before .before .first-place .ensures))
 
 pub fit-about-spec : {M : Type 1} → statement M
 fit-about-spec =
     tie.close
-    (tie.spec first-place-requires add-t13 add-t14 add-t15 add-t16 fit-four-requires returns)
+    (tie.spec first-place-requires add-t14 add-t15 add-t16 add-t17 fit-four-requires returns)

@@ -24,7 +24,7 @@ returns : tie.Need-returns
 returns c =
     let s = c .before .before .before .before .before .before in
     let a = s .args in
-    too-small (imageOf (a .bytes .now) (a .words .now) (a .sizes)) (a .cfg) (a .columns .now) (a .corners .now) (a .group) (a .flat .now) (s .pre .1 .0) (c .if1 .taken)
+    too-small (imageOf (a .bytes .now) (a .words .now) (a .sizes)) (a .cfg) (a .columns .now) (a .corners .now) (a .group) (a .flat .now) (s .pre .1 .0 .0) (c .if1 .taken)
 
 mul-i : tie.Need-mul-i
 mul-i c = search needs
@@ -57,7 +57,7 @@ fit-four-requires c κs =
     let w = leb (a .sizes .width) (2 * a .cfg .radius) in
     let h = leb (a .sizes .height) (2 * a .cfg .radius) in
     let no = c .before .before .before .before .before .if1 .left in
-    ((s .pre .1 .0, omega arith), all-reach (imageOf (a .bytes .now) (a .words .now) (a .sizes)) (a .cfg) (s .pre .0) (leb-false (a .sizes .width) (2 * a .cfg .radius) (first-not w h no)) (leb-false (a .sizes .height) (2 * a .cfg .radius) (second-not w h no)) (a .corners .now) _ (4 * a .group) (c .before .before .before .before .first-of .ensures) (c .before .before .before .first-of2 .ensures) (c .before .before .first-of3 .ensures) (c .before .first-of4 .ensures))
+    ((s .pre .1 .0 .0, omega arith), (all-reach (imageOf (a .bytes .now) (a .words .now) (a .sizes)) (a .cfg) (s .pre .0) (leb-false (a .sizes .width) (2 * a .cfg .radius) (first-not w h no)) (leb-false (a .sizes .height) (2 * a .cfg .radius) (second-not w h no)) (a .corners .now) _ (4 * a .group) (c .before .before .before .before .first-of .ensures) (c .before .before .before .first-of2 .ensures) (c .before .before .first-of3 .ensures) (c .before .first-of4 .ensures), s .pre .1 .1))
 
 returns-2 : tie.Need-returns-2
 returns-2 c =

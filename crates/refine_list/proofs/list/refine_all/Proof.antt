@@ -13,11 +13,11 @@ use Rattle.refine_list.proofs.list.refine_all.Statement.{statement}
 use Rattle.refine_list.proofs.list.refine_all.Tie as tie
 
 abbrev Inv-loop : tie.InvT-loop
-Inv-loop bytes words sizes cfg columns corners out₀ n flat₀ written₀ i₀ out flat written i =
+Inv-loop bytes words sizes cfg columns fourfold corners out₀ n flat₀ written₀ i₀ out flat written i =
     Going (spotFor (imageOf bytes words sizes) cfg corners) corners out₀ i written out × (i ≤ n) × (length flat ≡ 40) × ((i % 4 ≡ 0 → ⊥) → FirstFits (imageOf bytes words sizes) cfg columns corners (i / 4) flat)
 
 abbrev μ-loop : tie.MeasureT-loop
-μ-loop bytes words sizes cfg columns corners out₀ n flat₀ written₀ i₀ out flat written i = n - i
+μ-loop bytes words sizes cfg columns fourfold corners out₀ n flat₀ written₀ i₀ out flat written i = n - i
 
 loop-holds : tie.Need-loop-holds Inv-loop μ-loop
 loop-holds c =
@@ -27,7 +27,7 @@ loop-holds c =
 first-fits-requires : tie.Need-first-fits-requires Inv-loop μ-loop
 first-fits-requires c κs =
     let s = c .before .before .before .before .before .before .before .before in
-    (s .pre .1 .1, (c .before .before .before .loop .inv .2, omega (arith, c .before .if1 .taken)))
+    (s .pre .1 .1 .0, ((c .before .before .before .loop .inv .2, omega (arith, c .before .if1 .taken)), s .pre .1 .1 .1))
 
 -- past the branch the first fits of the seed's group are there
 group : (c : tie.Joined1 Inv-loop μ-loop) → FirstFits (imageOf (c .before .before .before .before .before .before .before .args .bytes .now) (c .before .before .before .before .before .before .before .args .words .now) (c .before .before .before .before .before .before .before .args .sizes)) (c .before .before .before .before .before .before .before .args .cfg) (c .before .before .before .before .before .before .before .args .columns .now) (c .before .before .before .before .before .before .before .args .corners .now) (c .before .before .loop .i / 4) (c .if1 .flat)
@@ -62,10 +62,11 @@ shared-slice-read-spot-with-2 c = omega arith
 
 spot-with-requires : tie.Need-spot-with-requires Inv-loop μ-loop
 spot-with-requires c κs =
-    let a = c .before .before .before .before .before .before .before .before .before .before .args in
+    let s = c .before .before .before .before .before .before .before .before .before .before in
+    let a = s .args in
     let l = c .before .before .before .before .before .loop in
     let img = imageOf (a .bytes .now) (a .words .now) (a .sizes) in
-    (c .before .before .before .before .before .before .before .before .before .before .pre .1 .1, (this-group img (a .cfg) (a .columns .now) (a .corners .now) (l .i) (c .before .before .before .if1 .flat) (group (c .before .before .before)) (c .before .before .before .before .loop-test .taken), omega arith))
+    (s .pre .1 .1 .0, (this-group img (a .cfg) (a .columns .now) (a .corners .now) (l .i) (c .before .before .before .if1 .flat) (group (c .before .before .before)) (c .before .before .before .before .loop-test .taken), (omega arith, s .pre .1 .1 .1)))
 
 mul-put : tie.Need-mul-put Inv-loop μ-loop
 mul-put c = omega arith

@@ -1,6 +1,7 @@
 -- `refine_seed::closing::stepped` meets its contract: settled at a window, or not.
 use borrow.Author.Needs.{needs}
 use Rattle.imageview.specs.Image.{imageOf}
+use Rattle.refine_patch.proofs.PatchLaws.{once}
 use Rattle.refine_seed.proofs.ClosingLaws.{column, row, ends-first, ends-open}
 use Rattle.refine_seed.proofs.closing.stepped.Statement.{statement}
 use Rattle.refine_seed.proofs.closing.stepped.Tie as tie
@@ -8,7 +9,7 @@ use Rattle.refine_seed.proofs.closing.stepped.Tie as tie
 run-requires : tie.Need-run-requires
 run-requires c κs =
     let s = c .before .before in
-    (s .pre .0 .sound, ((column (s .pre .0), row (s .pre .0)), s .pre .1))
+    (s .pre .0 .sound, ((column (s .pre .0), row (s .pre .0)), (s .pre .1, once (s .args .cfg .radius) (s .args .columns .now))))
 
 at-window-requires : tie.Need-at-window-requires
 at-window-requires c κs = search needs

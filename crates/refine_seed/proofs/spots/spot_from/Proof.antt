@@ -12,7 +12,7 @@ settled-requires : tie.Need-settled-requires
 settled-requires c κs = search needs
 
 spot-at-requires : tie.Need-spot-at-requires
-spot-at-requires c κs = (column (c .before .before .before .before .pre), row (c .before .before .before .before .pre))
+spot-at-requires c κs = (column (c .before .before .before .before .pre .0), row (c .before .before .before .before .pre .0))
 
 returns : tie.Need-returns
 unfolding ofBits
@@ -23,10 +23,10 @@ returns c =
 run-requires : tie.Need-run-requires
 run-requires c κs =
     let s = c .before .before .before .before in
-    (s .pre .sound, ((column (s .pre), row (s .pre)), sym (c .before .settled .ensures) ∙ c .if1 .left))
+    (s .pre .0 .sound, ((column (s .pre .0), row (s .pre .0)), (sym (c .before .settled .ensures) ∙ c .if1 .left, s .pre .1)))
 
 spot-at-requires-2 : tie.Need-spot-at-requires-2
-spot-at-requires-2 c κs = (column (c .before .before .before .before .before .before .before .pre), row (c .before .before .before .before .before .before .before .pre))
+spot-at-requires-2 c κs = (column (c .before .before .before .before .before .before .before .pre .0), row (c .before .before .before .before .before .before .before .pre .0))
 
 returns-2 : tie.Need-returns-2
 returns-2 c =
@@ -34,7 +34,7 @@ returns-2 c =
     comes-window (imageOf (a .bytes .now) (a .words .now) (a .sizes)) (a .columns .now) (a .cfg) (a .seed) (a .first) _ _ (c .before .before .before .run .ensures) (c .before .before .if2 .taken) (c .spot-at2 .ensures)
 
 single-spot-requires : tie.Need-single-spot-requires
-single-spot-requires c κs = (column (c .before .before .before .before .before .before .pre), row (c .before .before .before .before .before .before .pre))
+single-spot-requires c κs = (column (c .before .before .before .before .before .before .pre .0), row (c .before .before .before .before .before .before .pre .0))
 
 returns-3 : tie.Need-returns-3
 returns-3 c =

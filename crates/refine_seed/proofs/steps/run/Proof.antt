@@ -30,10 +30,10 @@ abbrev Stays : Task → PatchSaddle → IntegerFits → Bases → List Float →
 Stays t first fits bases flat f n s = Going t first fits bases flat f (s .ox) (s .oy) (record { x = s .x; y = s .y }) (s .scale) (s .halvings) (s .left) n
 
 abbrev Inv-loop : tie.InvT-loop
-Inv-loop bytes words sizes columns cfg seed fits₀ bases₀ flat₀ fit₀ step₀ tries₀ fits bases flat fit step tries = Stays (taskAt (imageOf bytes words sizes) columns cfg seed) fit₀ fits bases flat fit tries step
+Inv-loop bytes words sizes columns fourfold cfg seed fits₀ bases₀ flat₀ fit₀ step₀ tries₀ fits bases flat fit step tries = Stays (taskAt (imageOf bytes words sizes) columns cfg seed) fit₀ fits bases flat fit tries step
 
 abbrev μ-loop : tie.MeasureT-loop
-μ-loop bytes words sizes columns cfg seed fits₀ bases₀ flat₀ fit₀ step₀ tries₀ fits bases flat fit step tries = 5 * step .left + step .halvings
+μ-loop bytes words sizes columns fourfold cfg seed fits₀ bases₀ flat₀ fit₀ step₀ tries₀ fits bases flat fit step tries = 5 * step .left + step .halvings
 
 -- a step is left
 above : (k : ℕ) → (k ≡ 0 → ⊥) → 1 ≤ k
@@ -56,7 +56,7 @@ loop-holds c =
     let t = taskAt (imageOf (a .bytes .now) (a .words .now) (a .sizes)) (a .columns .now) (a .cfg) (a .seed) in
     let fits = c .before .before .no-fits in
     let bases = c .before .no-bases in
-    subst (Stays t (a .first) (fits .result) (bases .result) _ (a .first) 0) (sym (c .first-step .ensures)) (starts t (a .first) (fits .result) (bases .result) _ (s .pre .1 .1) (fits .ensures) (bases .ensures) refl)
+    subst (Stays t (a .first) (fits .result) (bases .result) _ (a .first) 0) (sym (c .first-step .ensures)) (starts t (a .first) (fits .result) (bases .result) _ (s .pre .1 .1 .0) (fits .ensures) (bases .ensures) refl)
 
 window-at-requires : tie.Need-window-at-requires Inv-loop μ-loop
 window-at-requires c κs = c .before .before .before .before .before .before .before .before .before .before .before .before .pre .1 .0
@@ -65,7 +65,7 @@ ready-requires : tie.Need-ready-requires Inv-loop μ-loop
 ready-requires c κs =
     let s = c .before .before .before .before .before .before .before .before .before .before .before .before .before .before in
     let w = c .before .window-at in
-    (s .pre .0, (c .before .before .before .before .before .before .before .before .loop .inv .held, bases-most (w .result) (pos (s .args .seed .«centre_x»)) (pos (s .args .seed .«centre_y»)) _ _ (w .ensures)))
+    (s .pre .0, (c .before .before .before .before .before .before .before .before .loop .inv .held, (bases-most (w .result) (pos (s .args .seed .«centre_x»)) (pos (s .args .seed .«centre_y»)) _ _ (w .ensures), s .pre .1 .1 .1)))
 
 lay-requires : tie.Need-lay-requires Inv-loop μ-loop
 lay-requires c κs =
