@@ -26,9 +26,9 @@
  * Symbols that the archive needs: memset and memcpy. It has no others, no constructors and no writable data.
  *
  * Stack in bytes, on x86-64, as compiled for release, all that a call calls included, the greater of what was counted and what was painted
- * (docs/SPEED.md), for either depth: response 1,672, peaks 5,985, fit_operator 2,192, refine 7,672, refine_with 3,160, refine_list 7,608,
- * refine_list_fallback_with 3,192, merge 240, tie 1,984, graymap 144 and 208, salvage 56, coverage 56 to 88, gradient 368;
- * refine_list_fallback 12,600, more than
+ * (docs/SPEED.md), for either depth: response 1,672, peaks 5,985, fit_operator 2,192, refine 7,672, refine_with 3,160, refine_list 7,576,
+ * refine_list_fallback_with 3,224, merge 240, tie 1,984, graymap 144 and 208, salvage 56, coverage 56 to 88, gradient 368;
+ * refine_list_fallback 12,648, more than
  * any other, since it builds two operators. No call recurses. Scratch: only the merge asks for any, heads and links.
  *
  * Numbers:

@@ -2,7 +2,8 @@
 use mathlib.Core.Path.{_≡_, refl, sym, ap, _∙_, subst, fun-ext}
 use mathlib.Core.Bool.{false, cond}
 use mathlib.Core.List.{List, []}
-use Prim.Native.Nat.{ℕ, _+_, _*_}
+use Prim.Native.Nat.{ℕ, _+_, _*_, zero-le}
+use lib.Dec.{ltb}
 use lib.Ieee.{Float}
 use Rattle.shapes.specs.Numbers.{entry}
 use Rattle.refusals.specs.declared.Refusal.{Refusal}
@@ -11,6 +12,7 @@ use Rattle.refine_operator.specs.Call as Operator
 use Rattle.refine_operator.specs.declared.Operator.{Operator}
 use Rattle.refine_operator.specs.declared.Operator.the-variants as Built
 use Rattle.refine_operator.proofs.CallLaws.{with-overlap}
+use Rattle.refine_patch.specs.StepsFrom.{Repeats}
 use Rattle.refine_formulas.specs.declared.SaddlePointConfig.{SaddlePointConfig}
 use Rattle.refine_formulas.specs.declared.PatchSaddle.{PatchSaddle}
 use Rattle.refine_formulas.specs.declared.Solved.{Solved}
@@ -104,6 +106,10 @@ module _ (cfg : SaddlePointConfig) (old columns : List Float) (r : Operator) (do
 
   pub serves-refused : (f : Refusal) → r ≡ Built.Refused f → (used : SaddlePointConfig) → used ≡ atZero cfg → Serves cfg used columns
   serves-refused f e used z = serves-zero used z (λ img x y. none-refused img cfg x y false old [] columns _ r (with-overlap (cfg .radius) old [] columns r done) f e)
+
+-- and the columns repeat their numbers at radius 0 where they do so at the settings' own
+pub zero-repeats : (cfg used : SaddlePointConfig) (columns : List Float) → used ≡ atZero cfg → Repeats (ltb (cfg .radius) 3) (cfg .radius) columns → Repeats (ltb (cfg .radius) 3) (used .radius) columns
+zero-repeats cfg used columns z w = subst (λ (u : SaddlePointConfig). Repeats (ltb (cfg .radius) 3) (u .radius) columns) (sym z) (record { few = λ e. zero-le; each = w .each })
 
 -- the walk with columns that serve is the walk of the settings' own operators
 pub serves-both : (img : Image) (one two used used' : SaddlePointConfig) (columns columns' corners out : List Float) (passes : List ℕ) (n : ℕ) (out' : List Float) (passes' : List ℕ) → Serves one used columns → Serves two used' columns' → Walked (lentFor img used columns corners) (lentFor img used' columns' corners) corners out passes n out' passes' → Walked (spotFor img one corners) (spotFor img two corners) corners out passes n out' passes'

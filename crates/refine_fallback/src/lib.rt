@@ -91,6 +91,8 @@ pub fn refine_corners_with_columns(
             second,
             first_columns,
             second_columns,
+            false,
+            false,
             corners,
             out,
             passes,

@@ -2,8 +2,10 @@
 ghost use mathlib.Core.Path.{_≡_};
 ghost use mathlib.Core.List.{_++_};
 ghost use Prim.Native.Nat.{_+_, _/_, _<_, _≤_};
+ghost use lib.Dec.{ltb};
 ghost use lib.ListN.{length, take, drop};
 ghost use Rattle.imageview.specs.Image.{imageOf};
+ghost use Rattle.refine_patch.specs.StepsFrom.{Repeats};
 ghost use Rattle.refine_list.specs.Refining.{spotFor};
 ghost use Rattle.refine_list.specs.Steps.{FirstFits};
 ghost use Rattle.refine_fallback.specs.Call.{lentFor};
@@ -48,6 +50,8 @@ pub fn refine_both_own(
         two,
         &first_columns,
         &second_columns,
+        first.radius < 3,
+        second.radius < 3,
         corners,
         out,
         passes,
@@ -56,9 +60,11 @@ pub fn refine_both_own(
 
 // Builds the columns of the settings' radius, and answers the settings to use them with: without an operator those of radius 0, which accept no seed.
 fn build(cfg: SaddlePointConfig, columns: &mut [f32; 1125]) -> SaddlePointConfig
+    requires { ⌜ length (now columns) ≡ 1125 ⌝ }
     ensures { λ r. ⌜ Serves cfg r (now (columns .exit)) ⌝ }
+    ensures { λ r. ⌜ Repeats (ltb (cfg .radius) 3) (r .radius) (now (columns .exit)) ⌝ }
 {
-    let operator = refine_operator::fit_columns(cfg.radius, columns);
+    let operator = list::build(cfg.radius, columns);
     match operator {
         Operator::Built => cfg,
         Operator::Singular => at_zero(cfg),
@@ -86,11 +92,13 @@ pub fn refine_both(
     second: SaddlePointConfig,
     first_columns: &[f32; 1125],
     second_columns: &[f32; 1125],
+    first_fourfold: bool,
+    second_fourfold: bool,
     corners: &[f32],
     out: &mut [f32],
     passes: &mut [u8],
 ) -> usize
-    requires { ⌜ (length (now corners) ≤ length (now out)) × (length (now corners) / 3 ≤ length (now passes)) ⌝ ∗ ⌜ Ready (imageOf (now bytes) (now words) sizes) first ⌝ ∗ ⌜ Ready (imageOf (now bytes) (now words) sizes) second ⌝ }
+    requires { ⌜ (length (now corners) ≤ length (now out)) × (length (now corners) / 3 ≤ length (now passes)) ⌝ ∗ ⌜ Ready (imageOf (now bytes) (now words) sizes) first ⌝ ∗ ⌜ Ready (imageOf (now bytes) (now words) sizes) second ⌝ ∗ ⌜ Repeats «first_fourfold» (first .radius) (now «first_columns») ⌝ ∗ ⌜ Repeats «second_fourfold» (second .radius) (now «second_columns») ⌝ }
     ensures { λ n. ⌜ Walked (lentFor (imageOf (now (bytes .entry)) (now (words .entry)) sizes) first (now («first_columns» .entry)) (now (corners .entry))) (lentFor (imageOf (now (bytes .entry)) (now (words .entry)) sizes) second (now («second_columns» .entry)) (now (corners .entry))) (now (corners .entry)) (now (out .entry)) (now (passes .entry)) n (now (out .exit)) (now (passes .exit)) ⌝ }
 {
     let n = corners.len() / 3;
@@ -108,6 +116,7 @@ pub fn refine_both(
             sizes,
             first,
             first_columns,
+            first_fourfold,
             corners,
             i,
             held,
@@ -120,6 +129,7 @@ pub fn refine_both(
             sizes,
             second,
             second_columns,
+            second_fourfold,
             corners,
             i,
             spot,
@@ -142,13 +152,14 @@ fn try_again(
     sizes: Sizes,
     cfg: SaddlePointConfig,
     columns: &[f32; 1125],
+    fourfold: bool,
     corners: &[f32],
     i: usize,
     spot: Spot,
     held: usize,
     flat: &mut [f32; 40],
 ) -> Tried
-    requires { ⌜ i < length (now corners) / 3 ⌝ ∗ ⌜ Ready (imageOf (now bytes) (now words) sizes) cfg ⌝ ∗ ⌜ Held (imageOf (now bytes) (now words) sizes) cfg (now columns) (now corners) held (now flat) ⌝ }
+    requires { ⌜ i < length (now corners) / 3 ⌝ ∗ ⌜ Ready (imageOf (now bytes) (now words) sizes) cfg ⌝ ∗ ⌜ Held (imageOf (now bytes) (now words) sizes) cfg (now columns) (now corners) held (now flat) ⌝ ∗ ⌜ Repeats fourfold (cfg .radius) (now columns) ⌝ }
     ensures { λ r. ⌜ Tries spot (lentFor (imageOf (now (bytes .entry)) (now (words .entry)) sizes) cfg (now (columns .entry)) (now (corners .entry)) i) (r .spot) (r .pass) ⌝ }
     ensures { λ r. ⌜ Held (imageOf (now (bytes .entry)) (now (words .entry)) sizes) cfg (now (columns .entry)) (now (corners .entry)) (r .held) (now (flat .exit)) ⌝ }
 {
@@ -159,7 +170,18 @@ fn try_again(
             held,
         },
         Spot::Nowhere => {
-            let again = spot_at(bytes, words, sizes, cfg, columns, corners, i, held, flat);
+            let again = spot_at(
+                bytes,
+                words,
+                sizes,
+                cfg,
+                columns,
+                fourfold,
+                corners,
+                i,
+                held,
+                flat,
+            );
             Tried {
                 spot: again,
                 pass: 2,
@@ -176,12 +198,13 @@ fn spot_at(
     sizes: Sizes,
     cfg: SaddlePointConfig,
     columns: &[f32; 1125],
+    fourfold: bool,
     corners: &[f32],
     i: usize,
     held: usize,
     flat: &mut [f32; 40],
 ) -> Spot
-    requires { ⌜ i < length (now corners) / 3 ⌝ ∗ ⌜ Ready (imageOf (now bytes) (now words) sizes) cfg ⌝ ∗ ⌜ Held (imageOf (now bytes) (now words) sizes) cfg (now columns) (now corners) held (now flat) ⌝ }
+    requires { ⌜ i < length (now corners) / 3 ⌝ ∗ ⌜ Ready (imageOf (now bytes) (now words) sizes) cfg ⌝ ∗ ⌜ Held (imageOf (now bytes) (now words) sizes) cfg (now columns) (now corners) held (now flat) ⌝ ∗ ⌜ Repeats fourfold (cfg .radius) (now columns) ⌝ }
     ensures { λ r. ⌜ r ≡ lentFor (imageOf (now (bytes .entry)) (now (words .entry)) sizes) cfg (now (columns .entry)) (now (corners .entry)) i ⌝ }
     ensures { λ _. ⌜ FirstFits (imageOf (now (bytes .entry)) (now (words .entry)) sizes) cfg (now (columns .entry)) (now (corners .entry)) (i / 4) (now (flat .exit)) ⌝ }
 {
@@ -192,7 +215,7 @@ fn spot_at(
             sizes,
             cfg,
             columns,
-            false,
+            fourfold,
             corners,
             i / 4,
             flat,
@@ -206,7 +229,7 @@ fn spot_at(
         corners[3 * i],
         corners[3 * i + 1],
         columns,
-        false,
+        fourfold,
         flat,
         i % 4,
     )

@@ -1,9 +1,9 @@
 -- Laws of columns that repeat their numbers: one number more, that they are such columns, and that an operator with them is still the one that was built.
 use mathlib.Core.Path.{_≡_, refl, sym, ap, _∙_, subst}
 use mathlib.Core.Bool.{Bool, true, _&&_, cond}
-use mathlib.Core.Logic.{_⊎_, inl, inr, ⊎-elim}
+use mathlib.Core.Logic.{⊎-elim}
 use mathlib.Core.List.{List, [], _∷_, _++_}
-use Prim.Native.Nat.{ℕ, zero, suc, _+_, _-_, _*_, _/_, _%_, _≤_, _<_, zero-le, suc-le-suc}
+use Prim.Native.Nat.{ℕ, zero, suc, _+_, _-_, _*_, _/_, _%_, _≤_, _<_}
 use native.Mathlib.Nat.{eq-or-lt-of-le, div-add-mod', mod-lt}
 use native.Mathlib.Omega.{arith}
 use borrow.Author.Tests.{le-leb, lt-leb, le-ltb, lt-ltb}
@@ -21,10 +21,10 @@ use Rattle.refine_operator.proofs.CallLaws.{with-overlap, built-length}
 use Rattle.refine_formulas.specs.declared.SaddlePointConfig.{SaddlePointConfig}
 use Rattle.refine_patch.specs.StepsFrom.{Repeats}
 use Rattle.refine_patch.specs.StepsFour.{fourSet}
-use Rattle.refine_patch.proofs.FourLaws.{length-four, four-before, four-past, four-here}
+use Rattle.refine_patch.proofs.FourLaws.{length-four, four-before, four-past, four-here, lt-or-le}
 use Rattle.refine_patch.proofs.PatchLaws.{once}
 use Rattle.refine_seed.proofs.LentLaws.{lent-is-built}
-use Rattle.refine_list.specs.Steps.{Usable, repeated, Repeating}
+use Rattle.refine_list.specs.Steps.{Usable, Building, repeated, Repeating}
 
 -- ---- one number more
 pub repeats-none : (old : List Float) → length old ≡ 1125 → Repeating old 0 old
@@ -50,12 +50,6 @@ repeats-more old now after k h r e =
   where
     room : (n count : ℕ) → n < 125 → count ≡ 1125 → 624 + 4 * n + 4 ≤ count
     room n count h e = omega arith
-
--- ---- all of them
-lt-or-le : (a b : ℕ) → (a < b) ⊎ (b ≤ a)
-lt-or-le a zero = inr zero-le
-lt-or-le zero (suc b) = inl (suc-le-suc zero-le)
-lt-or-le (suc a) (suc b) = ⊎-elim (λ p. inl (suc-le-suc p)) (λ q. inr (suc-le-suc q)) (lt-or-le a b)
 
 module _ (old : List Float) where
   -- the entry i
@@ -171,22 +165,22 @@ module _ (radius : ℕ) (old columns : List Float) (h : radius ≤ 2) (long : le
   still-done : (r : Operator) → ColumnsDone radius old r columns → ColumnsDone radius (repeated columns) r (repeated columns)
   still-done r done = record { answers = done .answers; leaves = still-after (wayOf radius) refl (done .leaves) }
 
-usable : (cfg : SaddlePointConfig) (old columns : List Float) (r : Operator) → ColumnsDone (cfg .radius) old r columns → r ≡ Built → Usable cfg columns
-usable cfg old columns r done e =
+-- ---- as they are built
+pub usable : (cfg : SaddlePointConfig) (columns : List Float) (r : Operator) → Building (cfg .radius) r columns → r ≡ Built → Usable cfg columns
+usable cfg columns r b e =
     record {
       overlap = overlapAfter [] (wayOf (cfg .radius));
-      same = λ img x y wanted. lent-is-built img cfg x y wanted old [] columns (overlapAfter [] (wayOf (cfg .radius))) r (with-overlap (cfg .radius) old [] columns r done) e;
+      same = λ img x y wanted. lent-is-built img cfg x y wanted (b .before) [] columns (overlapAfter [] (wayOf (cfg .radius))) r (with-overlap (cfg .radius) (b .before) [] columns r (b .done)) e;
     }
 
--- ---- as a list lends them, with what is said of them
-abbrev pub Lent : SaddlePointConfig → List Float → Type 0
-Lent cfg columns = Usable cfg columns × Repeats (ltb (cfg .radius) 3) (cfg .radius) columns
+pub built-once : (radius : ℕ) (old columns : List Float) (r : Operator) → ColumnsDone radius old r columns → 3 ≤ radius → Building radius r columns
+built-once radius old columns r done h = record { before = old; done = done; repeats = subst (λ (b : Bool). Repeats b radius columns) (sym (le-ltb radius 3 h)) (once radius columns) }
 
-pub lent-once : (cfg : SaddlePointConfig) (old columns : List Float) (r : Operator) → ColumnsDone (cfg .radius) old r columns → r ≡ Built → 3 ≤ cfg .radius → Lent cfg columns
-lent-once cfg old columns r done e h =
-    (usable cfg old columns r done e, subst (λ (b : Bool). Repeats b (cfg .radius) columns) (sym (le-ltb (cfg .radius) 3 h)) (once (cfg .radius) columns))
-
-pub lent-repeated : (cfg : SaddlePointConfig) (old columns now : List Float) (r : Operator) → length old ≡ 1125 → ColumnsDone (cfg .radius) old r columns → r ≡ Built → cfg .radius < 3 → now ≡ repeated columns → Lent cfg now
-lent-repeated cfg old columns now r long done e h q =
-    subst (Lent cfg) (sym q)
-    (usable cfg (repeated columns) (repeated columns) r (still-done (cfg .radius) old columns (omega arith) (long-after (cfg .radius) old columns r h long done) r done) e, subst (λ (b : Bool). Repeats b (cfg .radius) (repeated columns)) (sym (lt-ltb (cfg .radius) 3 h)) (repeats columns (cfg .radius) (omega arith)))
+pub built-repeated : (radius : ℕ) (old columns now : List Float) (r : Operator) → length old ≡ 1125 → ColumnsDone radius old r columns → radius < 3 → now ≡ repeated columns → Building radius r now
+built-repeated radius old columns now r long done h q =
+    subst (Building radius r) (sym q)
+    (record {
+      before = repeated columns;
+      done = still-done radius old columns (omega arith) (long-after radius old columns r h long done) r done;
+      repeats = subst (λ (b : Bool). Repeats b radius (repeated columns)) (sym (lt-ltb radius 3 h)) (repeats columns radius (omega arith));
+    })

@@ -9,6 +9,9 @@ use lib.Ieee.{Float}
 use Rattle.shapes.specs.Lists.{tabulated}
 use Rattle.shapes.specs.Numbers.{entry}
 use Rattle.imageview.specs.Image.{Image}
+use Rattle.refine_operator.specs.Call.{ColumnsDone}
+use Rattle.refine_operator.specs.declared.Operator.{Operator}
+use Rattle.refine_patch.specs.StepsFrom.{Repeats}
 use Rattle.refine_formulas.specs.declared.SaddlePointConfig.{SaddlePointConfig}
 use Rattle.refine_fits.specs.StepsBases.{coefsIn}
 use Rattle.refine_seed.specs.declared.Spot.{Spot}
@@ -59,3 +62,9 @@ pub record FirstFits (img : Image) (cfg : SaddlePointConfig) (columns corners : 
 pub record Begins (width height pitch radius : ℕ) (corners : List Float) (i r : ℕ) : Type 0 where
   pub is : i < length corners / 3 → r ≡ firstFor pitch radius (seedAlone width height radius (entry corners (3 * i)) (entry corners (3 * i + 1)))
   pub else : length corners / 3 ≤ i → r ≡ 0
+
+-- columns that were built for a radius, or not: those of its operator over some list, and below radius 3 each number once more
+pub record Building (radius : ℕ) (r : Operator) (columns : List Float) : Type 0 where
+  pub before : List Float
+  pub done : ColumnsDone radius before r columns
+  pub repeats : Repeats (ltb radius 3) radius columns

@@ -6,7 +6,7 @@ ghost use lib.ListN.{length, take, drop};
 ghost use Rattle.imageview.specs.Image.{imageOf};
 ghost use Rattle.refine_patch.specs.StepsFrom.{Repeats};
 ghost use Rattle.refine_list.specs.Refining.{recordOf};
-ghost use Rattle.refine_list.specs.Steps.{AllWritten, Usable, FirstFits, Begins, repeated};
+ghost use Rattle.refine_list.specs.Steps.{AllWritten, Usable, FirstFits, Begins, Building, repeated};
 ghost use Rattle.refine_seed.specs.StepsSpot.{Ready};
 use corners::Corner;
 use imageview::Sizes;
@@ -28,26 +28,33 @@ pub fn refine_list(
     ensures { λ n. ⌜ AllWritten (imageOf (now (bytes .entry)) (now (words .entry)) sizes) cfg (now (corners .entry)) (now (out .entry)) n (now (out .exit)) ⌝ }
 {
     let mut columns = [0.0f32; 1125];
-    let operator = refine_operator::fit_columns(cfg.radius, &mut columns);
+    let operator = build(cfg.radius, &mut columns);
     match operator {
-        Operator::Built => {
-            if cfg.radius < 3 {
-                repeat(&mut columns);
-            }
-            refine_all(
-                bytes,
-                words,
-                sizes,
-                cfg,
-                &columns,
-                cfg.radius < 3,
-                corners,
-                out,
-            )
-        }
+        Operator::Built => refine_all(
+            bytes,
+            words,
+            sizes,
+            cfg,
+            &columns,
+            cfg.radius < 3,
+            corners,
+            out,
+        ),
         Operator::Singular => 0,
         Operator::Refused(_) => 0,
     }
+}
+
+// Builds the columns of a radius, below 3 with their numbers repeated.
+pub fn build(radius: usize, columns: &mut [f32; 1125]) -> Operator
+    requires { ⌜ length (now columns) ≡ 1125 ⌝ }
+    ensures { λ r. ⌜ Building radius r (now (columns .exit)) ⌝ }
+{
+    let operator = refine_operator::fit_columns(radius, columns);
+    if radius < 3 {
+        repeat(columns);
+    }
+    operator
 }
 
 // Each of the first 125 numbers four times more, side by side: such a number needs no copies in a register. Only for lists: one seed would not earn it back.

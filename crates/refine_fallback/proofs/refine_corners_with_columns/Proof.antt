@@ -3,6 +3,7 @@ use mathlib.Core.Path.{sym, _∙_}
 use lib.ListN.{length}
 use borrow.Author.Needs.{needs}
 use Rattle.imageview.specs.Image.{imageOf}
+use Rattle.refine_patch.proofs.PatchLaws.{once}
 use Rattle.refine_fallback.specs.Call.{lentFor}
 use Rattle.refine_fallback.proofs.TestLaws.{first-ready, second-ready, has-room, refuses, refines}
 use Rattle.refine_fallback.proofs.refine_corners_with_columns.Statement.{statement}
@@ -25,7 +26,7 @@ refine-both-requires c κs =
     let len = length (a .corners .now) in
     let room = length (a .out .now) in
     let bytes = length (a .passes .now) in
-    (has-room img (a .first) (a .second) len room bytes good, (first-ready img (a .first) (a .second) len room bytes good, second-ready img (a .first) (a .second) len room bytes good))
+    (has-room img (a .first) (a .second) len room bytes good, (first-ready img (a .first) (a .second) len room bytes good, (second-ready img (a .first) (a .second) len room bytes good, (once (a .first .radius) (a .first-columns .now), once (a .second .radius) (a .second-columns .now)))))
 
 returns : tie.Need-returns
 returns c =

@@ -14,7 +14,7 @@ use Rattle.refine_fallback.proofs.walk.refine_both.Statement.{statement
 use Rattle.refine_fallback.proofs.walk.refine_both.Tie as tie
 
 abbrev Inv-loop : tie.InvT-loop
-Inv-loop bytes words sizes first second first-columns second-columns corners out₀ passes₀ n flat₀ other₀ held₀ other-held₀ written₀ count₀ i₀ out passes flat other held other-held written count i =
+Inv-loop bytes words sizes first second first-columns second-columns first-fourfold second-fourfold corners out₀ passes₀ n flat₀ other₀ held₀ other-held₀ written₀ count₀ i₀ out passes flat other held other-held written count i =
     let one = lentFor (imageOf bytes words sizes) first first-columns corners in
     let two = lentFor (imageOf bytes words sizes) second second-columns corners in
     Going (λ k. either (one k) (two k)) corners out₀ i written out
@@ -24,7 +24,7 @@ Inv-loop bytes words sizes first second first-columns second-columns corners out
     × (i ≤ n)
 
 abbrev μ-loop : tie.MeasureT-loop
-μ-loop bytes words sizes first second first-columns second-columns corners out₀ passes₀ n flat₀ other₀ held₀ other-held₀ written₀ count₀ i₀ out passes flat other held other-held written count i = n - i
+μ-loop bytes words sizes first second first-columns second-columns first-fourfold second-fourfold corners out₀ passes₀ n flat₀ other₀ held₀ other-held₀ written₀ count₀ i₀ out passes flat other held other-held written count i = n - i
 
 abbrev one : tie.Start Inv-loop μ-loop → ℕ → Spot
 one s = lentFor (imageOf (s .args .bytes .now) (s .args .words .now) (s .args .sizes)) (s .args .first) (s .args .first-columns .now) (s .args .corners .now)
@@ -49,12 +49,12 @@ loop-holds c =
 spot-at-requires : tie.Need-spot-at-requires Inv-loop μ-loop
 spot-at-requires c κs =
     let l = c .before .before in
-    (c .before .loop-test .taken, (l .before .before .before .before .before .before .pre .1 .0, l .loop .inv .2))
+    (c .before .loop-test .taken, (l .before .before .before .before .before .before .pre .1 .0, (l .loop .inv .2, l .before .before .before .before .before .before .pre .1 .1 .1 .0)))
 
 try-again-requires : tie.Need-try-again-requires Inv-loop μ-loop
 try-again-requires c κs =
     let l = c .before .before .before .before in
-    (c .before .before .before .loop-test .taken, (l .before .before .before .before .before .before .pre .1 .1, l .loop .inv .3))
+    (c .before .before .before .loop-test .taken, (l .before .before .before .before .before .before .pre .1 .1 .0, (l .loop .inv .3, l .before .before .before .before .before .before .pre .1 .1 .1 .1)))
 
 put-pass-requires : tie.Need-put-pass-requires Inv-loop μ-loop
 put-pass-requires c κs =

@@ -5,7 +5,6 @@ use Prim.Native.Nat.{_/_}
 use native.Mathlib.Omega.{arith}
 use borrow.Author.Needs.{needs}
 use Rattle.imageview.specs.Image.{imageOf}
-use Rattle.refine_patch.proofs.PatchLaws.{once}
 use Rattle.refine_list.specs.Steps.{FirstFits}
 use Rattle.refine_list.proofs.FirstLaws.{this-group}
 use Rattle.refine_fallback.proofs.WalkLaws.{held-for, spot-lent}
@@ -15,7 +14,7 @@ use Rattle.refine_fallback.proofs.walk.spot_at.Tie as tie
 first-fits-requires : tie.Need-first-fits-requires
 first-fits-requires c κs =
     let s = c .before .before .before .before .before in
-    (s .pre .1 .0, ((s .pre .1 .1 .long, omega (arith, s .pre .0)), once (s .args .cfg .radius) (s .args .columns .now)))
+    (s .pre .1 .0, ((s .pre .1 .1 .0 .long, omega (arith, s .pre .0)), s .pre .1 .1 .1))
 
 group : (c : tie.Joined1) → FirstFits (imageOf (c .before .before .before .before .args .bytes .now) (c .before .before .before .before .args .words .now) (c .before .before .before .before .args .sizes)) (c .before .before .before .before .args .cfg) (c .before .before .before .before .args .columns .now) (c .before .before .before .before .args .corners .now) (c .before .before .before .before .args .i / 4) (c .if1 .flat)
 group c =
@@ -24,7 +23,7 @@ group c =
     let img = imageOf (a .bytes .now) (a .words .now) (a .sizes) in
     ⊎-elim
     (λ w. subst (FirstFits img (a .cfg) (a .columns .now) (a .corners .now) (a .i / 4)) (sym (w .3)) (w .2 .ensures))
-    (λ w. subst (FirstFits img (a .cfg) (a .columns .now) (a .corners .now) (a .i / 4)) (sym (w .1)) (held-for img (a .cfg) (a .columns .now) (a .corners .now) (a .i / 4) (a .held) (a .flat .now) (s .pre .1 .1) (w .0 .left) (omega (arith, s .pre .0))))
+    (λ w. subst (FirstFits img (a .cfg) (a .columns .now) (a .corners .now) (a .i / 4)) (sym (w .1)) (held-for img (a .cfg) (a .columns .now) (a .corners .now) (a .i / 4) (a .held) (a .flat .now) (s .pre .1 .1 .0) (w .0 .left) (omega (arith, s .pre .0))))
     (c .if1 .came)
 
 mul-spot-with : tie.Need-mul-spot-with
@@ -54,7 +53,7 @@ spot-with-requires c κs =
     let s = j .before .before .before .before in
     let a = s .args in
     let img = imageOf (a .bytes .now) (a .words .now) (a .sizes) in
-    (s .pre .1 .0, (this-group img (a .cfg) (a .columns .now) (a .corners .now) (a .i) (j .if1 .flat) (group j) (s .pre .0), (omega arith, once (a .cfg .radius) (a .columns .now))))
+    (s .pre .1 .0, (this-group img (a .cfg) (a .columns .now) (a .corners .now) (a .i) (j .if1 .flat) (group j) (s .pre .0), (omega arith, s .pre .1 .1 .1)))
 
 returns : tie.Need-returns
 returns c =

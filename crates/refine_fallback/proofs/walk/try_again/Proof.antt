@@ -20,7 +20,7 @@ returns : tie.Need-returns
 returns c =
     let s = c .before .before .before .before .before in
     let a = s .args in
-    (first-kept (a .spot) (lentFor (imageOf (a .bytes .now) (a .words .now) (a .sizes)) (a .cfg) (a .columns .now) (a .corners .now) (a .i)) (c .enum-told .given .0 .0) (c .enum-told .given .0 .1 .0) (c .enum-told .given .1), s .pre .1 .1)
+    (first-kept (a .spot) (lentFor (imageOf (a .bytes .now) (a .words .now) (a .sizes)) (a .cfg) (a .columns .now) (a .corners .now) (a .i)) (c .enum-told .given .0 .0) (c .enum-told .given .0 .1 .0) (c .enum-told .given .1), s .pre .1 .1 .0)
 
 returns-2 : tie.Need-returns-2
 returns-2 c =
