@@ -228,7 +228,7 @@ fn wide_of(radius: usize) -> usize
     if radius < 4 { 8 } else { 16 }
 }
 
-// How many rows are gathered before they are added: at the usual radius all of them, which the device reads while it adds.
+// How many rows are gathered before they are added: all of them up to radius 2, and one above it, since the stack has no room for more.
 fn rows_of(radius: usize) -> usize
     ensures { λ r. ⌜ r ≡ rowsOf radius ⌝ }
 {
