@@ -14,5 +14,5 @@ pub returns : goal.returns
 returns c =
     let few = few-digits c.args.n c.decimal-k.result c.ranges.n.fits c.decimal-k.ensures.len in (
       omega (arith, c.put.ensures.ends, c.decimal-k.ensures.in_bounds.1, few),
-      subst (λ (l : List ℕ). Put c.args.text.now c.args.at l c.put.result c.put.new.text) (c.decimal-k.ensures.1.1 ∙ fewest 20 c.decimal-k.result c.args.n few c.decimal-k.ensures.len) c.put.ensures,
+      subst (λ (l : List ℕ). Put c.args.text.now c.args.at l c.put.result c.put.new.text) (c.decimal-k.ensures.digits ∙ fewest 20 c.decimal-k.result c.args.n few c.decimal-k.ensures.len) c.put.ensures,
     )
