@@ -1,0 +1,10 @@
+-- `replay_lent::replay_list` is proved safe and ending: a case lies within its buffer, and every lent slice keeps its length.
+use mathlib.Core.Path.{◌≡◌}
+use lib.ListN.{length}
+use Rattle.replay_lent.proofs.replay_list.Given as goal
+
+abbrev pub invariant-loop-left : goal.invariant-loop-left
+invariant-loop-left l = (length l.case ≡ length l.initial.case)
+
+abbrev pub decreases-loop-left : goal.decreases-loop-left
+decreases-loop-left l = l.left
