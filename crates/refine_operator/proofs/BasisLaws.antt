@@ -18,7 +18,8 @@ pub sub_small : (a b n : ℕ) → a < n → b < n → mag (sub_ℕ a b) < n
 sub_small a b n p q = by (ltb a b)
   where
     by : (t : Bool) → mag (cond t (negsuc (b - suc a)) (pos (a - b))) < n
-    by t = elim t [ true ↦ omega arith | false ↦ omega arith ]
+    by true = omega arith
+    by false = omega arith
 
 pub difference : (a b : ℕ) → a ≤ 14 → b ≤ 7 → to_z w32 a -ℤ to_z w32 b ≡ sub_ℕ a b
 difference a b p q =

@@ -1,0 +1,13 @@
+-- `chess_corners::beside::chess_corners_coverage` meets its contract: each arm is the wrapped call's promise at the answer it knows, and the count is as it was.
+use mathlib.Core.Path.{refl}
+use Rattle.coverage.specs.declared.Coverage.TheVariants.{Counted, Refused}
+use Rattle.chess_corners.proofs.FaceLaws.{covering, still, still-tested}
+use Rattle.chess_corners.proofs.beside.chess_corners_coverage.Goals as goal
+
+pub returns-in-Counted : goal.returns-in-Counted
+returns-in-Counted c =
+    let a = c.args in
+    still (still-tested a.width a.height a.count _ refl) (covering a.count (Counted _) 0 refl c.in-Counted.is c.coverage_afresh-answer.ensures)
+
+pub returns-in-Refused : goal.returns-in-Refused
+returns-in-Refused c = covering c.args.count (Refused c.in-Refused.refusal) c.number.result c.number.ensures c.in-Refused.is c.coverage_afresh-answer.ensures

@@ -1,0 +1,11 @@
+-- `graymap::samples::higher` meets its contract: each return is one arm of the definition.
+use mathlib.Core.Path.{sym, ap}
+use mathlib.Core.Bool.{Bool, cond}
+use borrow.Author.Tests.{lt-ltb, le-ltb}
+use Rattle.graymap.proofs.samples.higher.Goals as goal
+
+pub returns-then-a-b : goal.returns-then-a-b
+returns-then-a-b c = let a = c.args in sym (ap (λ (t : Bool). cond t a.b a.a) (lt-ltb a.a a.b c.if-a-b.true))
+
+pub returns : goal.returns
+returns c = let a = c.args in sym (ap (λ (t : Bool). cond t a.b a.a) (le-ltb a.a a.b c.if-a-b.false))

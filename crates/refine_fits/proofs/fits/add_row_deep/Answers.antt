@@ -1,0 +1,25 @@
+-- `refine_fits::fits::add_row_deep` meets its contract, as `add_row` does.
+use mathlib.Core.Path.{◌≡◌, ap, ◌∙◌}
+use Prim.Native.Nat.{ℕ, ◌-◌}
+use native.Mathlib.Omega.{arith}
+use lib.ListN.{length}
+use Rattle.refine_fits.specs.StepsAdding.{row_added}
+use Rattle.refine_fits.proofs.FitLaws.{row-none, row_more}
+use Rattle.refine_fits.proofs.fits.add_row_deep.Goals as goal
+
+pub loop-i-init : goal.loop-i-init
+loop-i-init c =
+    let a = c.args in
+    (omega arith, row-none a.columns.now a.row.now a.centre a.from a.s)
+
+pub loop-i-preserved : goal.loop-i-preserved
+loop-i-preserved c =
+    let l = c.loop-i in
+    let a = c.args in
+    (omega arith, row_more a.columns.now a.row.now a.centre a.from l.i a.s l.sums c.add_sample-sums.result l.invariant.1 c.add_sample-sums.ensures)
+
+pub returns : goal.returns
+returns c =
+    let l = c.loop-i in
+    let a = c.args in
+    l.invariant.1 ∙ ap (λ (n : ℕ). row_added a.columns.now a.row.now a.centre a.from n a.s) (let e : l.i ≡ length a.row.now = omega arith in e)

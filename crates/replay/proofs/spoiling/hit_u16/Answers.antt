@@ -1,0 +1,15 @@
+-- `replay::hit_u16` meets its contract, test by test.
+use mathlib.Core.Path.{sym, ap, ◌∙◌}
+use Prim.Native.Nat.{ℕ, ◌-◌}
+use lib.ListN.{set}
+use Rattle.replay.proofs.SpoilLaws.{hit-none, hit-is, hit-past}
+use Rattle.replay.proofs.spoiling.hit_u16.Goals as goal
+
+pub returns-then-h-eq0 : goal.returns-then-h-eq0
+returns-then-h-eq0 c = sym (hit-none _ _ _ _ c.if-h-eq0.true)
+
+pub returns-then-list-h : goal.returns-then-list-h
+returns-then-list-h c = sym (hit-past _ _ _ _ c.if-h-eq0.false c.if-list-h.true)
+
+pub returns : goal.returns
+returns c = ap (λ (v : ℕ). set c.args.list.now (c.args.h - 1) v) c.other_u16.ensures ∙ sym (hit-is _ _ _ _ c.if-h-eq0.false)
