@@ -197,14 +197,6 @@ impl Tally {
         }
     }
 
-    // What was counted of a list, which was read to its end or was not.
-    pub fn of(walked: Walked<Tally>) -> Self {
-        if walked.whole {
-            return walked.found.ended();
-        }
-        walked.found
-    }
-
     pub fn ended(self) -> Self
         ensures { result ≡ ended_of self }
     {
@@ -274,8 +266,9 @@ pub fn replay<R: Files + Print, F: FnMut(Tally, &mut [u8]) -> Tally>(
 ) -> io::Result<()>
     requires { F.IsAlwaysCallable each }
 {
-    let walked = walk(rt, name, case, most, Tally::new(), each)?;
-    report(rt, name.as_bytes(), Tally::of(walked))
+    let Walked { found, whole } = walk(rt, name, case, most, Tally::new(), each)?;
+    let tally = if whole { found.ended() } else { found };
+    report(rt, name.as_bytes(), tally)
 }
 
 // A list's name and what was counted; a list that was not read to its end is broken.
