@@ -157,12 +157,10 @@ fn unnamed(number: u32) -> u32 {
 
 // Whether the answers are the words of the case from a place on.
 fn are_stored(case: &[u8], at: usize, answers: &[u16]) -> bool {
-    let mut i = 0;
-    while i < answers.len() {
-        if wide(answers[i]) != replay::word_from(case, at, i) {
+    for (i, answer) in answers.iter().enumerate() {
+        if wide(*answer) != replay::word_from(case, at, i) {
             return false;
         }
-        i += 1;
     }
     true
 }

@@ -102,11 +102,9 @@ fn run(
 ) -> bool {
     let calls = words::word(case, 28) as usize;
     let mut right = true;
-    let mut i = 0;
-    while i < calls {
+    for i in 0..calls {
         let number = ask(case, layout::call(at, i), list, count, counts);
         right = right & (number == replay::word_from(case, at.numbers, i));
-        i += 1;
     }
     right
 }

@@ -102,10 +102,8 @@ fn ask(case: &[u8], at: usize, grid: &mut [f32]) -> u32 {
 
 // The sixteen pairs.
 fn load_ring(case: &[u8], at: usize, ring: &mut [i32; 32]) {
-    let mut i = 0;
-    while i < 32 {
-        ring[i] = words::int(case, replay::place(at, i));
-        i += 1;
+    for (i, x) in ring.iter_mut().enumerate() {
+        *x = words::int(case, replay::place(at, i));
     }
 }
 

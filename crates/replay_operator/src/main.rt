@@ -28,12 +28,10 @@ fn trial(tally: Tally, case: &mut [u8]) -> Tally {
 // Whether every flipped bit of the answer and every changed element of what was written is noticed.
 fn notices(case: &mut [u8]) -> bool {
     let mut noticed = true;
-    let mut k: u32 = 0;
-    while k < TURNS {
+    for k in 0..TURNS {
         let taken = spoilt_holds(case, 37 * k);
         let missed = holds(case, aim(37 * k));
         noticed = noticed & !taken & !missed;
-        k += 1;
     }
     noticed
 }

@@ -103,10 +103,8 @@ fn ask(
 
 // The sixteen pairs, which follow the radius.
 fn load_ring(case: &[u8], at: usize, ring: &mut [i32; 32]) {
-    let mut i = 0;
-    while i < 32 {
-        ring[i] = words::int(case, replay::place(at, i + 1));
-        i += 1;
+    for (i, x) in ring.iter_mut().enumerate() {
+        *x = words::int(case, replay::place(at, i + 1));
     }
 }
 
