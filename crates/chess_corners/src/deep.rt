@@ -291,7 +291,7 @@ pub extern "C" fn chess_corners_graymap_u16(
     start: &mut usize,
     pixel: &mut usize,
 ) -> u32
-    ensures { ReadingDeep file.now out.old (record { width = width.entry.now; height = height.old; maximum = maximum.old; start = start.old; pixel = pixel.old }) result out.new (record { width = width.exit.now; height = height.new; maximum = maximum.new; start = start.new; pixel = pixel.new }) }
+    ensures { ReadingDeep file.now out.old (record { width = width.old; height = height.old; maximum = maximum.old; start = start.old; pixel = pixel.old }) result out.new (record { width = width.new; height = height.new; maximum = maximum.new; start = start.new; pixel = pixel.new }) }
 {
     let answer = graymap::read_graymap_u16(file, out);
     told::tell_graymap(answer, width, height, maximum, start, pixel)

@@ -223,7 +223,7 @@ pub extern "C" fn chess_corners_graymap(
     start: &mut usize,
     pixel: &mut usize,
 ) -> u32
-    ensures { Reading (read_of false file.now) (record { width = width.entry.now; height = height.old; maximum = maximum.old; start = start.old; pixel = pixel.old }) result (record { width = width.exit.now; height = height.new; maximum = maximum.new; start = start.new; pixel = pixel.new }) }
+    ensures { Reading (read_of false file.now) (record { width = width.old; height = height.old; maximum = maximum.old; start = start.old; pixel = pixel.old }) result (record { width = width.new; height = height.new; maximum = maximum.new; start = start.new; pixel = pixel.new }) }
 {
     let answer = graymap::read_graymap(file);
     told::tell_graymap(answer, width, height, maximum, start, pixel)

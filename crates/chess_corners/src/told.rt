@@ -42,7 +42,7 @@ pub fn tell_graymap(
     start: &mut usize,
     pixel: &mut usize,
 ) -> u32
-    ensures { Reading answer (record { width = width.entry.now; height = height.old; maximum = maximum.old; start = start.old; pixel = pixel.old }) result (record { width = width.exit.now; height = height.new; maximum = maximum.new; start = start.new; pixel = pixel.new }) }
+    ensures { Reading answer (record { width = width.old; height = height.old; maximum = maximum.old; start = start.old; pixel = pixel.old }) result (record { width = width.new; height = height.new; maximum = maximum.new; start = start.new; pixel = pixel.new }) }
 {
     match answer {
         Graymap::Read {
