@@ -16,7 +16,7 @@ use Rattle.exact_distance.proofs.Finite.{finite-places}
 use Rattle.corners.specs.Corners.{squared_distance}
 use Rattle.board.specs.Nearest.{distance_to}
 use Rattle.board.specs.Call.{inner_corners}
-use Rattle.board_theorems.specs.Claims.{Usable, apart}
+use Rattle.board_theorems.specs.Claims.{apart}
 use Rattle.board_theorems.specs.Exact.{TiedExactly}
 use Rattle.board_theorems.proofs.Theorems.{accepted-exactly}
 

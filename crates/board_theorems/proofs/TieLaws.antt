@@ -13,7 +13,6 @@ use lib.Ieee.{Float, le}
 use lib.Ieee.Scale.{finite}
 use borrow.Author.Tests.{eqb-true, eqb-false}
 use Rattle.shapes.specs.Numbers.{entry}
-use Rattle.shapes.specs.Tests.{some}
 use Rattle.shapes.proofs.TestLaws.{some_at, some_is}
 use Rattle.board.specs.Call.{Way, refused, unmet, shared, tied, nearest_at, is_among, tie_from}
 use Rattle.board_theorems.specs.Claims.{corners, apart, Serves, Lacks, Assigned}

@@ -1,6 +1,6 @@
 -- What whoever relies on tying corners to places may claim of the call, by the way that it went (`way_of`, which its contract answers by). Places are named by
 -- their numbers by row, corners by their numbers in the list. The proofs are in proofs/Theorems.antt.
-use Rattle.std.specs.Prelude.{◌≡◌, Bool, true, false, List, ℕ, ◌+◌, ◌*◌, ◌/◌, ◌≤◌, ◌<◌, length, get_or, Float}
+use Rattle.std.specs.Prelude.{◌≡◌, true, false, List, ℕ, ◌+◌, ◌*◌, ◌/◌, ◌≤◌, ◌<◌, length, get_or, Float}
 use Rattle.std.specs.Float.Ieee.{lt, le}
 use Rattle.shapes.specs.Numbers.{entry}
 use Rattle.corners.specs.Corners.{whole, too_many}

@@ -1,6 +1,6 @@
 -- A squared distance that is at most a finite limit is of finite coordinates: from a finite place, a coordinate that is infinite or a NaN makes it one too.
 use mathlib.Core.Path.{◌≡◌}
-use mathlib.Core.Bool.{Bool, true, false}
+use mathlib.Core.Bool.{true, false}
 use lib.Dec.{T}
 use lib.Ieee.{Float, nan, inf, fin, binary32, add, sub, mul, le}
 use lib.Ieee.Scale.{finite}

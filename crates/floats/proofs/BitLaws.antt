@@ -1,5 +1,5 @@
 -- Bit patterns: the value behind a pattern with no sign as a fraction, the sign, and which patterns are a NaN's.
-use Rattle.std.proofs.Common.{◌≡◌, ℕ, zero, suc, ◌+◌, ◌-◌, ◌*◌, ◌/◌, ◌%◌, ◌^◌, ◌<◌, ◌≤◌, Bool, true, false, cond, not, T, eqb, ltb, leb, ℤ, pos, negsuc, sym, refl, ap, ◌∙◌, subst, true≢false, lt_of_lt_of_le, le-add_right, mul_comm, mul-one, lit≤, le→leb, eqb→eq, lt→ltb, nltb→le}
+use Rattle.std.proofs.Common.{◌≡◌, ℕ, zero, suc, ◌+◌, ◌*◌, ◌/◌, ◌%◌, ◌^◌, ◌<◌, ◌≤◌, Bool, true, false, cond, not, T, eqb, ltb, leb, sym, refl, ap, ◌∙◌, subst, true≢false, lt_of_lt_of_le, le-add_right, mul_comm, mul-one, lit≤, le→leb, eqb→eq, lt→ltb, nltb→le}
 use lib.Dec.{not_T}
 use lib.Arith.{digits_div, digits_mod, digits_lt, lt→nleb, le→nltb}
 use lib.Ieee.{Float, nan, inf, fin, Format, binary32, binary64, prec, low, hid, ones, top, odd, of_bits, to_bits, of_fields, neg, ne, is_nan, nan_bits, fits}

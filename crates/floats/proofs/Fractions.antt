@@ -1,14 +1,11 @@
 -- Each operation of IEEE 754 on finite values, by whatever fractions give their sizes: a comparison compares the fractions, and a sum,
 -- a product or a quotient is one rounding of the exact one. Sizes are `HasValue x s a c`: the sign s and a / c.
-use Rattle.std.proofs.Common.{◌≡◌, ℕ, zero, suc, ◌+◌, ◌-◌, ◌*◌, ◌/◌, ◌^◌, ◌<◌, ◌≤◌, min, Bool, true, false, cond, not, ◌&&◌, ◌||◌, T, eqb, ltb, leb, ◌⊎◌, ℤ, pos, negsuc, sym, refl, ap, ◌∙◌, subst, inl, inr, le_trans, mul-le-mul_right, zero-lt-suc, mul_assoc, mul_comm, add-mul, le_antisymm, lt_of_mul-lt-mul_right, mul-lt-mul_of_pos_right, mul-pos, zero-mul, mul-one, mul_right_comm, le_of_mul-le-mul_right, mul_left_comm, arith, eqb→eq, ltb→lt, lt→ltb, nltb→le, T_not}
-use Prim.Native.Nat.{compare}
+use Rattle.std.proofs.Common.{◌≡◌, ℕ, zero, suc, ◌+◌, ◌-◌, ◌*◌, ◌/◌, ◌^◌, ◌<◌, min, Bool, true, false, cond, not, ◌&&◌, ◌||◌, T, eqb, ltb, sym, refl, ap, ◌∙◌, subst, mul_assoc, mul_comm, add-mul, lt_of_mul-lt-mul_right, mul-lt-mul_of_pos_right, mul-pos, zero-mul, mul_left_comm, eqb→eq, ltb→lt, lt→ltb}
 use native.Mathlib.Nat.{mul-sub, eq_of_mul-eq-mul_right}
 use mathlib.Core.Bool.{beq}
 use lib.Dec.{eqb_refl, not_T}
-use lib.Arith.{le→nltb}
 use lib.Ieee.{Float, nan, inf, fin, Format, up, down, unlike, odd, units, round, low, neg, sum, add, sub, mul, div, below, level, lt, eq, le, to_unsigned}
-use lib.Ieee.Bits.{is_true, is_false}
-use lib.Ieee.Fits.{up_pos, down_pos, core, round_is, eq→eqb}
+use lib.Ieee.Fits.{down_pos, eq→eqb}
 use lib.Ieee.Nearest.{div_same}
 use lib.Ieee.Exact.{HasValue}
 use lib.Ieee.Scale.{round_same}

@@ -1,10 +1,10 @@
 -- Rounding moves a fraction by at most half a unit, where the unit is the last digit that the format keeps of it.
 -- `closest a b` is a / b rounded to a whole number, a tie to the even one; `grid f a c` is a / c rounded, in units of f's smallest value.
-use Rattle.std.proofs.Common.{◌≡◌, ℕ, zero, suc, ◌+◌, ◌-◌, ◌*◌, ◌/◌, ◌%◌, ◌^◌, ◌<◌, ◌≤◌, Bool, true, false, not, T, ◌⊎◌, sym, refl, ap, ◌∙◌, subst, inl, inr, le_of_eq, le_of_suc-le-suc, not-suc-le-zero, lt_irrefl, mod-lt, mul_assoc, suc-mul, mul_comm, mul-pos, div-add-mod', mul_left_comm, arith, eqb→eq, leb→le, pow_pos}
+use Rattle.std.proofs.Common.{◌≡◌, ℕ, zero, suc, ◌+◌, ◌*◌, ◌/◌, ◌%◌, ◌^◌, ◌<◌, ◌≤◌, Bool, not, T, ◌⊎◌, sym, refl, ap, ◌∙◌, subst, inl, inr, le_of_eq, le_of_suc-le-suc, not-suc-le-zero, lt_irrefl, mod-lt, mul_assoc, suc-mul, mul_comm, mul-pos, div-add-mod', mul_left_comm, arith, eqb→eq, leb→le, pow_pos}
 use Prim.Native.Nat.compare
 use Prim.Native.Nat.{compare, Ordering}
 use lib.Dec.{is_le, compare_is_eq, nleb→lt}
-use lib.Ieee.{Float, Format, prec, low, round, nearest, units}
+use lib.Ieee.{Float, Format, prec, low, round, nearest}
 use lib.Arith.{lt_of_le-ne}
 use lib.Ieee.Fits.{round_is, eq→eqb}
 use lib.Ieee.Nearest.{closest}

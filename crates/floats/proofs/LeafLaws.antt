@@ -1,16 +1,13 @@
 -- Laws of the leaves that need no rounding: the magnitude, the test for a finite value and the total order of magnitudes.
-use Rattle.std.proofs.Common.{◌≡◌, ℕ, zero, suc, ◌+◌, ◌-◌, ◌*◌, ◌^◌, ◌<◌, ◌≤◌, Bool, true, false, cond, not, ◌&&◌, ◌||◌, T, eqb, ltb, ℤ, pos, sym, refl, ap, ◌∙◌, subst, ap₂, true≢false, lt_irrefl, le_antisymm, mul-pos, one-mul, zero-add, zero-mul, mul-one, arith, eqb→eq, ltb→lt, nltb→le, pow_pos}
+use Rattle.std.proofs.Common.{◌≡◌, ℕ, zero, suc, ◌+◌, ◌-◌, ◌*◌, ◌<◌, Bool, true, false, cond, not, ◌&&◌, ◌||◌, T, eqb, ltb, ℤ, pos, sym, refl, ap, ◌∙◌, subst, ap₂, true≢false, lt_irrefl, le_antisymm, mul-pos, one-mul, zero-add, zero-mul, mul-one, arith, eqb→eq, ltb→lt, nltb→le, pow_pos}
 use Prim.Native.Nat.{compare, Ordering}
 use native.Mathlib.Nat.{sub_self}
-use mathlib.Core.Bool.{beq}
 use lib.Dec.{eqb_refl}
 use lib.Arith.{le→nltb}
 use lib.Ieee.{Float, nan, inf, fin, Format, up, down, round, sum, neg, sub, add, lt, eq, le, fits}
 use lib.Ieee.Bits.{is_false, is_true}
 use lib.Ieee.Fits.{down_pos, up_pos, eq→eqb}
 use lib.Ieee.Scale.{finite}
-use lib.Ieee.Exact.{HasValue}
-use Rattle.floats.specs.declared.Order.{Order}
 use Rattle.floats.specs.declared.Order.TheVariants.{Less, Equal, Greater}
 use Rattle.floats.specs.Magnitude.{magnitude}
 use Rattle.floats.specs.TotalOrder.{total_cmp, as_order}

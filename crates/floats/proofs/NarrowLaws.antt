@@ -1,22 +1,19 @@
 -- What narrowing rests on: dropping digits to the nearest even number, `round` far below the smallest unit and far above the largest,
 -- and each branch on the exponent's field of a binary64 pattern.
-use Rattle.std.proofs.Common.{◌≡◌, ℕ, zero, suc, ◌+◌, ◌-◌, ◌*◌, ◌/◌, ◌%◌, ◌^◌, ◌<◌, ◌≤◌, Bool, true, false, cond, not, T, eqb, ltb, leb, ◌⊎◌, ℤ, pos, negsuc, sym, refl, ap, ◌∙◌, subst, inl, inr, true≢false, le_trans, lt_of_lt_of_le, le-add_right, lt_of_le_of_lt, add-zero, le_of_lt, mul-le-mul_right, mod-lt, mul_assoc, suc-mul, mul_comm, div-lt_iff_lt-mul, mul-le-mul_left, mul-lt-mul_of_pos_right, mul-pos, one-mul, div-add-mod', zero-add, zero-mul, mul-one, mul_left_comm, arith, lit≤, le→leb, eqb→eq, lt→ltb, nltb→le, pow_pos, pow_mono, pow-add}
+use Rattle.std.proofs.Common.{◌≡◌, ℕ, zero, suc, ◌+◌, ◌-◌, ◌*◌, ◌/◌, ◌%◌, ◌^◌, ◌<◌, ◌≤◌, Bool, false, ◌⊎◌, pos, sym, refl, ap, ◌∙◌, subst, inl, inr, le_trans, lt_of_lt_of_le, add-zero, le_of_lt, mul-le-mul_right, mod-lt, mul_assoc, suc-mul, mul_comm, mul-le-mul_left, mul-lt-mul_of_pos_right, mul-pos, one-mul, div-add-mod', zero-add, mul-one, arith, lit≤, pow_pos, pow_mono, pow-add}
 use Prim.Native.Nat.{compare, Ordering}
-use lib.Dec.{not_T}
-use lib.Arith.{digits_mod, digits_lt, lt→nleb, le→nltb}
-use lib.Ieee.{Float, nan, inf, fin, Format, binary32, binary64, prec, emax, low, hid, ones, top, up, down, odd, round, units, nearest, of_bits, to_bits, of_fields, neg, ne, is_nan, nan_bits, fits}
-use lib.Ieee.Bits.{is_false, is_true, cond_no, of_bits-to_bits, nan_bits_is, nan_bits_above}
-use lib.Ieee.Fits.{down_pos, round_is}
-use lib.Ieee.Nearest.{closest, closest_same}
-use lib.Ieee.Exact.{HasValue, odd_sign}
+use lib.Ieee.{Float, nan, inf, fin, Format, binary32, binary64, prec, low, hid, up, down, odd, round, units, nearest, of_bits, neg}
+use lib.Ieee.Fits.{down_pos}
+use lib.Ieee.Nearest.{closest}
+use lib.Ieee.Exact.{HasValue}
 use lib.Ieee.Scale.{round_same, overflow}
 use Rattle.floats.specs.Convert.{convert}
 use Rattle.floats.specs.Steps.{Narrowed}
 use Rattle.floats.proofs.BitLaws.{subnormal-value, normal-value}
 use Rattle.floats.proofs.Half.{Near, closest-near, compared-lt, compared-eq, compared-gt, parity}
-use Rattle.floats.proofs.Fractions.{neg-odd, neg-cond, neg-round}
+use Rattle.floats.proofs.Fractions.{neg-round}
 use Rattle.floats.proofs.PartLaws.{is-part}
-use Rattle.floats.proofs.Pattern.{round-shift, round-known, units-inf, closest-from, closest-upto, unit-shift, shift-below, shift_from}
+use Rattle.floats.proofs.Pattern.{round-shift, round-known, units-inf, closest-from, closest-upto, shift-below, shift_from}
 
 -- ---- n / 2h to the nearest whole number, a tie to the even one, by one division
 step : (n h q r o : ℕ) → 0 < h → q * (h + h) + r ≡ n → r < h + h → o < 2

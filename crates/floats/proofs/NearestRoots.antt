@@ -1,23 +1,19 @@
 -- THE THEOREM of `sqrt`: it is finite, and the one value of the format nearest to the exact root (`sqrt-nearest`), for every format.
 -- A value of the format, in units, is a multiple of 2 ^ k where the root keeps digits behind which k are dropped, so none lies between the two that are next to the root.
-use Rattle.std.proofs.Common.{◌≡◌, ℕ, zero, suc, ◌+◌, ◌-◌, ◌*◌, ◌/◌, ◌%◌, ◌^◌, ◌<◌, ◌≤◌, Bool, true, false, cond, not, T, leb, ◌⊎◌, sym, refl, ap, ◌∙◌, subst, inl, zero-le, le_trans, le_of_eq, le_refl, lt_of_lt_of_le, le_of_suc-le-suc, not-suc-le-zero, lt_of_le_of_lt, le_of_lt, lt_irrefl, mul-le-mul_right, zero-lt-suc, mul_assoc, lt-suc_self, suc-mul, mul_comm, div-lt_iff_lt-mul, add-mul, mul-le-mul, le_antisymm, lt_of_mul-lt-mul_right, mul-le-mul_left, mul-lt-mul_of_pos_right, mul-pos, one-mul, pow-suc, lt_of_not-le, le-div_iff_mul-le, zero-add, zero-mul, mul-one, mul-suc, mul-add, mul_right_comm, not-le_of_lt, le-mul_of_pos_right, div-mul-le_self, mul-div_cancel, mul_left_comm, le-add_left, add-one, arith, lit≤, le→leb, leb→le, pow_pos, pow_mono, pow-add}
-use Prim.Native.Nat.{compare, Ordering}
-use native.Mathlib.Nat.{two-pow-succ, pow-succ', eq_of_mul-eq-mul_right, mul-mul-mul_comm, le-suc}
+use Rattle.std.proofs.Common.{◌≡◌, ℕ, zero, suc, ◌+◌, ◌-◌, ◌*◌, ◌/◌, ◌^◌, ◌<◌, ◌≤◌, Bool, true, false, not, T, leb, sym, refl, ap, ◌∙◌, subst, zero-le, le_trans, le_of_eq, le_refl, lt_of_lt_of_le, le_of_suc-le-suc, lt_of_le_of_lt, le_of_lt, mul-le-mul_right, zero-lt-suc, mul_assoc, suc-mul, mul_comm, add-mul, mul-le-mul, lt_of_mul-lt-mul_right, mul-le-mul_left, mul-lt-mul_of_pos_right, mul-pos, one-mul, lt_of_not-le, zero-mul, mul-add, mul_right_comm, not-le_of_lt, mul_left_comm, arith, lit≤, leb→le, pow_pos, pow_mono, pow-add}
+use native.Mathlib.Nat.{pow-succ', le-suc}
 use lib.Dec.{nleb→lt}
-use lib.Arith.{lt_of_le-ne, lt→nleb}
-use lib.Ieee.{Float, nan, inf, fin, Format, binary32, binary64, prec, emax, low, up, down, size, nearest, units, fits, hid, of_bits}
-use lib.Ieee.Digits.{back, size-lt, size_reaches}
-use lib.Ieee.Fits.{two, kept-lt}
-use lib.Ieee.Bits.{cond_no}
+use lib.Arith.{lt_of_le-ne}
+use lib.Ieee.{Float, nan, inf, fin, Format, binary32, binary64, prec, emax, low, up, down, size, units, fits, hid}
+use lib.Ieee.Digits.{back}
 use lib.Ieee.Exact.{HasValue, units_val}
 use lib.Ieee.Scale.{overflow, finite}
 use lib.Ieee.Positive.{num, den, den_pos, positive, positive-finite, own_value, value_pos, first_pos, positive_of_value, value→cross}
-use Rattle.floats.specs.Root.{root_from, root, nearer_root, round_root, sqrt}
-use Rattle.floats.specs.Steps.{Rooted, nearest_root}
+use Rattle.floats.specs.Root.{root, sqrt}
 use Rattle.floats.specs.NearestRoot.{NearestRoot}
 use Rattle.floats.proofs.Value.{fitting, unit}
-use Rattle.floats.proofs.Pattern.{size-drop, two-hid, units-fits, units-pattern}
-use Rattle.floats.proofs.Roots.{Cut, lt-of-squares, square-lt, middles, no_tie, sqrt-down, sqrt-up, squared-units, cut-exists, between}
+use Rattle.floats.proofs.Pattern.{two-hid, units-fits}
+use Rattle.floats.proofs.Roots.{Cut, lt-of-squares, square-lt, middles, no_tie, sqrt-down, sqrt-up, squared-units, cut-exists}
 
 -- ---- a value of the format in units, m * 2 ^ j of them, and its place among the multiples of 2 ^ k
 pub record InUnits (f : Format) (y : Float) : Type 0 where

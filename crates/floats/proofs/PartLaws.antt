@@ -1,18 +1,15 @@
 -- `floor` and `round` between zero and a power of two, worked out from the whole part that the machine gives: of the value, and of its double.
-use Rattle.std.proofs.Common.{◌≡◌, ℕ, zero, suc, ◌+◌, ◌-◌, ◌*◌, ◌/◌, ◌%◌, ◌^◌, ◌<◌, ◌≤◌, min, Bool, true, false, cond, not, T, ltb, ℤ, pos, negsuc, sym, refl, ap, ◌∙◌, subst, true≢false, le_trans, lt_of_lt_of_le, lt_of_le_of_lt, le_of_lt, lt_irrefl, mul-le-mul_right, mod-lt, mul_assoc, mul_comm, div-lt_iff_lt-mul, add-mul, mul-pos, one-mul, div-add-mod', zero-mul, mul-one, not-le_of_lt, div-one, mul_left_comm, arith, le→leb, ltb→lt, lt→ltb, nltb→le, pow_pos, pow_mono, pow-add}
-use Prim.Native.Nat.{compare}
+use Rattle.std.proofs.Common.{◌≡◌, ℕ, zero, suc, ◌+◌, ◌-◌, ◌*◌, ◌/◌, ◌%◌, ◌^◌, ◌<◌, ◌≤◌, min, true, false, T, ltb, ℤ, pos, sym, refl, ap, ◌∙◌, subst, lt_of_lt_of_le, le_of_lt, mul-le-mul_right, mod-lt, mul_assoc, mul_comm, div-lt_iff_lt-mul, add-mul, mul-pos, one-mul, div-add-mod', zero-mul, mul-one, mul_left_comm, arith, le→leb, ltb→lt, lt→ltb, nltb→le, pow_pos, pow_mono, pow-add}
 use native.Mathlib.Nat.{min-eq_left, add-mul-div_right, div-div-eq-div-mul}
 use lib.Arith.{digits_div}
-use lib.Ieee.{Float, nan, inf, fin, Format, prec, emax, low, hid, up, down, round, sum, neg, add, lt, fits, of_int, in_float, to_unsigned, below}
-use lib.Ieee.Bits.{is_true, is_false}
+use lib.Ieee.{Float, nan, inf, fin, Format, prec, emax, low, up, down, round, sum, neg, add, lt, fits, of_int, in_float, to_unsigned}
 use lib.Ieee.Fits.{down_pos}
 use lib.Ieee.Back.{round_whole}
 use lib.Ieee.Exact.{HasValue, round_exact}
 use lib.Ieee.Scale.{round_same}
 use Rattle.floats.specs.Whole.{floor, round_away, ceiling, half_up}
-use Rattle.floats.proofs.Value.{own_value, round-of-value, fitting, fine_of, unit, Fitting}
+use Rattle.floats.proofs.Value.{own_value, fitting, fine_of, unit}
 use Rattle.floats.proofs.Fractions.{lt-value, neg-round, add-value, unsigned-value}
-use Rattle.floats.proofs.Pattern.{two-hid}
 use Rattle.floats.proofs.WholeLaws.{one-pow, false-not}
 
 -- ---- between zero and 2 ^ k: the size as a fraction

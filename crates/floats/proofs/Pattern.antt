@@ -1,17 +1,17 @@
 -- The pattern of a rounded value: q * 2 ^ k of the format's smallest units is written k * hid + q, where the format keeps q whole;
 -- a carry into the next exponent and the step to infinity come out of the same sum (`units-pattern`).
 -- `round` once the number k of dropped digits is known (`round-known`), and of a whole number of 2 ^ j / 2 ^ l (`round-shift`).
-use Rattle.std.proofs.Common.{◌≡◌, ℕ, zero, suc, ◌+◌, ◌-◌, ◌*◌, ◌/◌, ◌%◌, ◌^◌, ◌<◌, ◌≤◌, Bool, true, false, cond, T, ltb, ◌⊎◌, sym, refl, ap, ◌∙◌, subst, inl, inr, le_trans, le_of_eq, le_refl, lt_of_lt_of_le, le_of_suc-le-suc, lt_of_le_of_lt, mul-le-mul_right, mul_assoc, mul_comm, div-lt_iff_lt-mul, le_antisymm, eq-or-lt_of_le, mul-lt-mul_of_pos_right, mul-pos, one-mul, lt_of_not-le, le-div_iff_mul-le, mul-one, not-le_of_lt, div-one, mul-div_cancel, mul_left_comm, arith, ltb→lt, lt→ltb, nltb→le, pow_pos, pow_mono, pow-add, shl_lt}
+use Rattle.std.proofs.Common.{◌≡◌, ℕ, suc, ◌+◌, ◌-◌, ◌*◌, ◌/◌, ◌%◌, ◌^◌, ◌<◌, ◌≤◌, Bool, true, false, cond, T, ltb, ◌⊎◌, sym, refl, ap, ◌∙◌, subst, inl, inr, le_of_eq, lt_of_le_of_lt, mul-le-mul_right, mul_assoc, mul_comm, div-lt_iff_lt-mul, le_antisymm, eq-or-lt_of_le, mul-lt-mul_of_pos_right, mul-pos, lt_of_not-le, le-div_iff_mul-le, mul-one, not-le_of_lt, div-one, mul_left_comm, arith, pow_pos, pow_mono, pow-add}
 use Prim.Native.Nat.{compare}
 use native.Mathlib.Nat.{mul-mod_left, pow-succ'}
 use lib.Arith.{le→nltb}
 use lib.Pow.{pow-lt, shl-shr}
-use lib.Ieee.{Float, inf, Format, binary32, binary64, prec, emax, low, size, nearest, odd, units, round, fits, to_bits, of_bits, hid, top}
+use lib.Ieee.{inf, Format, binary32, binary64, prec, low, size, nearest, odd, units, round, fits, to_bits, of_bits, hid, top}
 use lib.Ieee.Digits.{size-lt, size-le}
 use lib.Ieee.Bits.{of_bits-to_bits, cond_no}
-use lib.Ieee.Fits.{two, round_is, odd-fits, inf-fits, nearest-le}
-use lib.Ieee.Nearest.{closest, closest_mono, closest_same, nearest-ge}
-use lib.Ieee.Exact.{HasValue, units_val}
+use lib.Ieee.Fits.{round_is, odd-fits, inf-fits}
+use lib.Ieee.Nearest.{closest, closest_mono, closest_same}
+use lib.Ieee.Exact.{units_val}
 use lib.Ieee.Scale.{overflow}
 use Rattle.floats.proofs.Value.{bits_of, bits_of_value}
 

@@ -1,24 +1,22 @@
 -- Square roots, over the format: `root n` is the greatest number whose square is at most n (`root_is`, `root-unique`).
 -- For the code: `root-known`, what `round_root` is once the digits that the format keeps are known, and `rooted`, from bit pattern to bit pattern.
 -- There is never a tie (`no_tie`): the square of a middle is an odd number of more digits than the format keeps, times a power of two.
-use Rattle.std.proofs.Common.{◌≡◌, ℕ, zero, suc, ◌+◌, ◌-◌, ◌*◌, ◌/◌, ◌%◌, ◌^◌, ◌<◌, ◌≤◌, Bool, true, false, cond, not, T, leb, ◌⊎◌, sym, refl, ap, ◌∙◌, subst, inl, zero-le, le_trans, le_of_eq, le_refl, lt_of_lt_of_le, le_of_suc-le-suc, lt_of_le_of_lt, le_of_lt, mul-le-mul_right, zero-lt-suc, mul_assoc, lt-suc_self, suc-mul, mul_comm, div-lt_iff_lt-mul, add-mul, mul-le-mul, le_antisymm, lt_of_mul-lt-mul_right, mul-le-mul_left, mul-lt-mul_of_pos_right, mul-pos, one-mul, pow-suc, lt_of_not-le, le-div_iff_mul-le, zero-add, zero-mul, mul-one, mul-suc, mul-add, mul_right_comm, not-le_of_lt, le-mul_of_pos_right, div-mul-le_self, mul-div_cancel, mul_left_comm, le-add_left, add-one, arith, lit≤, le→leb, leb→le, pow_pos, pow_mono, pow-add}
+use Rattle.std.proofs.Common.{◌≡◌, ℕ, zero, suc, ◌+◌, ◌-◌, ◌*◌, ◌/◌, ◌%◌, ◌^◌, ◌<◌, ◌≤◌, Bool, true, false, cond, not, T, leb, ◌⊎◌, sym, refl, ap, ◌∙◌, subst, inl, zero-le, le_trans, le_of_eq, le_refl, lt_of_lt_of_le, le_of_suc-le-suc, lt_of_le_of_lt, le_of_lt, mul-le-mul_right, zero-lt-suc, mul_assoc, lt-suc_self, suc-mul, mul_comm, div-lt_iff_lt-mul, add-mul, mul-le-mul, le_antisymm, mul-le-mul_left, mul-lt-mul_of_pos_right, mul-pos, pow-suc, lt_of_not-le, le-div_iff_mul-le, zero-add, mul-one, mul-suc, mul-add, mul_right_comm, not-le_of_lt, le-mul_of_pos_right, div-mul-le_self, mul-div_cancel, mul_left_comm, le-add_left, add-one, arith, lit≤, le→leb, leb→le, pow_pos, pow_mono, pow-add}
 use Prim.Native.Nat.{compare, Ordering}
-use native.Mathlib.Nat.{two-pow-succ, pow-succ', eq_of_mul-eq-mul_right, mul-mul-mul_comm, le-suc}
+use native.Mathlib.Nat.{two-pow-succ, eq_of_mul-eq-mul_right, mul-mul-mul_comm, le-suc}
 use lib.Dec.{nleb→lt}
-use lib.Arith.{lt_of_le-ne, lt→nleb}
-use lib.Ieee.{Float, nan, inf, fin, Format, binary32, binary64, prec, emax, low, up, down, size, nearest, units, fits, hid, of_bits}
-use lib.Ieee.Digits.{back, size-lt, size_reaches}
+use lib.Arith.{lt→nleb}
+use lib.Ieee.{Float, nan, inf, fin, Format, binary32, prec, low, size, nearest, units, hid, of_bits}
+use lib.Ieee.Digits.{size-lt, size_reaches}
 use lib.Ieee.Fits.{two, kept-lt}
 use lib.Ieee.Bits.{cond_no}
 use lib.Ieee.Exact.{HasValue, units_val}
-use lib.Ieee.Scale.{overflow, finite}
-use lib.Ieee.Positive.{num, den, den_pos, positive, positive-finite, own_value, value_pos, first_pos, positive_of_value, value→cross}
+use lib.Ieee.Scale.{overflow}
+use lib.Ieee.Positive.{num, den, den_pos, positive, positive_of_value, value→cross}
 use Rattle.floats.specs.Root.{root_from, root, nearer_root, round_root, sqrt}
 use Rattle.floats.specs.Steps.{Rooted, nearest_root}
-use Rattle.floats.specs.NearestRoot.{NearestRoot}
 use Rattle.floats.proofs.Half.{compare-lt, compare-gt}
-use Rattle.floats.proofs.Value.{fitting, unit}
-use Rattle.floats.proofs.Pattern.{size-drop, two-hid, units-fits, units-pattern}
+use Rattle.floats.proofs.Pattern.{size-drop, two-hid, units-pattern}
 
 -- ---- squares
 pub lt-of-squares : (a b : ℕ) → a * a < b * b → a < b

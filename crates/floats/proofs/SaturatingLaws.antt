@@ -1,10 +1,10 @@
 -- A float as an integer, out of the range and inside it: what Rust's saturating `as` gives in each branch of a test against the ends.
-use Rattle.std.proofs.Common.{◌≡◌, ℕ, zero, suc, ◌+◌, ◌-◌, ◌*◌, ◌/◌, ◌^◌, ◌<◌, ◌≤◌, min, Bool, true, false, cond, not, ◌&&◌, ◌||◌, T, eqb, ltb, ℤ, pos, negsuc, neg_ℤ, sym, refl, ap, ◌∙◌, subst, true≢false, le_trans, lt_of_lt_of_le, le_of_lt, mul-le-mul_right, div-lt_iff_lt-mul, add_comm, mul-le-mul_left, mul-pos, one-mul, le-div_iff_mul-le, zero-mul, mul-one, not-le_of_lt, arith, ltb→lt, lt→ltb, nltb→le, pow_pos, pow_mono}
+use Rattle.std.proofs.Common.{◌≡◌, ℕ, ◌+◌, ◌-◌, ◌*◌, ◌/◌, ◌^◌, ◌<◌, ◌≤◌, min, Bool, true, false, ◌&&◌, ◌||◌, T, eqb, ltb, ℤ, pos, neg_ℤ, sym, refl, ap, ◌∙◌, subst, true≢false, le_trans, lt_of_lt_of_le, le_of_lt, mul-le-mul_right, div-lt_iff_lt-mul, add_comm, mul-le-mul_left, mul-pos, le-div_iff_mul-le, zero-mul, mul-one, arith, ltb→lt, lt→ltb, nltb→le, pow_pos, pow_mono}
 use native.Mathlib.Nat.{zero-div, min-eq_left, min-eq_right}
 use lib.Dec.{eqb_refl}
 use lib.Pow.{le_ones}
 use lib.Ieee.{Float, nan, inf, fin, up, down, lt, le, eq, neg, to_unsigned, to_signed}
-use lib.Ieee.Fits.{down_pos, up_pos}
+use lib.Ieee.Fits.{down_pos}
 use lib.Ieee.Bits.{is_true}
 use Rattle.floats.proofs.WholeLaws.{one-pow, false-not}
 

@@ -1,17 +1,14 @@
 -- What `floor` and `round` rest on: a value of at least 2 ^ (prec - 1) is whole, a whole value comes back as it is, and the sign goes through.
-use Rattle.std.proofs.Common.{◌≡◌, ℕ, zero, suc, ◌+◌, ◌-◌, ◌*◌, ◌/◌, ◌%◌, ◌^◌, ◌<◌, ◌≤◌, min, Bool, true, false, cond, not, T, ltb, ℤ, pos, negsuc, sym, refl, ap, ◌∙◌, subst, true≢false, le_trans, lt_of_lt_of_le, lt_of_le_of_lt, le_of_lt, lt_irrefl, mul-le-mul_right, mod-lt, mul_assoc, mul_comm, div-lt_iff_lt-mul, add-mul, mul-pos, one-mul, div-add-mod', zero-mul, mul-one, not-le_of_lt, div-one, mul_left_comm, arith, le→leb, ltb→lt, lt→ltb, nltb→le, pow_pos, pow_mono, pow-add}
+use Rattle.std.proofs.Common.{◌≡◌, ℕ, zero, suc, ◌+◌, ◌-◌, ◌*◌, ◌/◌, ◌^◌, ◌<◌, ◌≤◌, Bool, true, false, cond, not, T, ltb, ℤ, pos, negsuc, sym, refl, ap, ◌∙◌, subst, true≢false, le_trans, mul_assoc, mul-pos, one-mul, zero-mul, mul-one, not-le_of_lt, div-one, arith, ltb→lt, nltb→le, pow_pos}
 use Prim.Native.Nat.{compare}
 use native.Mathlib.Nat.{min-eq_left, add-mul-div_right, div-div-eq-div-mul}
 use lib.Arith.{digits_div}
 use lib.Ieee.{Float, nan, inf, fin, Format, prec, emax, low, hid, up, down, round, sum, neg, add, lt, fits, of_int, in_float, to_unsigned, below}
-use lib.Ieee.Bits.{is_true, is_false}
+use lib.Ieee.Bits.{is_false}
 use lib.Ieee.Fits.{down_pos}
-use lib.Ieee.Back.{round_whole}
-use lib.Ieee.Exact.{HasValue, round_exact}
-use lib.Ieee.Scale.{round_same}
 use Rattle.floats.specs.Whole.{floor, round_away, ceiling, half_up}
-use Rattle.floats.proofs.Value.{own_value, round-of-value, fitting, fine_of, unit, Fitting}
-use Rattle.floats.proofs.Fractions.{lt-value, neg-round, add-value, unsigned-value}
+use Rattle.floats.proofs.Value.{round-of-value, fitting}
+use Rattle.floats.proofs.Fractions.{neg-round}
 use Rattle.floats.proofs.Pattern.{two-hid}
 
 -- a function that leaves NaN, infinities and whole values as they are

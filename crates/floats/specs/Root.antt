@@ -1,6 +1,6 @@
 -- The square root of a float, rounded once: `sqrt f x` is the value of the format f nearest to the exact root, a tie to the even one.
 -- ±0 and +inf are their own roots; below zero there is none, and the answer is a NaN.
-use Rattle.std.specs.Prelude.{ℕ, zero, suc, ◌+◌, ◌-◌, ◌*◌, ◌/◌, ◌^◌, Bool, true, false, cond, nat_le}
+use Rattle.std.specs.Prelude.{ℕ, zero, suc, ◌+◌, ◌-◌, ◌*◌, ◌/◌, ◌^◌, false, cond, nat_le}
 use Prim.Native.Nat.{compare}
 use lib.Ieee.{Float, nan, inf, fin, Format, prec, low, up, down, size, nearest, units}
 

@@ -1,7 +1,7 @@
 -- The two ways to a whole number: `floor`, the greatest one that is not above x, and `round_away`, Rust's `round`,
 -- the nearest one, a tie away from zero. The sign of x stays, also where the whole number is 0. Infinities and NaN come back as they are.
 -- The magnitude of x is the fraction m * up e / down e.
-use Rattle.std.specs.Prelude.{ℕ, ◌+◌, ◌-◌, ◌*◌, ◌/◌, Bool, true, false, cond, ℤ, Float}
+use Rattle.std.specs.Prelude.{ℕ, ◌+◌, ◌-◌, ◌*◌, ◌/◌, cond, Float}
 use Rattle.std.specs.Float.{nan, inf, fin, Format}
 use Rattle.std.specs.Float.Ieee.{round, up, down}
 

@@ -6,8 +6,7 @@ use Prim.Native.Nat.{ℕ, ◌+◌, ◌-◌, ◌*◌, ◌≤◌, ◌<◌}
 use native.Mathlib.Omega.{arith}
 use lib.ListN.{length, get_or, drop, length-drop, drop_of_length-le}
 use Rattle.graymap.specs.declared.header.Found.{Found}
-use Rattle.graymap.specs.declared.header.Found.TheVariants as Found
-use Rattle.graymap.specs.Grammar.{is_space, is_digit, digits, Number, missing, number}
+use Rattle.graymap.specs.Grammar.{is_space, is_digit, digits, missing, number}
 use Rattle.graymap.specs.Steps.{cut, ended_of, found_of}
 use Rattle.graymap.proofs.CutLaws.{cut-cut, cut_digit}
 use Rattle.graymap.proofs.GapLaws.{at_place}

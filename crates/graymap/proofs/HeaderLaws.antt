@@ -7,9 +7,7 @@ use native.Mathlib.Omega.{arith}
 use lib.Dec.{eqb}
 use lib.ListN.{length, get_or, take, drop, length-drop, take-append-drop}
 use Rattle.graymap.specs.declared.header.Found.{Found}
-use Rattle.graymap.specs.declared.header.Found.TheVariants as Found
 use Rattle.graymap.specs.declared.header.Heading.{Heading}
-use Rattle.graymap.specs.declared.header.Heading.TheVariants as Heading
 use Rattle.graymap.specs.Grammar.{is_space, Number, missing, number, number_in, Magic, no_magic, magic, magic_in, Header, no_header, header, with_maximum, with_height, with_width, header_in}
 use Rattle.graymap.specs.Steps.{is_magic, has_magic, cut, found_of, heading_of, then_maximum, then_height}
 use Rattle.graymap.proofs.TailLaws.{EndsIn, ends_on, ends_at, NumberEnds, number-ends, HeaderEnds, header-ends}

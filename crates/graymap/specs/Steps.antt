@@ -2,9 +2,7 @@
 use Rattle.std.specs.Prelude.{◌≡◌, Bool, true, false, not, ◌&&◌, ◌||◌, cond, List, ℕ, ◌-◌, ◌≤◌, ltb, eqb, length, drop}
 use Rattle.shapes.specs.Turns.{turns}
 use Rattle.graymap.specs.declared.header.Found.{Found}
-use Rattle.graymap.specs.declared.header.Found.TheVariants as Found
 use Rattle.graymap.specs.declared.header.Heading.{Heading}
-use Rattle.graymap.specs.declared.header.Heading.TheVariants as Heading
 use Rattle.graymap.specs.Grammar.{is_space, ends_line, gap, Number, missing, number, number_in, Magic, no_magic, magic, magic_in, Header, no_header, header}
 
 -- ---- the magic

@@ -1,5 +1,5 @@
 -- The square patch about a pixel: when it lies in an image.
-use Rattle.std.specs.Prelude.{Bool, true, false, ◌&&◌, ℕ, ◌+◌, leb, ltb, ℤ, pos, negsuc}
+use Rattle.std.specs.Prelude.{Bool, false, ◌&&◌, ℕ, ◌+◌, leb, ltb, ℤ, pos, negsuc}
 use Rattle.imageview.specs.Image.{Image}
 
 -- a centre with radius pixels on both sides along an axis of n

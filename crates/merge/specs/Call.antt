@@ -13,7 +13,6 @@ use Rattle.refusals.specs.Numbers as Refusals
 use Rattle.merge.specs.declared.Merge.{Merge}
 use Rattle.merge.specs.declared.Merge.TheVariants.{Merged, Refused}
 use Rattle.merge.specs.declared.Heads.{Heads}
-use Rattle.merge.specs.declared.Heads.TheVariants as Heads
 use Rattle.merge.specs.declared.Heads.TheVariants.{Wanted}
 use Rattle.merge.specs.Meets.{box_of, finite_box, grid_of, cells_across, cells_down, plain_meets, grid_meets}
 use Rattle.merge.specs.Fold.{merged}

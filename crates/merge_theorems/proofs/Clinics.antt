@@ -5,12 +5,12 @@ use mathlib.Core.List.{List}
 use Prim.Native.Nat.{ℕ, ◌*◌, ◌/◌, ◌<◌}
 use lib.Dec.{eqb, ltb}
 use lib.ListN.{length}
-use lib.Ieee.{Float, binary32, mul, lt}
-use Rattle.corners.specs.Corners.{whole, too_many, corners_of, corner_at}
+use lib.Ieee.{Float}
+use Rattle.corners.specs.Corners.{whole, too_many, corners_of}
 use Rattle.corners.specs.declared.Corner.{Corner}
 use Rattle.merge.specs.declared.Merge.TheVariants.{Merged}
 use Rattle.refusals.specs.declared.Refusal.TheVariants.{BadLength, TooMany, BadScratch, GridTooBig}
-use Rattle.merge.specs.Meets.{box_of, finite_box, grid_of, cells_across, cells_down, plain_meets, grid_meets}
+use Rattle.merge.specs.Meets.{box_of, finite_box, grid_of, cells_across, cells_down}
 use Rattle.merge.specs.Fold.{merged}
 use Rattle.merge.specs.Call.{Way, refused, unmerged, scanned, gridded, idle, merging_way, way_of, answer_of, packed, list_after}
 use Rattle.merge.specs.Claims.{Source, Guarded}

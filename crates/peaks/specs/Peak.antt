@@ -1,7 +1,7 @@
 -- The rule by which a pixel of a response is a peak: it is inside the border, its value exceeds max(threshold, 0), it beats every other value of its
 -- square window, and enough of those are positive. A value beats an earlier one in row order where it is greater, a later one where it is at least equal: so of
 -- equal values the first can be a peak. A NaN on either side is neither.
-use Rattle.std.specs.Prelude.{Bool, true, ◌&&◌, ◌||◌, not, cond, List, ℕ, zero, suc, ◌+◌, ◌-◌, ◌*◌, ◌/◌, ◌%◌, leb, ltb, eqb, Float}
+use Rattle.std.specs.Prelude.{Bool, ◌&&◌, ◌||◌, not, cond, List, ℕ, zero, suc, ◌+◌, ◌-◌, ◌*◌, ◌/◌, ◌%◌, leb, ltb, eqb, Float}
 use Rattle.std.specs.Float.Ieee.{lt, le}
 use Rattle.shapes.specs.Numbers.{plus_zero, entry}
 use Rattle.shapes.specs.Tests.{every}

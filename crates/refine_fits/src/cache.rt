@@ -4,13 +4,43 @@ ghost use Rattle.imageview.specs.Image.{image_of};
 ghost use Rattle.refine_fits.specs.StepsAdding.{PatchWithin, FourWithin};
 ghost use Rattle.refine_fits.specs.StepsCache.{Kept, Slot, fit_in, named, slotted, Counted, Found, Surrounds};
 
-use super::{Around, IntegerFits, Looked};
+use super::{IntegerFits, Looked};
 use crate::fits;
 use imageview::Sizes;
 use refine_formulas::Corners;
 
 impl IntegerFits {
-    // The coefficients of the fit about (x, y), kept or worked out.
+    // The coefficients of the fit about (x, y), kept or worked out. The cache is written where it lies: by value each copy of it stands in the stack.
+    pub fn find(
+        &mut self,
+        bytes: &[u8],
+        words: &[u16],
+        sizes: Sizes,
+        x: usize,
+        y: usize,
+        radius: usize,
+        columns: &[f32; 1125],
+    ) -> [f32; 5]
+        requires within { PatchWithin (image_of bytes.now words.now sizes) radius x y }
+        requires kept { Kept (image_of bytes.now words.now sizes) columns.now radius self.old }
+        ensures { Found (image_of bytes.now words.now sizes) columns.now radius x y (record { fits = self.new; coefs = result }) }
+    {
+        let centre_x = x as u16;
+        let centre_y = y as u16;
+        let len = self.len;
+        let slot = slot_of(&self.centres, len, centre_x, centre_y);
+        if slot < 9 {
+            return fit_in(&self.coefs, slot);
+        }
+        let coefs = fits::fit_patch(bytes, words, sizes, x, y, radius, columns);
+        let oldest = len % 9;
+        name_slot(&mut self.centres, oldest, centre_x, centre_y);
+        fill_slot(&mut self.coefs, oldest, coefs);
+        self.len = one_more(len);
+        coefs
+    }
+
+    // The same by value: the coefficients, and the cache with them in it.
     pub fn at(
         mut self,
         bytes: &[u8],
@@ -25,27 +55,13 @@ impl IntegerFits {
         requires fact_2 { Kept (image_of bytes.now words.now sizes) columns.now radius self }
         ensures { Found (image_of bytes.now words.now sizes) columns.now radius x y result }
     {
-        let centre_x = x as u16;
-        let centre_y = y as u16;
-        let len = self.len;
-        let slot = slot_of(&self.centres, len, centre_x, centre_y);
-        if slot < 9 {
-            return Looked {
-                coefs: fit_in(&self.coefs, slot),
-                fits: self,
-            };
-        }
-        let coefs = fits::fit_patch(bytes, words, sizes, x, y, radius, columns);
-        let oldest = len % 9;
-        name_slot(&mut self.centres, oldest, centre_x, centre_y);
-        fill_slot(&mut self.coefs, oldest, coefs);
-        self.len = one_more(len);
+        let coefs = self.find(bytes, words, sizes, x, y, radius, columns);
         Looked { coefs, fits: self }
     }
 
-    // The four fits about (x, y), one after the other. Two calls of `at` stand here, so that its copies lie in a frame of their own and not in that of the steps.
+    // The four fits about (x, y), one after the other.
     pub fn look(
-        self,
+        &mut self,
         bytes: &[u8],
         words: &[u16],
         sizes: Sizes,
@@ -53,37 +69,25 @@ impl IntegerFits {
         y: usize,
         radius: usize,
         columns: &[f32; 1125],
-    ) -> Around
+    ) -> Corners
         requires fact_1 { FourWithin (image_of bytes.now words.now sizes) radius x y }
-        requires fact_2 { Kept (image_of bytes.now words.now sizes) columns.now radius self }
-        ensures { Surrounds (image_of bytes.now words.now sizes) columns.now radius x y result }
+        requires fact_2 { Kept (image_of bytes.now words.now sizes) columns.now radius self.old }
+        ensures { Surrounds (image_of bytes.now words.now sizes) columns.now radius x y (record { fits = self.new; corners = result }) }
     {
         let mut c00 = [0.0f32; 5];
         let mut c10 = [0.0f32; 5];
         let mut c01 = [0.0f32; 5];
-        // the cache stays in what a look-up hands back: a local of its own would be one copy more in the stack
-        let mut found = Looked {
-            fits: self,
-            coefs: [0.0f32; 5],
-        };
+        let mut c11 = [0.0f32; 5];
         let mut k: usize = 0;
         while k < 4 {
             // a row of two at a time; the row before moves up, so that the first is c00
             c00 = c01;
-            c10 = found.coefs;
-            found = found
-                .fits
-                .at(bytes, words, sizes, x, y + k / 2, radius, columns);
-            c01 = found.coefs;
-            found = found
-                .fits
-                .at(bytes, words, sizes, x + 1, y + k / 2, radius, columns);
+            c10 = c11;
+            c01 = self.find(bytes, words, sizes, x, y + k / 2, radius, columns);
+            c11 = self.find(bytes, words, sizes, x + 1, y + k / 2, radius, columns);
             k += 2;
         }
-        let c11 = found.coefs;
-        let corners = Corners { c00, c10, c01, c11 };
-        let fits = found.fits;
-        Around { fits, corners }
+        Corners { c00, c10, c01, c11 }
     }
 }
 

@@ -136,7 +136,7 @@ impl Bases {
 impl IntegerFits {
     // Lays the four fits about the base of a window, a further one, last, each kept or worked out.
     pub fn lay(
-        self,
+        &mut self,
         bytes: &[u8],
         words: &[u16],
         sizes: Sizes,
@@ -144,17 +144,14 @@ impl IntegerFits {
         radius: usize,
         columns: &[f32; 1125],
         flat: &mut [f32; 40],
-    ) -> IntegerFits
+    )
         requires fact_1 { FourWithin (image_of bytes.now words.now sizes) radius w.base_x w.base_y }
-        requires fact_2 { Kept (image_of bytes.now words.now sizes) columns.now radius self }
+        requires fact_2 { Kept (image_of bytes.now words.now sizes) columns.now radius self.old }
         requires fact_3 { length flat.old ≡ 40 }
-        ensures { Relays (image_of bytes.now words.now sizes) columns.now radius w.base_x w.base_y flat.old flat.new result }
+        ensures { Relays (image_of bytes.now words.now sizes) columns.now radius w.base_x w.base_y flat.old flat.new self.new }
     {
-        let around = self.look(bytes, words, sizes, w.base_x, w.base_y, radius, columns);
-        let corners = around.corners;
-        let next = around.fits;
+        let corners = self.look(bytes, words, sizes, w.base_x, w.base_y, radius, columns);
         refine_patch::lay_four(flat, 20, side_by_side(corners));
-        next
     }
 }
 

@@ -11,22 +11,21 @@ pub mod tries;
 
 // Fits that were worked out, by their centre pixel, the oldest overwritten first.
 // The slots in use are the first `len`, or all nine; the next to be written is `len % 9`.
-#[derive(Drop)]
+#[derive(Clone, Copy)]
 pub struct IntegerFits {
     pub centres: [u16; 18],
     pub coefs: [f32; 45],
     pub len: usize,
 }
 
-// What a look-up hands back: the coefficients, and the cache with them in it. The cache is the first field, here and below:
-// at the front of the struct its copies are seen to be copies, and most of them go.
+// What a look-up hands back: the coefficients, and the cache with them in it.
 #[derive(Drop)]
 pub struct Looked {
     pub fits: IntegerFits,
     pub coefs: [f32; 5],
 }
 
-// The four fits about a base, and the cache with them in it.
+// The four fits about a base, and the cache with them in it: what `look` promises is said of both together.
 #[derive(Drop)]
 pub struct Around {
     pub fits: IntegerFits,

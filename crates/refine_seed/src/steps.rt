@@ -143,7 +143,7 @@ pub fn run(
         );
         bases = r.bases;
         if r.further {
-            fits = fits.lay(bytes, words, sizes, w, cfg.radius, columns, &mut flat);
+            fits.lay(bytes, words, sizes, w, cfg.radius, columns, &mut flat);
         }
         let corners = laid::corners_at(&flat, r.to);
         let c = tries::candidate(cfg, seed, fit, nx, ny, r.room, corners, w.tx, w.ty);

@@ -1,5 +1,5 @@
 -- The public call: the tests of docs/RULES.md in their order, the answer, and what it leaves in the lent buffer. No refusal writes.
-use Rattle.std.specs.Prelude.{◌≡◌, Bool, not, ◌&&◌, ◌||◌, cond, List, ℕ, ◌*◌, leb, eqb, ℤ, length, Float}
+use Rattle.std.specs.Prelude.{◌≡◌, not, ◌&&◌, cond, List, ℕ, ◌*◌, leb, eqb, ℤ, length, Float}
 use Rattle.imageview.specs.Image.{Image, is_image, in_range}
 use Rattle.refusals.specs.declared.Refusal.{Refusal}
 use Rattle.refusals.specs.declared.Refusal.TheVariants.{BadImage, BadSample, BadRadius, BadRing, EmptyRoi, BadOut}

@@ -1,7 +1,6 @@
 -- Closed cases: a size of any count of digits, words that are none, and a line of each kind.
 use mathlib.Core.Path.{◌≡◌, refl}
-use mathlib.Core.List.{List, [], ◌∷◌}
-use Prim.Native.Nat.{ℕ}
+use mathlib.Core.List.{[], ◌∷◌}
 use Rattle.salvage_text.specs.declared.Size.TheVariants.{Pixels, Missing}
 use Rattle.salvage_text.specs.Sizes.{are_digits, value_from, size_of}
 use Rattle.salvage_text.specs.Lines.{decimal_from, fault_line, last_line, refused_line}

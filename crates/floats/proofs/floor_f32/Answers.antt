@@ -1,6 +1,6 @@
 -- `floats::floor_f32` meets its contract: each branch is one law, for a small value of either sign, a large one, and the rest.
 use Rattle.std.proofs.Common.{T, sym, ap, ◌∙◌, subst}
-use lib.Ieee.{Float, binary32, of_bits, neg}
+use lib.Ieee.{Float, binary32, of_bits}
 use Rattle.floats.specs.Whole.{floor}
 use Rattle.floats.proofs.WholeLaws.{floor-keeps, large, large-below, neither, flipped, neg-neg}
 use Rattle.floats.proofs.floor_f32.Goals as goal

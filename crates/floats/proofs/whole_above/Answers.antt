@@ -1,5 +1,5 @@
 -- `floats::whole_above` meets its contract: one more than the whole part where there is a fraction, and the whole part where there is none.
-use Rattle.std.proofs.Common.{ℕ, ◌+◌, true, false, pos, sym, ap, ◌∙◌, arith, lit≤}
+use Rattle.std.proofs.Common.{ℕ, ◌+◌, pos, sym, ap, ◌∙◌, arith, lit≤}
 use lib.Ieee.{binary32, lt, neg, of_int}
 use lib.Ieee.Bits.{is_true}
 use Rattle.floats.proofs.PartLaws.{between, small, above_of, exact-of, in-float}

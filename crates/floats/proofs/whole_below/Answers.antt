@@ -1,5 +1,5 @@
 -- `floats::whole_below` meets its contract: the whole part is the floor above zero.
-use Rattle.std.proofs.Common.{ℕ, true, pos, ap, ◌∙◌, arith, lit≤}
+use Rattle.std.proofs.Common.{ℕ, pos, ap, ◌∙◌, arith, lit≤}
 use lib.Ieee.{binary32, of_int}
 use Rattle.floats.proofs.PartLaws.{between, small, floor-of, in-float}
 use Rattle.floats.proofs.SaturatingLaws.{above_minus_one, under-larger}

@@ -2,7 +2,7 @@
 use mathlib.Core.Path.{sym, ap, ◌∙◌}
 use mathlib.Core.Bool.{Bool, ◌&&◌}
 use mathlib.Core.List.{List}
-use Prim.Native.Nat.{ℕ, ◌+◌, ◌-◌, ◌*◌, ◌≤◌}
+use Prim.Native.Nat.{ℕ, ◌+◌, ◌*◌, ◌≤◌}
 use native.Mathlib.Omega.{arith}
 use lib.Dec.{leb}
 use lib.ListN.{length, get_or}
@@ -10,7 +10,7 @@ use borrow.Author.Rules.{rules}
 use Rattle.shapes.specs.Tests.{every}
 use Rattle.shapes.proofs.TestLaws.{every-none, every_more}
 use Rattle.imageview.specs.Image.{most_sample}
-use Rattle.imageview.specs.Steps.{row_low, rows_low}
+use Rattle.imageview.specs.Steps.{rows_low}
 use Rattle.imageview.proofs.ImageLaws.{part_low}
 use Rattle.imageview.proofs.rows_low.Goals as goal
 

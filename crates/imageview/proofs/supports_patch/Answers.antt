@@ -1,6 +1,6 @@
 -- `imageview::supports_patch` meets its contract: both axes, the first test first.
 use mathlib.Core.Path.{sym, ap, ◌∙◌}
-use mathlib.Core.Bool.{Bool, true, false, ◌&&◌}
+use mathlib.Core.Bool.{Bool, ◌&&◌}
 use Rattle.imageview.specs.Patch.{inside}
 use Rattle.imageview.proofs.PatchLaws.{read_back}
 use Rattle.imageview.proofs.supports_patch.Goals as goal

@@ -1,6 +1,5 @@
 -- `pixel_response::chess_response_at_u8` meets its contract. After k turns each sum has the first k quarters.
 use mathlib.Core.Path.{◌∙◌}
-use Prim.Native.Nat.{◌-◌, ◌≤◌}
 use lib.Dec.{lit<, lit≤}
 use Rattle.pixel_response.specs.Steps.{listed}
 use Rattle.pixel_response.proofs.PixelLaws.{none, more, all}

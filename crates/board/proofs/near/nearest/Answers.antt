@@ -1,5 +1,4 @@
 -- `board::near::nearest` meets its contract: block by block, and the rest one by one.
-use Prim.Native.Nat.{◌-◌}
 use native.Mathlib.Omega.{arith}
 use lib.Ieee.{of_bits, div}
 use Rattle.board.proofs.NearestLaws.{nearest-none}

@@ -1,6 +1,6 @@
 -- `board::near::nearest_from` meets its contract: each turn is one corner more.
 use mathlib.Core.Path.{sym, ap, ◌∙◌}
-use Prim.Native.Nat.{ℕ, ◌-◌}
+use Prim.Native.Nat.{ℕ}
 use native.Mathlib.Omega.{arith}
 use lib.Ieee.{Float}
 use Rattle.shapes.proofs.TurnLaws.{ended}

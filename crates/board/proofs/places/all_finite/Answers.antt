@@ -1,7 +1,7 @@
 -- `board::places::all_finite` meets its contract: all numbers passed are finite.
 use mathlib.Core.Path.{sym, ap, ◌∙◌}
-use mathlib.Core.Bool.{Bool, true}
-use Prim.Native.Nat.{ℕ, ◌-◌}
+use mathlib.Core.Bool.{Bool}
+use Prim.Native.Nat.{ℕ}
 use native.Mathlib.Omega.{arith}
 use lib.Ieee.Scale.{finite}
 use borrow.Author.Tests.{not-true, not-false}

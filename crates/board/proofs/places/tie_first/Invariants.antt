@@ -3,7 +3,6 @@ use mathlib.Core.Path.{◌≡◌}
 use mathlib.Core.List.{[]}
 use Prim.Native.Nat.{◌-◌, ◌≤◌}
 use lib.ListN.{length, take}
-use lib.Ieee.{le}
 use Rattle.board.specs.Call.{tie_from}
 use Rattle.board.proofs.places.tie_first.Given as goal
 

@@ -1,6 +1,6 @@
 -- `board::places::write` meets its contract: the first i answers are the known corners.
 use mathlib.Core.Path.{refl, ap, ◌∙◌}
-use Prim.Native.Nat.{ℕ, ◌-◌}
+use Prim.Native.Nat.{ℕ}
 use native.Mathlib.Omega.{arith}
 use lib.ListN.{length, get_or, length-set}
 use Rattle.shapes.specs.Lists.{overwritten}

@@ -1,7 +1,7 @@
 -- `coverage::counts::count_corners` meets its contract: the counts are the summary so far.
 use mathlib.Core.Path.{◌≡◌, sym, ap, ◌∙◌}
 use mathlib.Core.List.{List}
-use Prim.Native.Nat.{ℕ, ◌-◌}
+use Prim.Native.Nat.{ℕ}
 use native.Mathlib.Omega.{arith}
 use lib.ListN.{length}
 use Rattle.shapes.proofs.TurnLaws.{ended}

@@ -4,7 +4,7 @@ use native.Mathlib.Omega.{arith}
 use Rattle.shapes.proofs.TurnLaws.{ended}
 use borrow.Author.Rules.{rules}
 use mathlib.Core.Path.{ap, ◌∙◌}
-use Prim.Native.Nat.{ℕ, ◌-◌}
+use Prim.Native.Nat.{ℕ}
 use Rattle.shapes.specs.Turns.{turns}
 use Rattle.pixel_response.specs.Steps.{listed}
 use Rattle.gradient.specs.Steps.{ring_step}

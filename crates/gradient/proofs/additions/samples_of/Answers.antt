@@ -3,8 +3,7 @@ use native.Mathlib.Omega.{arith}
 use Rattle.gradient.proofs.AdditionLaws.{more-written}
 use borrow.Author.Rules.{rules}
 use mathlib.Core.Path.{◌∙◌}
-use Prim.Native.Nat.{◌-◌}
-use lib.ListN.{length, get_or, length-set}
+use lib.ListN.{get_or, length-set}
 use Rattle.gradient.proofs.additions.samples_of.Goals as goal
 
 pub bounds-tile-cell : goal.bounds-tile-cell

@@ -4,7 +4,7 @@ use Rattle.shapes.proofs.TurnLaws.{ended}
 use Rattle.pixel_response.proofs.PixelLaws.{total-more}
 use borrow.Author.Rules.{rules}
 use mathlib.Core.Path.{ap, ◌∙◌}
-use Prim.Native.Nat.{ℕ, ◌+◌, ◌-◌}
+use Prim.Native.Nat.{ℕ, ◌+◌}
 use lib.ListN.{get_or}
 use Rattle.pixel_response.specs.Samples.{total}
 use Rattle.pixel_response.specs.Steps.{listed}

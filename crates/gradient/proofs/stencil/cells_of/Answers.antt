@@ -1,10 +1,10 @@
 -- `gradient::stencil::cells_of` meets its contract. The invariant: the first k places lie on the tile, and their cells are written.
 use borrow.Author.Rules.{rules}
 use mathlib.Core.Path.{◌∙◌}
-use Prim.Native.Nat.{◌+◌, ◌-◌, ◌*◌, ◌<◌}
+use Prim.Native.Nat.{◌+◌, ◌*◌, ◌<◌}
 use native.Mathlib.Omega.{arith}
 use lib.Dec.{leb}
-use lib.ListN.{length, length-set}
+use lib.ListN.{length-set}
 use borrow.Author.Tests.{leb-false}
 use Rattle.shapes.proofs.TestLaws.{first-not, second-not}
 use Rattle.shapes.proofs.TurnLaws.{ended}

@@ -1,7 +1,7 @@
 -- `graymap::header::past_gap` meets its contract: the gap from here on is the gap from the start.
 use mathlib.Core.Path.{refl, sym, ap, ◌∙◌}
-use mathlib.Core.Bool.{Bool, false}
-use Prim.Native.Nat.{◌+◌, ◌-◌}
+use mathlib.Core.Bool.{Bool}
+use Prim.Native.Nat.{◌+◌}
 use native.Mathlib.Omega.{arith}
 use lib.ListN.{drop}
 use Rattle.graymap.specs.Grammar.{gap}

@@ -1,5 +1,5 @@
 -- `graymap::header::past_gap` meets its contract: the gap from here on is the gap from the start.
-use mathlib.Core.Path.{◌≡◌, ap}
+use mathlib.Core.Path.{◌≡◌}
 use mathlib.Core.Bool.{false}
 use Prim.Native.Nat.{◌-◌, ◌≤◌}
 use lib.ListN.{length, drop}

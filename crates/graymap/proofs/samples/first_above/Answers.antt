@@ -1,6 +1,5 @@
 -- `graymap::samples::first_above` meets its contract: no sample of the blocks passed is above the maximum.
 use mathlib.Core.Path.{sym}
-use Prim.Native.Nat.{◌-◌}
 use native.Mathlib.Omega.{arith}
 use lib.ListN.{get_or}
 use Rattle.graymap.proofs.SampleLaws.{above-none, above-all, above-block}

@@ -1,7 +1,7 @@
 -- `graymap::samples::first_above_deep` meets its contract: none of the samples passed is above the maximum.
 use mathlib.Core.Path.{sym, ap, ◌∙◌, subst}
 use mathlib.Core.Bool.{true}
-use Prim.Native.Nat.{ℕ, ◌-◌, ◌≤◌, ◌<◌}
+use Prim.Native.Nat.{ℕ, ◌≤◌, ◌<◌}
 use native.Mathlib.Omega.{arith}
 use Rattle.shapes.proofs.TurnLaws.{ended}
 use Rattle.graymap.specs.Call.{first_above, sample_in}

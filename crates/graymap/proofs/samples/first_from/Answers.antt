@@ -1,6 +1,5 @@
 -- `graymap::samples::first_from` meets its contract: none of the samples passed is above the maximum.
 use mathlib.Core.Path.{sym, ap, ◌∙◌}
-use Prim.Native.Nat.{◌-◌}
 use native.Mathlib.Omega.{arith}
 use lib.ListN.{get_or}
 use Rattle.shapes.proofs.TurnLaws.{ended}

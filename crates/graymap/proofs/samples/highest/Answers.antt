@@ -1,6 +1,6 @@
 -- `graymap::samples::highest` meets its contract: the highest so far.
 use mathlib.Core.Path.{sym, ap, ◌∙◌}
-use Prim.Native.Nat.{ℕ, ◌+◌, ◌-◌}
+use Prim.Native.Nat.{ℕ, ◌+◌}
 use native.Mathlib.Omega.{arith}
 use lib.ListN.{get_or}
 use Rattle.shapes.proofs.TurnLaws.{ended}

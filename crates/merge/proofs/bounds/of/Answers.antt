@@ -1,6 +1,5 @@
 -- `merge::bounds::of` meets its contract: the box so far, stretched by the corners that are left, is the box of all.
 use mathlib.Core.Path.{refl, sym, ◌∙◌}
-use Prim.Native.Nat.{◌-◌}
 use lib.Ieee.{nan, of_bits, neg, div}
 use Rattle.merge.specs.Meets.{box_from, box_of}
 use Rattle.merge.specs.Steps.{as_box}

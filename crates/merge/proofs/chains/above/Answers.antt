@@ -2,7 +2,6 @@
 use mathlib.Core.Path.{refl}
 use Prim.Native.Nat.{◌-◌}
 use lib.ListN.{length}
-use Rattle.merge.specs.Steps.{top}
 use Rattle.merge.proofs.ChainLaws.{top-hit, top-le, link_on}
 use native.Mathlib.Omega.{arith}
 use native.Mathlib.Omega.{arith}

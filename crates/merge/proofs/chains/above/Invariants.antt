@@ -1,7 +1,7 @@
 -- `merge::chains::above` meets its contract: each number on the way stands in the chain, and the last has no link above j.
 use mathlib.Core.Path.{◌≡◌}
 use mathlib.Core.List.{List}
-use Prim.Native.Nat.{ℕ, ◌-◌, ◌<◌}
+use Prim.Native.Nat.{ℕ, ◌<◌}
 use lib.ListN.{length, get_or}
 use Rattle.merge.specs.Steps.{Nexts, top}
 use Rattle.merge.proofs.chains.above.Given as goal

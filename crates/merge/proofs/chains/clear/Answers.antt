@@ -1,6 +1,6 @@
 -- `merge::chains::clear` meets its contract: filled from `i` on, the list is all zero.
 use mathlib.Core.Path.{refl, sym, ap, ◌∙◌}
-use Prim.Native.Nat.{ℕ, ◌-◌}
+use Prim.Native.Nat.{ℕ}
 use native.Mathlib.Nat.{sub-zero}
 use lib.ListN.{length, replicate, length-set}
 use Rattle.merge.proofs.FillLaws.{fill-turn, fill_end}

@@ -3,7 +3,7 @@ use mathlib.Core.Path.{ap, ◌∙◌}
 use Prim.Native.Nat.{ℕ, ◌-◌, ◌≤◌}
 use native.Mathlib.Nat.{le_refl}
 use lib.ListN.{length, get_or}
-use Rattle.merge.specs.Steps.{lowest_below, top, in_cell, within}
+use Rattle.merge.specs.Steps.{lowest_below, in_cell, within}
 use Rattle.merge.proofs.ChainLaws.{top-le, walk_start, walk_turn, walk_end}
 use native.Mathlib.Omega.{arith}
 use native.Mathlib.Omega.{arith}

@@ -1,7 +1,7 @@
 -- `merge::chains::walk` meets its contract: the chain from `p` on finds what the whole chain would.
 use mathlib.Core.Path.{◌≡◌}
 use mathlib.Core.List.{List}
-use Prim.Native.Nat.{ℕ, ◌-◌, ◌≤◌, ◌<◌}
+use Prim.Native.Nat.{ℕ, ◌≤◌, ◌<◌}
 use lib.ListN.{length}
 use Rattle.merge.specs.Steps.{Nexts, lowest_below, top, in_cell, within}
 use Rattle.merge.proofs.chains.walk.Given as goal

@@ -1,7 +1,5 @@
 -- `merge::grid::pass` meets its contract: the corners that are left, merged into the kept ones, give what all of them give, and the chains are those of the kept ones.
 use mathlib.Core.Path.{refl, ◌∙◌}
-use Prim.Native.Nat.{◌-◌}
-use lib.ListN.{length}
 use native.Mathlib.Nat.{le_refl}
 use Rattle.corners.proofs.CornerLaws.{length-corners}
 use Rattle.corners.specs.Corners.{corners_of}

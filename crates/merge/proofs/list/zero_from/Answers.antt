@@ -1,8 +1,7 @@
 -- `merge::list::zero_from` meets its contract: filled from `i` on, the list is what it is to be.
 use mathlib.Core.Path.{refl, sym, ◌∙◌}
-use Prim.Native.Nat.{◌-◌}
 use lib.Ieee.{of_bits}
-use lib.ListN.{length, length-set}
+use lib.ListN.{length-set}
 use Rattle.shapes.specs.Numbers.{plus_zero}
 use Rattle.merge.proofs.FillLaws.{fill-turn, fill_end}
 use native.Mathlib.Omega.{arith}

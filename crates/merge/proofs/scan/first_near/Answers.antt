@@ -1,7 +1,6 @@
 -- `merge::scan::first_near` meets its contract: none of the corners passed lies in the disc.
 use mathlib.Core.Path.{◌≡◌, sym, ◌∙◌}
 use mathlib.Core.Bool.{false}
-use Prim.Native.Nat.{◌-◌}
 use borrow.Author.Count.{below_none, below_more}
 use Rattle.merge.specs.Steps.{within}
 use Rattle.merge.proofs.LowestLaws.{first_found, none_found}

@@ -1,6 +1,6 @@
 -- `merge::seek::walk_noted` meets its contract: after i turns the first i noted cells are walked.
 use mathlib.Core.Path.{◌≡◌, ap, ◌∙◌}
-use Prim.Native.Nat.{ℕ, ◌-◌}
+use Prim.Native.Nat.{ℕ}
 use native.Mathlib.Nat.{lt_of_lt_of_le}
 use lib.ListN.{get_or}
 use Rattle.merge.specs.Steps.{lowest_noted}

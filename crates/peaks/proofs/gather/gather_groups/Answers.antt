@@ -1,6 +1,6 @@
 -- `peaks::gather::gather_groups` meets its contract: the pixels that stand out of the groups passed are listed.
 use mathlib.Core.Path.{sym, ap}
-use Prim.Native.Nat.{ℕ, ◌+◌, ◌-◌, ◌*◌}
+use Prim.Native.Nat.{ℕ, ◌+◌, ◌*◌}
 use native.Mathlib.Omega.{arith}
 use lib.ListN.{take, get_or}
 use Rattle.peaks.specs.Steps.{stands_out, gathered}

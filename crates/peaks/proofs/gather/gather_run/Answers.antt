@@ -1,6 +1,6 @@
 -- `peaks::gather::gather_run` meets its contract: of the pixels passed, those that stand out are listed.
 use mathlib.Core.Path.{sym, ap}
-use Prim.Native.Nat.{ℕ, ◌+◌, ◌-◌}
+use Prim.Native.Nat.{ℕ, ◌+◌}
 use native.Mathlib.Omega.{arith}
 use Rattle.peaks.specs.Steps.{between, stands_out}
 use Rattle.shapes.proofs.TurnLaws.{ended}

@@ -1,6 +1,6 @@
 -- `peaks::gather::list_groups` meets its contract: of the groups passed, those with a value above the floor are listed.
 use mathlib.Core.Path.{sym, ap}
-use Prim.Native.Nat.{ℕ, ◌-◌}
+use Prim.Native.Nat.{ℕ}
 use native.Mathlib.Omega.{arith}
 use Rattle.peaks.specs.Call.{chosen}
 use Rattle.peaks.specs.Steps.{any_above}

@@ -1,6 +1,6 @@
 -- `peaks::gather::narrow` meets its contract: of the pixels passed, those that beat the six are kept, and those to come are as they were.
 use mathlib.Core.Path.{refl, ap}
-use Prim.Native.Nat.{ℕ, ◌-◌}
+use Prim.Native.Nat.{ℕ}
 use native.Mathlib.Omega.{arith}
 use lib.ListN.{get_or, take, drop}
 use Rattle.peaks.specs.Steps.{picked, beats_six}

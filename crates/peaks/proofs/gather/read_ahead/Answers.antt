@@ -1,5 +1,4 @@
 -- `peaks::gather::read_ahead` meets its contract: no more are counted than are passed.
-use Prim.Native.Nat.{◌-◌}
 use native.Mathlib.Omega.{arith}
 use Rattle.peaks.proofs.gather.read_ahead.Goals as goal
 

@@ -1,7 +1,7 @@
 -- `peaks::scan::keep` meets its contract: of the pixels passed, the peaks are kept, and those to come are as they were.
 use mathlib.Core.Path.{refl, sym, ap, ◌∙◌}
 use mathlib.Core.Bool.{Bool, cond}
-use Prim.Native.Nat.{ℕ, ◌-◌}
+use Prim.Native.Nat.{ℕ}
 use native.Mathlib.Omega.{arith}
 use lib.ListN.{get_or, take, drop}
 use Rattle.peaks.specs.Call.{peak_at}

@@ -1,5 +1,4 @@
 -- `peaks::scan::note` meets its contract: the peaks before `at` are listed.
-use Prim.Native.Nat.{◌-◌}
 use native.Mathlib.Omega.{arith}
 use Rattle.peaks.specs.Steps.{scan_of}
 use Rattle.peaks.proofs.ChosenLaws.{noted-first, noted-next}

@@ -1,6 +1,5 @@
 -- `peaks::scan::tally` meets its contract: `count` peaks lie before the pixel `at`.
 use mathlib.Core.Path.{refl, ◌∙◌}
-use Prim.Native.Nat.{◌-◌}
 use native.Mathlib.Omega.{arith}
 use Rattle.peaks.specs.Steps.{scan_of}
 use Rattle.peaks.proofs.FrameLaws.{size-most}

@@ -1,6 +1,5 @@
 -- `peaks::scan::write` meets its contract: the records of the peaks before the pixel `at` are written.
 use mathlib.Core.Path.{refl, sym, ◌∙◌}
-use Prim.Native.Nat.{◌-◌}
 use native.Mathlib.Omega.{arith}
 use Rattle.peaks.specs.Steps.{scan_of}
 use Rattle.peaks.proofs.FrameLaws.{size-most}

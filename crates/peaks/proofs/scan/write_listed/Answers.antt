@@ -1,6 +1,6 @@
 -- `peaks::scan::write_listed` meets its contract: the records of the first i pixels listed are written.
 use mathlib.Core.Path.{refl, subst, ◌∙◌}
-use Prim.Native.Nat.{ℕ, ◌-◌}
+use Prim.Native.Nat.{ℕ}
 use native.Mathlib.Omega.{arith}
 use lib.ListN.{take, get_or}
 use Rattle.peaks.specs.Steps.{scan_of, Follow}

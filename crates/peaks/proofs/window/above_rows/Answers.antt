@@ -1,6 +1,6 @@
 -- `peaks::window::above_rows` meets its contract: the sum is the count of the rows passed.
 use mathlib.Core.Path.{sym, ap, ◌∙◌}
-use Prim.Native.Nat.{ℕ, ◌+◌, ◌-◌, ◌*◌}
+use Prim.Native.Nat.{ℕ, ◌+◌, ◌*◌}
 use native.Mathlib.Omega.{arith}
 use lib.Ieee.{lt}
 use Rattle.peaks.specs.Peak.{count}

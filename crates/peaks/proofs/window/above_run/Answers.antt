@@ -1,7 +1,7 @@
 -- `peaks::window::above_run` meets its contract: the sum is the count of the values passed.
 use mathlib.Core.Path.{sym, ap, ◌∙◌}
 use mathlib.Core.Bool.{Bool}
-use Prim.Native.Nat.{ℕ, ◌+◌, ◌-◌}
+use Prim.Native.Nat.{ℕ, ◌+◌}
 use native.Mathlib.Omega.{arith}
 use lib.Ieee.{lt}
 use Rattle.peaks.specs.Peak.{count}

@@ -11,6 +11,6 @@ pub returns : goal.returns
 returns c =
     let a = c.args in
     record {
-      kept = c.look-around.ensures.kept;
-      laid = laid_kept (image_of a.bytes.now a.words.now a.sizes) a.columns.now a.radius a.w.base_x a.w.base_y a.flat.now _ c.look-around.result c.requires.fact_1 c.look-around.ensures (c.lay_four.ensures ∙ ap (λ (v : Sums). four_written (sum_in v) 20 a.flat.now) c.side_by_side.ensures);
+      kept = c.look-corners.ensures.kept;
+      laid = laid_kept (image_of a.bytes.now a.words.now a.sizes) a.columns.now a.radius a.w.base_x a.w.base_y a.flat.now _ (record { fits = c.look-corners.new.self; corners = c.look-corners.result }) c.requires.fact_1 c.look-corners.ensures (c.lay_four.ensures ∙ ap (λ (v : Sums). four_written (sum_in v) 20 a.flat.now) c.side_by_side.ensures);
     }

@@ -1,5 +1,4 @@
 -- `refine_fits::cache::slot_of` meets its contract: the loop only passes slots by.
-use Prim.Native.Nat.{◌-◌}
 use Rattle.refine_fits.proofs.CacheLaws.{no_slot}
 use Rattle.refine_fits.proofs.cache.slot_of.Goals as goal
 

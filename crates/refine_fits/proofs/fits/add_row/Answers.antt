@@ -1,6 +1,6 @@
 -- `refine_fits::fits::add_row` meets its contract. After i turns the sums have i samples of the row.
 use mathlib.Core.Path.{◌≡◌, ap, ◌∙◌}
-use Prim.Native.Nat.{ℕ, ◌-◌}
+use Prim.Native.Nat.{ℕ}
 use native.Mathlib.Omega.{arith}
 use lib.ListN.{length}
 use Rattle.refine_fits.specs.StepsAdding.{row_added}

@@ -1,6 +1,6 @@
 -- `refine_fits::fits::add_row_deep` meets its contract, as `add_row` does.
 use mathlib.Core.Path.{◌≡◌, ap, ◌∙◌}
-use Prim.Native.Nat.{ℕ, ◌-◌}
+use Prim.Native.Nat.{ℕ}
 use native.Mathlib.Omega.{arith}
 use lib.ListN.{length}
 use Rattle.refine_fits.specs.StepsAdding.{row_added}

@@ -1,11 +1,10 @@
 -- `refine_fits::fits::fit_patch` meets its contract. After some rows the sums have these rows' samples.
 use mathlib.Core.Path.{◌≡◌, ap, ◌∙◌}
-use Prim.Native.Nat.{ℕ, ◌+◌, ◌-◌, ◌*◌}
+use Prim.Native.Nat.{ℕ, ◌+◌, ◌*◌}
 use native.Mathlib.Omega.{arith}
 use lib.IntN.{pos}
 use lib.Ieee.{of_bits, of_int, binary32}
 use Rattle.imageview.specs.Image.{image_of}
-use Rattle.refine_operator.specs.Basis as Basis
 use Rattle.refine_patch.proofs.RowLaws.{numbered}
 use Rattle.refine_fits.proofs.FitLaws.{sums_none, row_done, all-rows, centre-sample, row_within, centre-within}
 use Rattle.refine_fits.proofs.fits.fit_patch.Goals as goal

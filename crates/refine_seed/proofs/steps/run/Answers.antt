@@ -41,14 +41,14 @@ ready-r-requires c =
     let w = c.window_at-w in
     record { sound_1 = c.requires.sound_1; sound_2 = c.loop-step.invariant.held; sound_3 = bases-most w.result (pos c.args.seed.centre_x) (pos c.args.seed.centre_y) _ _ w.ensures; repeats = c.requires.repeats }
 
-pub lay-fits-requires : goal.lay-fits-requires
-lay-fits-requires c =
+pub lay-requires : goal.lay-requires
+lay-requires c =
     let further = c.ready-r.ensures.further c.if-r.true in
     record { fact_1 = further.within; fact_2 = c.loop-step.invariant.kept; fact_3 = further.long }
 
 pub corners_at-corners-requires : goal.corners_at-corners-requires
 corners_at-corners-requires c =
-    let ready : Stands (image_of c.args.bytes.now c.args.words.now c.args.sizes) c.args.columns.now c.args.cfg.radius c.window_at-w.result.base_x c.window_at-w.result.base_y c.ready-r.result.room c.ready-r.result.to c.ready-r.result.bases c.if-r.flat = let a = c.args in let w = c.window_at-w.result in let r = c.ready-r in let img = image_of a.bytes.now a.words.now a.sizes in elim c.if-r.branch [ then-r v ↦ subst (Stands img a.columns.now a.cfg.radius w.base_x w.base_y r.result.room r.result.to r.result.bases) (sym v.flat-is) (laid-further img a.columns.now a.cfg.radius w.base_x w.base_y r.result _ _ (r.ensures.further v.if-r.true) v.lay-fits.ensures.laid) | else-r v ↦ subst (Stands img a.columns.now a.cfg.radius w.base_x w.base_y r.result.room r.result.to r.result.bases) (sym v.flat-is) (r.ensures.there v.if-r.false) ] in
+    let ready : Stands (image_of c.args.bytes.now c.args.words.now c.args.sizes) c.args.columns.now c.args.cfg.radius c.window_at-w.result.base_x c.window_at-w.result.base_y c.ready-r.result.room c.ready-r.result.to c.ready-r.result.bases c.if-r.flat = let a = c.args in let w = c.window_at-w.result in let r = c.ready-r in let img = image_of a.bytes.now a.words.now a.sizes in elim c.if-r.branch [ then-r v ↦ subst (Stands img a.columns.now a.cfg.radius w.base_x w.base_y r.result.room r.result.to r.result.bases) (sym v.flat-is) (laid-further img a.columns.now a.cfg.radius w.base_x w.base_y r.result _ _ (r.ensures.further v.if-r.true) v.lay.ensures.laid) | else-r v ↦ subst (Stands img a.columns.now a.cfg.radius w.base_x w.base_y r.result.room r.result.to r.result.bases) (sym v.flat-is) (r.ensures.there v.if-r.false) ] in
     (ready).low
 
 pub candidate-c-requires : goal.candidate-c-requires
@@ -59,7 +59,7 @@ overflow_add-tries c = omega (arith, c.loop-step.invariant.most)
 
 pub returns-then-settled : goal.returns-then-settled
 returns-then-settled c =
-    let ready : Stands (image_of c.args.bytes.now c.args.words.now c.args.sizes) c.args.columns.now c.args.cfg.radius c.window_at-w.result.base_x c.window_at-w.result.base_y c.ready-r.result.room c.ready-r.result.to c.ready-r.result.bases c.if-r.flat = let a = c.args in let w = c.window_at-w.result in let r = c.ready-r in let img = image_of a.bytes.now a.words.now a.sizes in elim c.if-r.branch [ then-r v ↦ subst (Stands img a.columns.now a.cfg.radius w.base_x w.base_y r.result.room r.result.to r.result.bases) (sym v.flat-is) (laid-further img a.columns.now a.cfg.radius w.base_x w.base_y r.result _ _ (r.ensures.further v.if-r.true) v.lay-fits.ensures.laid) | else-r v ↦ subst (Stands img a.columns.now a.cfg.radius w.base_x w.base_y r.result.room r.result.to r.result.bases) (sym v.flat-is) (r.ensures.there v.if-r.false) ] in
+    let ready : Stands (image_of c.args.bytes.now c.args.words.now c.args.sizes) c.args.columns.now c.args.cfg.radius c.window_at-w.result.base_x c.window_at-w.result.base_y c.ready-r.result.room c.ready-r.result.to c.ready-r.result.bases c.if-r.flat = let a = c.args in let w = c.window_at-w.result in let r = c.ready-r in let img = image_of a.bytes.now a.words.now a.sizes in elim c.if-r.branch [ then-r v ↦ subst (Stands img a.columns.now a.cfg.radius w.base_x w.base_y r.result.room r.result.to r.result.bases) (sym v.flat-is) (laid-further img a.columns.now a.cfg.radius w.base_x w.base_y r.result _ _ (r.ensures.further v.if-r.true) v.lay.ensures.laid) | else-r v ↦ subst (Stands img a.columns.now a.cfg.radius w.base_x w.base_y r.result.room r.result.to r.result.bases) (sym v.flat-is) (r.ensures.there v.if-r.false) ] in
     let tried : Tries (task_at (image_of c.args.bytes.now c.args.words.now c.args.sizes) c.args.columns.now c.args.cfg c.args.seed) c.loop-step.fit (c.loop-step.step.ox ⊕ c.loop-step.step.scale ⊗ c.loop-step.step.x) (c.loop-step.step.oy ⊕ c.loop-step.step.scale ⊗ c.loop-step.step.y) c.corners_at-corners.result c.candidate-c.result = let a = c.args in let w = c.window_at-w in let r = c.ready-r.result in tries (image_of a.bytes.now a.words.now a.sizes) a.columns.now a.cfg a.seed c.loop-step.fit _ _ w.result r.room r.to r.bases c.if-r.flat c.corners_at-corners.result c.candidate-c.result c.requires.sound_1 w.ensures (ready) c.corners_at-corners.ensures c.candidate-c.ensures in
     let a = c.args in
     let l = c.loop-step in
@@ -70,7 +70,7 @@ returns-then-settled c =
 
 pub returns-then-step-eq0 : goal.returns-then-step-eq0
 returns-then-step-eq0 c =
-    let ready : Stands (image_of c.args.bytes.now c.args.words.now c.args.sizes) c.args.columns.now c.args.cfg.radius c.window_at-w.result.base_x c.window_at-w.result.base_y c.ready-r.result.room c.ready-r.result.to c.ready-r.result.bases c.if-r.flat = let a = c.args in let w = c.window_at-w.result in let r = c.ready-r in let img = image_of a.bytes.now a.words.now a.sizes in elim c.if-r.branch [ then-r v ↦ subst (Stands img a.columns.now a.cfg.radius w.base_x w.base_y r.result.room r.result.to r.result.bases) (sym v.flat-is) (laid-further img a.columns.now a.cfg.radius w.base_x w.base_y r.result _ _ (r.ensures.further v.if-r.true) v.lay-fits.ensures.laid) | else-r v ↦ subst (Stands img a.columns.now a.cfg.radius w.base_x w.base_y r.result.room r.result.to r.result.bases) (sym v.flat-is) (r.ensures.there v.if-r.false) ] in
+    let ready : Stands (image_of c.args.bytes.now c.args.words.now c.args.sizes) c.args.columns.now c.args.cfg.radius c.window_at-w.result.base_x c.window_at-w.result.base_y c.ready-r.result.room c.ready-r.result.to c.ready-r.result.bases c.if-r.flat = let a = c.args in let w = c.window_at-w.result in let r = c.ready-r in let img = image_of a.bytes.now a.words.now a.sizes in elim c.if-r.branch [ then-r v ↦ subst (Stands img a.columns.now a.cfg.radius w.base_x w.base_y r.result.room r.result.to r.result.bases) (sym v.flat-is) (laid-further img a.columns.now a.cfg.radius w.base_x w.base_y r.result _ _ (r.ensures.further v.if-r.true) v.lay.ensures.laid) | else-r v ↦ subst (Stands img a.columns.now a.cfg.radius w.base_x w.base_y r.result.room r.result.to r.result.bases) (sym v.flat-is) (r.ensures.there v.if-r.false) ] in
     let tried : Tries (task_at (image_of c.args.bytes.now c.args.words.now c.args.sizes) c.args.columns.now c.args.cfg c.args.seed) c.loop-step.fit (c.loop-step.step.ox ⊕ c.loop-step.step.scale ⊗ c.loop-step.step.x) (c.loop-step.step.oy ⊕ c.loop-step.step.scale ⊗ c.loop-step.step.y) c.corners_at-corners.result c.candidate-c.result = let a = c.args in let w = c.window_at-w in let r = c.ready-r.result in tries (image_of a.bytes.now a.words.now a.sizes) a.columns.now a.cfg a.seed c.loop-step.fit _ _ w.result r.room r.to r.bases c.if-r.flat c.corners_at-corners.result c.candidate-c.result c.requires.sound_1 w.ensures (ready) c.corners_at-corners.ensures c.candidate-c.ensures in
     let a = c.args in
     let l = c.loop-step in
@@ -91,8 +91,8 @@ loop-step-smaller-then-c c =
 
 pub loop-step-preserved-then-c : goal.loop-step-preserved-then-c
 loop-step-preserved-then-c c =
-    let ready : Stands (image_of c.args.bytes.now c.args.words.now c.args.sizes) c.args.columns.now c.args.cfg.radius c.window_at-w.result.base_x c.window_at-w.result.base_y c.ready-r.result.room c.ready-r.result.to c.ready-r.result.bases c.if-r.flat = let a = c.args in let w = c.window_at-w.result in let r = c.ready-r in let img = image_of a.bytes.now a.words.now a.sizes in elim c.if-r.branch [ then-r v ↦ subst (Stands img a.columns.now a.cfg.radius w.base_x w.base_y r.result.room r.result.to r.result.bases) (sym v.flat-is) (laid-further img a.columns.now a.cfg.radius w.base_x w.base_y r.result _ _ (r.ensures.further v.if-r.true) v.lay-fits.ensures.laid) | else-r v ↦ subst (Stands img a.columns.now a.cfg.radius w.base_x w.base_y r.result.room r.result.to r.result.bases) (sym v.flat-is) (r.ensures.there v.if-r.false) ] in
-    let kept : Kept (image_of c.args.bytes.now c.args.words.now c.args.sizes) c.args.columns.now c.args.cfg.radius c.if-r.fits = let a = c.args in let img = image_of a.bytes.now a.words.now a.sizes in elim c.if-r.branch [ then-r v ↦ subst (Kept img a.columns.now a.cfg.radius) (sym v.fits-is) v.lay-fits.ensures.kept | else-r v ↦ subst (Kept img a.columns.now a.cfg.radius) (sym v.fits-is) c.loop-step.invariant.kept ] in
+    let ready : Stands (image_of c.args.bytes.now c.args.words.now c.args.sizes) c.args.columns.now c.args.cfg.radius c.window_at-w.result.base_x c.window_at-w.result.base_y c.ready-r.result.room c.ready-r.result.to c.ready-r.result.bases c.if-r.flat = let a = c.args in let w = c.window_at-w.result in let r = c.ready-r in let img = image_of a.bytes.now a.words.now a.sizes in elim c.if-r.branch [ then-r v ↦ subst (Stands img a.columns.now a.cfg.radius w.base_x w.base_y r.result.room r.result.to r.result.bases) (sym v.flat-is) (laid-further img a.columns.now a.cfg.radius w.base_x w.base_y r.result _ _ (r.ensures.further v.if-r.true) v.lay.ensures.laid) | else-r v ↦ subst (Stands img a.columns.now a.cfg.radius w.base_x w.base_y r.result.room r.result.to r.result.bases) (sym v.flat-is) (r.ensures.there v.if-r.false) ] in
+    let kept : Kept (image_of c.args.bytes.now c.args.words.now c.args.sizes) c.args.columns.now c.args.cfg.radius c.if-r.fits = let a = c.args in let img = image_of a.bytes.now a.words.now a.sizes in elim c.if-r.branch [ then-r v ↦ subst (Kept img a.columns.now a.cfg.radius) (sym v.fits-is) v.lay.ensures.kept | else-r v ↦ subst (Kept img a.columns.now a.cfg.radius) (sym v.fits-is) c.loop-step.invariant.kept ] in
     let tried : Tries (task_at (image_of c.args.bytes.now c.args.words.now c.args.sizes) c.args.columns.now c.args.cfg c.args.seed) c.loop-step.fit (c.loop-step.step.ox ⊕ c.loop-step.step.scale ⊗ c.loop-step.step.x) (c.loop-step.step.oy ⊕ c.loop-step.step.scale ⊗ c.loop-step.step.y) c.corners_at-corners.result c.candidate-c.result = let a = c.args in let w = c.window_at-w in let r = c.ready-r.result in tries (image_of a.bytes.now a.words.now a.sizes) a.columns.now a.cfg a.seed c.loop-step.fit _ _ w.result r.room r.to r.bases c.if-r.flat c.corners_at-corners.result c.candidate-c.result c.requires.sound_1 w.ensures (ready) c.corners_at-corners.ensures c.candidate-c.ensures in
     let a = c.args in
     let l = c.loop-step in
@@ -112,8 +112,8 @@ loop-step-smaller c =
 
 pub loop-step-preserved : goal.loop-step-preserved
 loop-step-preserved c =
-    let ready : Stands (image_of c.args.bytes.now c.args.words.now c.args.sizes) c.args.columns.now c.args.cfg.radius c.window_at-w.result.base_x c.window_at-w.result.base_y c.ready-r.result.room c.ready-r.result.to c.ready-r.result.bases c.if-r.flat = let a = c.args in let w = c.window_at-w.result in let r = c.ready-r in let img = image_of a.bytes.now a.words.now a.sizes in elim c.if-r.branch [ then-r v ↦ subst (Stands img a.columns.now a.cfg.radius w.base_x w.base_y r.result.room r.result.to r.result.bases) (sym v.flat-is) (laid-further img a.columns.now a.cfg.radius w.base_x w.base_y r.result _ _ (r.ensures.further v.if-r.true) v.lay-fits.ensures.laid) | else-r v ↦ subst (Stands img a.columns.now a.cfg.radius w.base_x w.base_y r.result.room r.result.to r.result.bases) (sym v.flat-is) (r.ensures.there v.if-r.false) ] in
-    let kept : Kept (image_of c.args.bytes.now c.args.words.now c.args.sizes) c.args.columns.now c.args.cfg.radius c.if-r.fits = let a = c.args in let img = image_of a.bytes.now a.words.now a.sizes in elim c.if-r.branch [ then-r v ↦ subst (Kept img a.columns.now a.cfg.radius) (sym v.fits-is) v.lay-fits.ensures.kept | else-r v ↦ subst (Kept img a.columns.now a.cfg.radius) (sym v.fits-is) c.loop-step.invariant.kept ] in
+    let ready : Stands (image_of c.args.bytes.now c.args.words.now c.args.sizes) c.args.columns.now c.args.cfg.radius c.window_at-w.result.base_x c.window_at-w.result.base_y c.ready-r.result.room c.ready-r.result.to c.ready-r.result.bases c.if-r.flat = let a = c.args in let w = c.window_at-w.result in let r = c.ready-r in let img = image_of a.bytes.now a.words.now a.sizes in elim c.if-r.branch [ then-r v ↦ subst (Stands img a.columns.now a.cfg.radius w.base_x w.base_y r.result.room r.result.to r.result.bases) (sym v.flat-is) (laid-further img a.columns.now a.cfg.radius w.base_x w.base_y r.result _ _ (r.ensures.further v.if-r.true) v.lay.ensures.laid) | else-r v ↦ subst (Stands img a.columns.now a.cfg.radius w.base_x w.base_y r.result.room r.result.to r.result.bases) (sym v.flat-is) (r.ensures.there v.if-r.false) ] in
+    let kept : Kept (image_of c.args.bytes.now c.args.words.now c.args.sizes) c.args.columns.now c.args.cfg.radius c.if-r.fits = let a = c.args in let img = image_of a.bytes.now a.words.now a.sizes in elim c.if-r.branch [ then-r v ↦ subst (Kept img a.columns.now a.cfg.radius) (sym v.fits-is) v.lay.ensures.kept | else-r v ↦ subst (Kept img a.columns.now a.cfg.radius) (sym v.fits-is) c.loop-step.invariant.kept ] in
     let tried : Tries (task_at (image_of c.args.bytes.now c.args.words.now c.args.sizes) c.args.columns.now c.args.cfg c.args.seed) c.loop-step.fit (c.loop-step.step.ox ⊕ c.loop-step.step.scale ⊗ c.loop-step.step.x) (c.loop-step.step.oy ⊕ c.loop-step.step.scale ⊗ c.loop-step.step.y) c.corners_at-corners.result c.candidate-c.result = let a = c.args in let w = c.window_at-w in let r = c.ready-r.result in tries (image_of a.bytes.now a.words.now a.sizes) a.columns.now a.cfg a.seed c.loop-step.fit _ _ w.result r.room r.to r.bases c.if-r.flat c.corners_at-corners.result c.candidate-c.result c.requires.sound_1 w.ensures (ready) c.corners_at-corners.ensures c.candidate-c.ensures in
     let a = c.args in
     let l = c.loop-step in

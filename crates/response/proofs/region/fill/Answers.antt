@@ -1,6 +1,6 @@
 -- `response::region::fill` meets its contract. The first i elements are +0.0.
 use mathlib.Core.Path.{◌≡◌, refl, subst}
-use Prim.Native.Nat.{ℕ, ◌-◌}
+use Prim.Native.Nat.{ℕ}
 use lib.Ieee.{of_bits}
 use lib.ListN.{length}
 use Rattle.shapes.specs.Numbers.{plus_zero}

@@ -1,6 +1,6 @@
 -- `response::region::row_inside` meets its contract: zeros, the row kernel on the part where the ring fits, zeros.
 use Prim.Native.Nat.{◌+◌}
-use Rattle.shapes.specs.Numbers.{plus_zero, one}
+use Rattle.shapes.specs.Numbers.{plus_zero}
 use Rattle.imageview.specs.Image.{samples_of}
 use Rattle.response.proofs.PassLaws.{part_count}
 use Rattle.response.proofs.RegionLaws.{reaches, stays-below, row-left, row-middle, row-right}

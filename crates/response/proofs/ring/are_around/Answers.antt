@@ -1,5 +1,4 @@
 -- `response::ring::are_around` meets its contract. The first k offsets are around 10.
-use Prim.Native.Nat.{◌-◌}
 use borrow.Author.Count.{below_more}
 use borrow.Author.Tests.{not-true, not-false}
 use Rattle.response.proofs.RingLaws.{decided, refuted}

@@ -1,6 +1,6 @@
 -- `response::ring::offsets_of` meets its contract. The first k offsets are those of the ring; past 32 stand those of the cross.
 use mathlib.Core.Path.{◌∙◌, sym, ap}
-use Prim.Native.Nat.{ℕ, ◌+◌, ◌-◌}
+use Prim.Native.Nat.{ℕ, ◌+◌}
 use native.Mathlib.Nat.{zero-add}
 use lib.Dec.{lit<}
 use lib.IntN.{pos}

@@ -1,5 +1,5 @@
 -- `response::row::block_bytes` meets its contract. After k turns the sums have the first k quarters.
-use Prim.Native.Nat.{◌+◌, ◌-◌}
+use Prim.Native.Nat.{◌+◌}
 use lib.ListN.{length}
 use Rattle.shapes.specs.Numbers.{plus_zero}
 use Rattle.response.specs.StepsStarts.{value_at}

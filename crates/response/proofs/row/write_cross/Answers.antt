@@ -1,6 +1,6 @@
 -- `response::row::write_cross` meets its contract. After i turns the first i pixels have it.
 use mathlib.Core.Path.{◌≡◌, refl, subst}
-use Prim.Native.Nat.{ℕ, ◌-◌}
+use Prim.Native.Nat.{ℕ}
 use lib.ListN.{length}
 use Rattle.pixel_response.specs.Steps.{listed, cross_of, Wrote}
 use Rattle.response.proofs.PassLaws.{wrote_none, wrote-more}

@@ -1,6 +1,6 @@
 -- `response::row::write_values` meets its contract. After i turns the first i values are written.
 use mathlib.Core.Path.{◌≡◌, refl, subst}
-use Prim.Native.Nat.{ℕ, ◌-◌}
+use Prim.Native.Nat.{ℕ}
 use lib.ListN.{length}
 use Rattle.shapes.specs.Numbers.{plus_zero}
 use Rattle.pixel_response.specs.Samples.{value_of}

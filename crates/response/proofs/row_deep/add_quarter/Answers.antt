@@ -1,6 +1,6 @@
 -- `response::row_deep::add_quarter` meets its contract. After i turns the first i pixels have it.
 use mathlib.Core.Path.{◌≡◌, refl, subst}
-use Prim.Native.Nat.{ℕ, ◌-◌, ◌≤◌, ◌<◌}
+use Prim.Native.Nat.{ℕ, ◌≤◌, ◌<◌}
 use lib.ListN.{length}
 use Rattle.pixel_response.specs.Steps.{listed, AddedQuarter}
 use Rattle.response.proofs.PassLaws.{quarter-none, quarter-more}

@@ -1,7 +1,7 @@
 -- `salvage::records::count_kept` meets its contract: of the first i records so many are kept.
 use mathlib.Core.Path.{sym, ap, ◌∙◌, subst}
 use mathlib.Core.Bool.{cond}
-use Prim.Native.Nat.{ℕ, ◌+◌, ◌-◌}
+use Prim.Native.Nat.{ℕ, ◌+◌}
 use native.Mathlib.Omega.{arith}
 use lib.Dec.{eqb}
 use Rattle.shapes.proofs.TurnLaws.{ended}

@@ -1,6 +1,6 @@
 -- `salvage::writing::write_whole` meets its contract: the first i records are written.
 use mathlib.Core.Path.{sym, subst, subst₂}
-use Prim.Native.Nat.{ℕ, ◌-◌}
+use Prim.Native.Nat.{ℕ}
 use native.Mathlib.Omega.{arith}
 use lib.ListN.{length}
 use Rattle.shapes.proofs.TurnLaws.{ended}

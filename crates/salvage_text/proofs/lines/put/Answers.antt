@@ -1,10 +1,10 @@
 -- `salvage_text::lines::put` meets its contract: the first i bytes of the part stand in the text.
 use mathlib.Core.Path.{refl, sym, ap, ◌∙◌, subst}
 use mathlib.Core.List.{List}
-use Prim.Native.Nat.{ℕ, ◌+◌, ◌-◌}
+use Prim.Native.Nat.{ℕ, ◌+◌}
 use native.Mathlib.Numerals.{add-one}
 use native.Mathlib.Omega.{arith}
-use lib.ListN.{length, get_or, set, length-set}
+use lib.ListN.{get_or, set, length-set}
 use lib.Seq.{paste, paste-zero, paste-suc}
 use Rattle.shapes.proofs.TurnLaws.{ended}
 use Rattle.salvage_text.specs.Steps.{Put}

@@ -1,6 +1,6 @@
 -- `salvage_text::sizes::size_of` meets its contract: the size from here on is that of the whole word.
 use mathlib.Core.Path.{sym, ap, ◌∙◌}
-use Prim.Native.Nat.{ℕ, ◌+◌, ◌-◌}
+use Prim.Native.Nat.{ℕ, ◌+◌}
 use native.Mathlib.Omega.{arith}
 use lib.ListN.{get_or, drop}
 use borrow.Author.Tests.{not-true, not-false}
