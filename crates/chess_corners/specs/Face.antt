@@ -3,41 +3,32 @@
 use Rattle.std.specs.Prelude.{◌≡◌, true, List, ℕ, ℤ, length, Float}
 use Rattle.imageview.specs.Image.{Image}
 use Rattle.response.specs.declared.Response.{Response}
-use Rattle.response.specs.declared.Response.TheVariants as Response
 use Rattle.response.specs.declared.Response.TheVariants.{Written}
 use Rattle.response.specs.Region.{Region}
 use Rattle.response.specs.Call as R
 use Rattle.merge.specs.declared.Merge.{Merge}
-use Rattle.merge.specs.declared.Merge.TheVariants as Merge
 use Rattle.merge.specs.declared.Merge.TheVariants.{Merged}
 use Rattle.merge.specs.declared.Heads.{Heads}
-use Rattle.merge.specs.declared.Heads.TheVariants as Heads
 use Rattle.merge.specs.declared.Heads.TheVariants.{Wanted}
 use Rattle.merge.specs.Call as M
 use Rattle.refine_formulas.specs.declared.SaddlePointConfig.{SaddlePointConfig}
 use Rattle.refine_list.specs.declared.Refinements.{Refinements}
-use Rattle.refine_list.specs.declared.Refinements.TheVariants as Refinements
 use Rattle.refine_list.specs.declared.Refinements.TheVariants.{Refined}
 use Rattle.refine_list.specs.Refining as L
 use Rattle.peaks.specs.declared.Peaks.{Peaks}
-use Rattle.peaks.specs.declared.Peaks.TheVariants as Peaks
 use Rattle.peaks.specs.declared.Peaks.TheVariants.{Found}
 use Rattle.peaks.specs.Peak.{Scan}
 use Rattle.peaks.specs.Call as P
 use Rattle.board.specs.declared.Tie.{Tie}
-use Rattle.board.specs.declared.Tie.TheVariants as Tie
 use Rattle.board.specs.declared.Tie.TheVariants.{Tied, NoCorner, UsedTwice}
 use Rattle.board.specs.Call as B
 use Rattle.graymap.specs.declared.Graymap.{Graymap}
-use Rattle.graymap.specs.declared.Graymap.TheVariants as Graymap
 use Rattle.graymap.specs.declared.Graymap.TheVariants.{Read, Above}
 use Rattle.graymap.specs.Call as G
 use Rattle.salvage.specs.declared.Salvage.{Salvage}
-use Rattle.salvage.specs.declared.Salvage.TheVariants as Salvage
 use Rattle.salvage.specs.declared.Salvage.TheVariants.{Saved}
 use Rattle.salvage.specs.Call as S
 use Rattle.coverage.specs.declared.Coverage.{Coverage}
-use Rattle.coverage.specs.declared.Coverage.TheVariants as Coverage
 use Rattle.coverage.specs.declared.Coverage.TheVariants.{Counted}
 use Rattle.coverage.specs.Call as C
 use Rattle.gradient.specs.Call as D

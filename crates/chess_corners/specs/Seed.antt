@@ -1,11 +1,10 @@
 -- The exported refiner of one seed. Numbers 0 to 3 write x, y and score, the values of the case; 0 also writes whether it converged, the tries and
 -- whether there is a covariance, and that where there is one. A number from 10 up writes nothing. And the operator, which is built once for many seeds.
-use Rattle.std.specs.Prelude.{◌≡◌, Bool, true, false, not, cond, List, [], ◌∷◌, ℕ, eqb, Float}
+use Rattle.std.specs.Prelude.{◌≡◌, Bool, not, cond, List, [], ◌∷◌, ℕ, eqb, Float}
 use Rattle.refine_operator.specs.Call as Operator
 use Rattle.refine_formulas.specs.declared.SaddlePointConfig.{SaddlePointConfig}
 use Rattle.refine_formulas.specs.declared.Covariance.{Covariance}
 use Rattle.refine_formulas.specs.declared.Covariance.TheVariants.{Known, Unknown}
-use Rattle.refine_seed.specs.declared.Estimate.{Estimate}
 use Rattle.refine_seed.specs.declared.Refined.{Refined}
 use Rattle.refine_seed.specs.declared.Refined.TheVariants.{Accepted, Unmoved, Refused}
 use Rattle.refine_seed.specs.Refine.{number_of, Values, nothing, values, values_of}

@@ -16,7 +16,6 @@ use Rattle.refine_patch.specs.StepsFrom.{Repeats}
 use Rattle.refine_formulas.specs.declared.SaddlePointConfig.{SaddlePointConfig}
 use Rattle.refine_formulas.specs.declared.PatchSaddle.{PatchSaddle}
 use Rattle.refine_formulas.specs.declared.Solved.{Solved}
-use Rattle.refine_formulas.specs.declared.Solved.TheVariants as Solved
 use Rattle.refine_formulas.specs.Solve.{solve, settled}
 use Rattle.refine_fits.specs.declared.Seed.{Seed}
 use Rattle.refine_fits.specs.Candidate.{Task, task_at, near_seed}
@@ -24,7 +23,6 @@ use Rattle.refine_fits.specs.Fit.{coefficients}
 use Rattle.refine_fits.specs.Windows.{WindowPlace, window_place}
 use Rattle.shapes.specs.Numbers.{plus_zero}
 use Rattle.refine_seed.specs.declared.Admitted.{Admitted}
-use Rattle.refine_seed.specs.declared.Admitted.TheVariants as Admitted
 use Rattle.refine_seed.specs.declared.Estimate.{Estimate}
 use Rattle.refine_seed.specs.declared.Refined.{Refined}
 use Rattle.refine_seed.specs.declared.Refined.TheVariants.{Accepted, Unmoved}

@@ -1,6 +1,6 @@
 -- The covariance of a converged place for unit noise: A K Aᵀ with A = M⁻¹ J, where K sums the operator's shifted overlaps by the products of the window's weights.
 -- There is none where an entry is not finite.
-use Rattle.std.specs.Prelude.{◌&&◌, not, cond, List, ℕ, zero, suc, ◌+◌, ◌-◌, ◌*◌, ◌/◌, ◌%◌, eqb, Float}
+use Rattle.std.specs.Prelude.{◌&&◌, cond, List, ℕ, zero, suc, ◌+◌, ◌-◌, ◌*◌, ◌/◌, ◌%◌, eqb, Float}
 use Rattle.std.specs.Float.Ieee.{eq, neg}
 use Rattle.std.specs.Float.Ieee.Scale.{finite}
 use Rattle.shapes.specs.Lists.{tabulated}

@@ -1,6 +1,6 @@
 -- Refining a list of corners, x, y and strength of each: the tests of docs/RULES.md in their order (`way_of`), what each way answers and leaves in the lent
 -- output. No refusal writes; elements past the last record stay.
-use Rattle.std.specs.Prelude.{◌≡◌, Bool, true, false, not, cond, List, [], ◌∷◌, ◌++◌, ℕ, zero, suc, ◌+◌, ◌*◌, ◌/◌, leb, ltb, length, drop, Float}
+use Rattle.std.specs.Prelude.{◌≡◌, false, not, cond, List, [], ◌∷◌, ◌++◌, ℕ, zero, suc, ◌+◌, ◌*◌, ◌/◌, leb, ltb, length, drop, Float}
 use Rattle.shapes.specs.Numbers.{entry}
 use Rattle.corners.specs.Corners.{whole, too_many}
 use Rattle.refusals.specs.declared.Refusal.{Refusal}

@@ -4,7 +4,7 @@ use lib.Ieee.{Float, binary32, of_bits, to_bits, of_int, add, sub, mul, div, lt}
 use Rattle.floats.specs.Magnitude.{magnitude}
 use Rattle.floats.specs.Convert.{convert}
 use Rattle.floats.specs.TotalOrder.{total_cmp}
-use Rattle.refine_operator.specs.Inverse.{Reduced, singular, reduced, inverse_normal_matrix, pivot_of, swapped, scaled, cleared}
+use Rattle.refine_operator.specs.Inverse.{inverse_normal_matrix, pivot_of, swapped, scaled, cleared}
 use Rattle.refine_operator.specs.Rows.{columns_of, overlap_of}
 use Rattle.refine_operator.specs.Call.{Way, refused, none, built, way_of}
 

@@ -1,6 +1,6 @@
 -- Building the operator: for a radius 0 to 7, or refusal 11. Arrays serve radius 7; a smaller square fills the front of the columns and leaves the rest.
 -- Where there is no operator (radius 0) neither array is written.
-use Rattle.std.specs.Prelude.{◌≡◌, ℕ, ◌*◌, Bool, true, false, cond, List, ◌++◌, drop, nat_le, Float}
+use Rattle.std.specs.Prelude.{◌≡◌, ℕ, ◌*◌, cond, List, ◌++◌, drop, nat_le, Float}
 use Rattle.refusals.specs.declared.Refusal.{Refusal}
 use Rattle.refusals.specs.declared.Refusal.TheVariants.{BadRadius}
 use Rattle.refusals.specs.Numbers as Refusals

@@ -13,7 +13,6 @@ use Rattle.refine_formulas.specs.declared.SaddlePointConfig.{SaddlePointConfig}
 use Rattle.refine_formulas.specs.declared.PatchSaddle.{PatchSaddle}
 use Rattle.refine_formulas.specs.declared.Flaw.TheVariants.{AboveMargin, TooSmall, NotFinite}
 use Rattle.refine_formulas.specs.declared.Solved.{Solved}
-use Rattle.refine_formulas.specs.declared.Solved.TheVariants as Solved
 use Rattle.refine_formulas.specs.declared.Solved.TheVariants.{Saddle}
 use Rattle.refine_formulas.specs.declared.Corners.{Corners}
 use Rattle.refine_formulas.specs.Numbers.{◌⊘◌}

@@ -26,7 +26,6 @@ use Rattle.refine_formulas.specs.declared.Solved.TheVariants.{Refused, Saddle}
 use Rattle.refine_seed.specs.declared.Estimate.{Estimate}
 use Rattle.refine_seed.specs.declared.Refined.{Refined}
 use Rattle.refine_seed.specs.declared.Refined.TheVariants.{Accepted, Unmoved}
-use Rattle.refine_seed.specs.declared.Refined.TheVariants as Refined
 use Rattle.refine_seed.specs.declared.Why.TheVariants.{Rejected, IllConditioned}
 use Rattle.refusals.specs.declared.Refusal.{Refusal}
 use Rattle.refine_formulas.specs.Numbers.{◌⊕◌, ◌⊖◌, ◌⊗◌, half}

@@ -23,10 +23,8 @@ use Rattle.refine_fits.specs.declared.Seed.{Seed}
 use Rattle.refine_seed.specs.declared.Estimate.{Estimate}
 use Rattle.refine_formulas.specs.declared.Flaw.{Flaw}
 use Rattle.refine_formulas.specs.declared.Solved.{Solved}
-use Rattle.refine_formulas.specs.declared.Solved.TheVariants as Solved
 use Rattle.refine_formulas.specs.declared.Solved.TheVariants.{Saddle}
 use Rattle.refine_seed.specs.declared.Admitted.{Admitted}
-use Rattle.refine_seed.specs.declared.Admitted.TheVariants as Admitted
 use Rattle.refine_seed.specs.declared.Refined.{Refined}
 use Rattle.refine_seed.specs.declared.Refined.TheVariants.{Accepted, Unmoved}
 use Rattle.refine_seed.specs.declared.Why.TheVariants.{Rejected, OutOfBounds, BadSeed, Flawed}

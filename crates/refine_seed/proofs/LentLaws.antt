@@ -18,8 +18,6 @@ use Rattle.refine_seed.specs.declared.Refined.TheVariants.{Unmoved, Refused}
 use Rattle.refine_seed.specs.declared.Why.TheVariants.{IllConditioned}
 use Rattle.refusals.specs.declared.Refusal.{Refusal}
 use Rattle.refine_seed.specs.declared.Admitted.{Admitted}
-use Rattle.refine_seed.specs.declared.Admitted.TheVariants as Admitted
-use Rattle.refine_seed.specs.declared.Spot.{Spot}
 use Rattle.refine_seed.specs.declared.Spot.TheVariants.{Nowhere}
 use Rattle.refine_seed.specs.Refine.{admit_of, answered, refine_lent, refine_of, refine_with, lent_with, with_operator}
 use Rattle.refine_seed.specs.Spot.{spot_of}

@@ -14,7 +14,6 @@ use Rattle.refine_formulas.specs.declared.SaddlePointConfig.{SaddlePointConfig}
 use Rattle.refine_formulas.specs.declared.PatchSaddle.{PatchSaddle}
 use Rattle.refine_formulas.specs.declared.Flaw.{Flaw}
 use Rattle.refine_formulas.specs.declared.Solved.{Solved}
-use Rattle.refine_formulas.specs.declared.Solved.TheVariants as Solved
 use Rattle.refine_formulas.specs.declared.Solved.TheVariants.{Saddle}
 use Rattle.refine_formulas.specs.Solve.{solve}
 use Rattle.refine_fits.specs.declared.Seed.{Seed}

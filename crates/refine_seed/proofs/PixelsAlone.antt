@@ -6,7 +6,7 @@ use Prim.Native.Nat.{ℕ, ◌+◌, ◌-◌, ◌*◌, ◌/◌, ◌%◌, ◌≤◌
 use native.Mathlib.Nat.{mod-lt, div-lt_iff_lt-mul}
 use native.Mathlib.Omega.{arith}
 use lib.Dec.{leb, ltb}
-use lib.IntN.{ℤ, pos, negsuc}
+use lib.IntN.{pos, negsuc}
 use lib.Ieee.{Float, binary32, of_int}
 use borrow.Author.Tests.{leb-true, ltb-true}
 use Rattle.shapes.specs.Numbers.{plus_zero, entry}
@@ -28,7 +28,6 @@ use Rattle.refine_fits.specs.declared.Seed.{Seed}
 use Rattle.refine_fits.specs.StepsAdding.{PatchWithin}
 use Rattle.refine_seed.specs.declared.Refined.{Refined}
 use Rattle.refine_seed.specs.declared.Admitted.{Admitted}
-use Rattle.refine_seed.specs.declared.Admitted.TheVariants as Admitted
 use Rattle.refine_seed.specs.Refine.{good_limits, is_place, centre_of, seed_of, admit_of, answered, from_saddle, refine_with, with_operator, lent_with, refine_of, refine_lent}
 use Rattle.refine_seed.specs.Alone.{ByPixels, LentByPixels, Unpadded, LentUnpadded}
 use Rattle.refine_seed.proofs.ColumnLaws.{SameFits, saddle-same}

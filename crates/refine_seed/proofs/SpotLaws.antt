@@ -27,12 +27,10 @@ use Rattle.refine_fits.specs.Candidate.{Task, near_along, task_at}
 use Rattle.refine_seed.specs.Run.{run_of, search_from, steps_from, picked, Finish, at_start}
 use Rattle.refine_formulas.specs.Covariance.{covariance_of}
 use Rattle.refine_seed.specs.declared.Ended.{Ended}
-use Rattle.refine_seed.specs.declared.Estimate.{Estimate}
 use Rattle.refine_seed.specs.declared.Refined.{Refined}
-use Rattle.refine_seed.specs.declared.Refined.TheVariants.{Accepted, Unmoved}
+use Rattle.refine_seed.specs.declared.Refined.TheVariants.{Unmoved}
 use Rattle.refine_seed.specs.declared.Why.TheVariants.{IllConditioned}
 use Rattle.refine_seed.specs.declared.Admitted.{Admitted}
-use Rattle.refine_seed.specs.declared.Admitted.TheVariants as Admitted
 use Rattle.refine_seed.specs.declared.Spot.{Spot}
 use Rattle.refine_seed.specs.declared.Spot.TheVariants.{At, Nowhere}
 use Rattle.refine_seed.specs.Refine.{single, estimate, closed, closed_at, finished, admit_of, answered, from_saddle, refine_with, lent_with, refine_lent}

@@ -1,6 +1,6 @@
 -- What holds of every accepted answer: its score is above zero, its tries are at most 64, and each fit that was taken is a saddle that passed the box test.
-use mathlib.Core.Path.{◌≡◌, refl, sym, ap, ◌∙◌, subst}
-use mathlib.Core.Bool.{Bool, true, false, ◌&&◌, not, cond, and-eq-true_iff}
+use mathlib.Core.Path.{◌≡◌, refl, sym, subst}
+use mathlib.Core.Bool.{Bool, true, false, ◌&&◌, cond, and-eq-true_iff}
 use mathlib.Core.List.{List}
 use Prim.Native.Nat.{ℕ, zero, suc, ◌+◌, ◌*◌, ◌≤◌}
 use native.Mathlib.Omega.{arith}
@@ -16,7 +16,6 @@ use Rattle.refine_formulas.specs.declared.Move.{Move}
 use Rattle.refine_formulas.specs.declared.Slope.{Slope}
 use Rattle.refine_formulas.specs.declared.Solved.{Solved}
 use Rattle.refine_formulas.specs.declared.Solved.TheVariants.{Refused, Saddle}
-use Rattle.refine_formulas.specs.declared.Covariance.{Covariance}
 use Rattle.refine_formulas.specs.declared.Covariance.TheVariants.{Unknown}
 use Rattle.refine_formulas.specs.Numbers.{◌⊕◌, ◌⊗◌, half}
 use Rattle.refine_fits.specs.Fit.{coefficients}
@@ -32,7 +31,6 @@ use Rattle.refine_formulas.proofs.SolveLaws.{score-above-zero}
 use Rattle.refine_seed.specs.declared.Estimate.{Estimate}
 use Rattle.refine_seed.specs.declared.Refined.{Refined}
 use Rattle.refine_seed.specs.declared.Refined.TheVariants.{Accepted, Unmoved}
-use Rattle.refine_seed.specs.declared.Refined.TheVariants as Refined
 use Rattle.refine_seed.specs.declared.Why.TheVariants.{Rejected}
 use Rattle.refine_fits.specs.declared.Seed.{Seed}
 use Rattle.refine_seed.specs.Refine.{single, estimate, closed, closed_at, finished, from_saddle, centre_of, seed_of, answered, good_limits, is_place, with_operator, refine_of}

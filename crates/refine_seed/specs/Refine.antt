@@ -1,11 +1,10 @@
 -- The refiner's call for one seed: how a run ends, the tests of a seed in their order, what each case answers, and the number and values of each case.
-use Rattle.std.specs.Prelude.{◌≡◌, Bool, true, false, ◌&&◌, ◌||◌, not, cond, List, ℕ, ◌≤◌, leb, eqb, ℤ, nat_abs, Float}
+use Rattle.std.specs.Prelude.{Bool, true, false, ◌&&◌, not, cond, List, ℕ, leb, eqb, ℤ, nat_abs, Float}
 use Rattle.std.specs.Float.{binary32}
-use Rattle.std.specs.Float.Ieee.{of_int, to_signed, neg, lt, eq}
+use Rattle.std.specs.Float.Ieee.{of_int, to_signed}
 use Rattle.std.specs.Float.Ieee.Scale.{finite}
 use Rattle.shapes.specs.Numbers.{plus_zero}
 use Rattle.floats.specs.Whole.{round_away}
-use Rattle.floats.specs.Root.{sqrt}
 use Rattle.imageview.specs.Image.{Image, is_image, in_range}
 use Rattle.imageview.specs.Patch.{supports_patch}
 use Rattle.refine_operator.specs.Call as Operator
@@ -14,11 +13,8 @@ use Rattle.refine_formulas.specs.declared.PatchSaddle.{PatchSaddle}
 use Rattle.refine_formulas.specs.declared.Flaw.{Flaw}
 use Rattle.refine_formulas.specs.declared.Flaw.TheVariants.{AboveMargin, TooSmall, NotFinite}
 use Rattle.refine_formulas.specs.declared.Solved.{Solved}
-use Rattle.refine_formulas.specs.declared.Solved.TheVariants as Solved
 use Rattle.refine_formulas.specs.declared.Solved.TheVariants.{Saddle}
 use Rattle.refine_formulas.specs.declared.Slope.{Slope}
-use Rattle.refine_formulas.specs.declared.Jacobian.{Jacobian}
-use Rattle.refine_formulas.specs.declared.Matrix.{Matrix}
 use Rattle.refine_seed.specs.declared.Estimate.{Estimate}
 use Rattle.refine_formulas.specs.declared.Covariance.{Covariance}
 use Rattle.refine_formulas.specs.declared.Covariance.TheVariants.{Unknown}
@@ -27,7 +23,6 @@ use Rattle.refine_seed.specs.declared.Refined.TheVariants.{Accepted, Unmoved, Re
 use Rattle.refine_seed.specs.declared.Why.{Why}
 use Rattle.refine_seed.specs.declared.Why.TheVariants.{Rejected, OutOfBounds, IllConditioned, BadSeed, Flawed}
 use Rattle.refine_seed.specs.declared.Admitted.{Admitted}
-use Rattle.refine_seed.specs.declared.Admitted.TheVariants as Admitted
 use Rattle.refusals.specs.declared.Refusal.TheVariants.{BadImage, BadSample, BadRadius, BadLimit}
 use Rattle.refusals.specs.Numbers as Refusals
 use Rattle.refine_fits.specs.declared.Seed.{Seed}

@@ -12,7 +12,6 @@ use Rattle.refine_seed.specs.Run.{run_of}
 use Rattle.refine_seed.specs.declared.Refined.{Refined}
 use Rattle.refine_seed.specs.declared.Spot.{Spot}
 use Rattle.refine_seed.specs.declared.Admitted.{Admitted}
-use Rattle.refine_seed.specs.declared.Admitted.TheVariants as Admitted
 use Rattle.refine_seed.specs.declared.Why.TheVariants.{OutOfBounds, BadSeed}
 use Rattle.refine_seed.specs.Refine.{good_limits, is_place, centre_of, seed_of, admit_of, finished}
 use Rattle.refine_seed.specs.Spot.{spot_at, spot_of}

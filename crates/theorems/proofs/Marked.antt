@@ -10,7 +10,6 @@ use Rattle.floats.specs.Magnitude.{magnitude}
 use Rattle.floats.specs.Whole.{floor, round_away}
 use Rattle.floats.specs.Root.{sqrt}
 use Rattle.pixel_response.specs.Samples.{gain, loss, response_of}
-use Rattle.refine_formulas.specs.declared.SaddlePointConfig.{SaddlePointConfig}
 use Rattle.refine_formulas.specs.declared.Solved.{Solved}
 use Rattle.refine_formulas.specs.declared.Solved.TheVariants.{Refused, Saddle}
 use Rattle.refine_formulas.specs.Solve.{solve, score_of}

@@ -1,6 +1,6 @@
 -- Closed cases: two seeds with the oracle's own answers, one whose steps fail after four tries, one that converges where it starts.
 use mathlib.Core.Path.{◌≡◌, refl}
-use mathlib.Core.Bool.{Bool, true, false, cond}
+use mathlib.Core.Bool.{Bool, true, cond}
 use mathlib.Core.List.{List, [], ◌∷◌}
 use Prim.Native.Nat.{ℕ}
 use lib.Ieee.{Float, binary32, of_bits, to_bits, of_int, add, sub, mul, div, lt, le, eq, neg, to_signed}

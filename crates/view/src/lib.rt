@@ -1,6 +1,5 @@
 // An image as bytes that are borrowed, with width, height and pitch, after `imageview.rs`. The functions are thin: each takes the view apart and
-// calls the one on a plain slice and numbers, which does the work. The borrow checker covers no function over such a struct, so each is
-// proved by a walk by hand.
+// calls the one on a plain slice and numbers, which does the work.
 #![tactic(auto)]
 
 mod plain;
@@ -113,7 +112,7 @@ pub fn refine<'a>(
     )
 }
 
-// The same from plain bytes: the view is a local, so whoever calls this needs no walk by hand.
+// The same from plain bytes: the view is a local.
 pub fn refine_bytes(
     data: &[u8],
     width: usize,

@@ -1,4 +1,4 @@
-// What a view is taken apart for: the calls on bytes, with no words beside them, and plain numbers. The sizes are put together here, since a walk by hand would go through that too.
+// What a view is taken apart for: the calls on bytes, with no words beside them, and plain numbers.
 ghost use Rattle.std.specs.Prelude.{◌≡◌};
 ghost use Rattle.imageview.specs.Image.{byte_image, is_image};
 ghost use Rattle.response.specs.Call.{Done, region_of};

@@ -1,6 +1,5 @@
 // A deep image as words that are borrowed, with width, height and pitch: what `view` is for bytes. The functions are thin: each takes the view apart and
-// calls the one on a plain slice and numbers, which does the work. The borrow checker covers no function over such a struct, so each is
-// proved by a walk by hand.
+// calls the one on a plain slice and numbers, which does the work.
 #![tactic(auto)]
 
 mod plain;
@@ -118,7 +117,7 @@ pub fn refine<'a>(
     )
 }
 
-// The same from plain words: the view is a local, so whoever calls this needs no walk by hand.
+// The same from plain words: the view is a local.
 pub fn refine_words(
     data: &[u16],
     width: usize,

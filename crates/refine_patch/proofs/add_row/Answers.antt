@@ -1,6 +1,6 @@
 -- `refine_patch::add_row` meets its contract. After i turns the sums have i samples of the row.
 use mathlib.Core.Path.{◌≡◌, ap, ◌∙◌}
-use Prim.Native.Nat.{ℕ, ◌-◌}
+use Prim.Native.Nat.{ℕ}
 use native.Mathlib.Omega.{arith}
 use Rattle.refine_patch.specs.StepsFour.{row_added}
 use Rattle.refine_patch.proofs.RowLaws.{row-none, row_more}

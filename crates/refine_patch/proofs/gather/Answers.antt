@@ -1,6 +1,6 @@
 -- `refine_patch::gather` meets its contract. After i turns the row has i samples of each patch.
 use mathlib.Core.Path.{◌≡◌, ap, ◌∙◌, subst}
-use Prim.Native.Nat.{ℕ, ◌-◌}
+use Prim.Native.Nat.{ℕ}
 use native.Mathlib.Omega.{arith}
 use Rattle.imageview.specs.Image.{samples_of}
 use Rattle.refine_patch.specs.declared.Four.{Four}

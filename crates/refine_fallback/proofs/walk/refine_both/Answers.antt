@@ -1,6 +1,6 @@
 -- `refine_fallback::walk::refine_both` meets its contract: records and bytes of the seeds so far stand in the front of their outputs, and the first fits that are held are those of their group.
 use mathlib.Core.Path.{refl, ap, ◌∙◌}
-use Prim.Native.Nat.{ℕ, ◌-◌, ◌*◌, ◌/◌, ◌^◌, ◌<◌}
+use Prim.Native.Nat.{ℕ, ◌*◌, ◌/◌, ◌^◌, ◌<◌}
 use native.Mathlib.Omega.{arith}
 use lib.ListN.{length}
 use Rattle.imageview.specs.Image.{image_of}

@@ -1,6 +1,6 @@
 -- `refine_formulas::noise::kernel` meets its contract. After d shifts each entry is that of d shifts; within a shift the first i entries are those of one more.
 use mathlib.Core.Path.{◌≡◌, refl, ap, ◌∙◌}
-use Prim.Native.Nat.{ℕ, ◌-◌}
+use Prim.Native.Nat.{ℕ}
 use native.Mathlib.Omega.{arith}
 use lib.Ieee.{of_bits}
 use Rattle.shapes.proofs.ListLaws.{overwritten-none}

@@ -1,5 +1,5 @@
 -- `refine_formulas::noise::kernel` meets its contract. After d shifts each entry is that of d shifts; within a shift the first i entries are those of one more.
-use mathlib.Core.Path.{◌≡◌, ap}
+use mathlib.Core.Path.{◌≡◌}
 use Prim.Native.Nat.{◌-◌, ◌≤◌}
 use Rattle.shapes.specs.Lists.{overwritten}
 use Rattle.refine_formulas.proofs.KernelLaws.{after, plus}

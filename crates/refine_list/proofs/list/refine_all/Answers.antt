@@ -1,6 +1,6 @@
 -- `refine_list::list::refine_all` meets its contract: the records of the seeds so far stand in the front of the output, and the first fits of a group serve its seeds.
 use mathlib.Core.Path.{refl, sym, subst}
-use Prim.Native.Nat.{◌-◌, ◌/◌}
+use Prim.Native.Nat.{◌/◌}
 use native.Mathlib.Omega.{arith}
 use Rattle.imageview.specs.Image.{image_of}
 use Rattle.refine_list.specs.Refining.{spot_for}

@@ -1,6 +1,6 @@
 -- `refine_list::list::repeat` meets its contract. After k turns the first k numbers are repeated.
 use mathlib.Core.Path.{◌≡◌, refl, subst}
-use Prim.Native.Nat.{ℕ, ◌-◌}
+use Prim.Native.Nat.{ℕ}
 use native.Mathlib.Omega.{arith}
 use Rattle.refine_list.specs.Steps.{Repeating}
 use Rattle.refine_list.proofs.RepeatLaws.{repeats-none, repeats-more, repeats-all}

@@ -1,5 +1,5 @@
 -- `refine_operator::inverse::cleared_row` meets its contract. After j turns the first j entries of the row are written.
-use Rattle.std.proofs.Common.{◌≡◌, ℕ, ◌+◌, ◌-◌, ◌*◌, length, refl, ap, ◌∙◌, arith, length-set}
+use Rattle.std.proofs.Common.{◌≡◌, ℕ, ◌+◌, ◌*◌, refl, ap, ◌∙◌, arith, length-set}
 use lib.Ieee.{of_bits}
 use Rattle.refine_operator.specs.Steps.{reduced_at}
 use Rattle.refine_operator.proofs.InverseLaws.{other-entry}

@@ -1,5 +1,5 @@
 -- `refine_operator::inverse::pivot_of` meets its contract. The rows that are left lead from the best so far to the pivot.
-use Rattle.std.proofs.Common.{◌-◌, sym, ◌∙◌, arith}
+use Rattle.std.proofs.Common.{sym, ◌∙◌, arith}
 use Rattle.refine_operator.proofs.InverseLaws.{pivot-none, pivot-more, pivot-all}
 use Rattle.refine_operator.proofs.inverse.pivot_of.Goals as goal
 

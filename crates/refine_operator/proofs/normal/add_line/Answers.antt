@@ -1,5 +1,5 @@
 -- `refine_operator::normal::add_line` meets its contract. After x turns the sums have x samples of the row.
-use Rattle.std.proofs.Common.{◌≡◌, ℕ, ◌+◌, ◌-◌, ◌*◌, sym, ap, ◌∙◌, add-zero, arith}
+use Rattle.std.proofs.Common.{◌≡◌, ℕ, ◌+◌, ◌*◌, sym, ap, ◌∙◌, add-zero, arith}
 use Rattle.refine_operator.specs.Basis.{side}
 use Rattle.refine_operator.proofs.NormalLaws.{upper-along, upper-to}
 use Rattle.refine_operator.proofs.WrittenLaws.{more_rows}

@@ -1,5 +1,5 @@
 -- `refine_operator::normal::sums_of` meets its contract. After y turns the sums have y rows.
-use Rattle.std.proofs.Common.{◌≡◌, ℕ, ◌+◌, ◌-◌, ◌*◌, ap, arith}
+use Rattle.std.proofs.Common.{◌≡◌, ℕ, ◌+◌, ◌*◌, ap, arith}
 use lib.Ieee.{of_bits}
 use Rattle.shapes.specs.Turns.{turns}
 use Rattle.refine_operator.specs.Basis.{side}

@@ -1,5 +1,5 @@
 -- `refine_operator::overlap::add_five` meets its contract. After s turns the first s products are added.
-use Rattle.std.proofs.Common.{◌+◌, ◌-◌, ◌*◌, length, refl, ◌∙◌, arith, length-set}
+use Rattle.std.proofs.Common.{◌+◌, ◌*◌, refl, ◌∙◌, arith, length-set}
 use Rattle.refine_operator.proofs.OverlapLaws.{five-none, five-more, five-all}
 use Rattle.refine_operator.proofs.overlap.add_five.Goals as goal
 

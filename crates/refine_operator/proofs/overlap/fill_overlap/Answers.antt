@@ -1,5 +1,5 @@
 -- `refine_operator::overlap::fill_overlap` meets its contract. After d turns the overlaps of d shifts are written; the others are copies.
-use Rattle.std.proofs.Common.{◌-◌, refl, ◌∙◌, arith}
+use Rattle.std.proofs.Common.{refl, ◌∙◌, arith}
 use Rattle.refine_operator.specs.Steps.{overlap_at}
 use Rattle.refine_operator.proofs.OverlapLaws.{overlaps-all}
 use Rattle.refine_operator.proofs.WrittenLaws.{continued-none, continued-block}

@@ -1,5 +1,5 @@
 -- `refine_operator::overlap::mirror` meets its contract. Up to i the overlaps are copied.
-use Rattle.std.proofs.Common.{◌-◌, length, refl, ◌∙◌, arith, length-set}
+use Rattle.std.proofs.Common.{refl, ◌∙◌, arith, length-set}
 use Rattle.refine_operator.proofs.MirrorLaws.{mirror-none, mirror-more, mirror-all}
 use Rattle.refine_operator.proofs.overlap.mirror.Goals as goal
 

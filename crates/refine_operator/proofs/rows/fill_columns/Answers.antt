@@ -1,5 +1,5 @@
 -- `refine_operator::rows::fill_columns` meets its contract. After y turns the columns of y rows are written.
-use Rattle.std.proofs.Common.{◌≡◌, ℕ, ◌+◌, ◌-◌, ◌*◌, refl, ap, ◌∙◌, arith}
+use Rattle.std.proofs.Common.{◌≡◌, ℕ, ◌+◌, ◌*◌, refl, ap, ◌∙◌, arith}
 use Rattle.refine_operator.specs.Basis.{side, samples}
 use Rattle.refine_operator.specs.Steps.{column_at}
 use Rattle.refine_operator.proofs.BasisLaws.{samples-most}

@@ -1,5 +1,5 @@
 -- `refine_operator::rows::fill_line` meets its contract. After x turns the columns of x samples of the row are written.
-use Rattle.std.proofs.Common.{◌≡◌, ℕ, ◌+◌, ◌-◌, ◌*◌, refl, ap, ◌∙◌, arith}
+use Rattle.std.proofs.Common.{◌≡◌, ℕ, ◌+◌, ◌*◌, refl, ap, ◌∙◌, arith}
 use Rattle.refine_operator.specs.Steps.{column_at}
 use Rattle.refine_operator.proofs.WrittenLaws.{continued-five, continued-to, continued-times}
 use Rattle.refine_operator.proofs.rows.fill_line.Goals as goal

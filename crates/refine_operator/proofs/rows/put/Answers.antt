@@ -1,5 +1,5 @@
 -- `refine_operator::rows::put` meets its contract. After c turns the first c entries of the column are written.
-use Rattle.std.proofs.Common.{◌≡◌, ℕ, ◌+◌, ◌-◌, ◌*◌, length, refl, ap, ◌∙◌, arith, length-set}
+use Rattle.std.proofs.Common.{◌≡◌, ℕ, ◌+◌, ◌*◌, refl, ap, ◌∙◌, arith, length-set}
 use Rattle.refine_operator.specs.Steps.{column_at}
 use Rattle.refine_operator.proofs.RowLaws.{column-entry}
 use Rattle.refine_operator.proofs.WrittenLaws.{continued-begin, continued-next, continued-to}

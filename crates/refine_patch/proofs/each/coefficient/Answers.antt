@@ -1,14 +1,12 @@
 -- `refine_patch::each::coefficient` meets its contract. After k turns the sum has k samples.
 use mathlib.Core.Path.{◌≡◌}
 use mathlib.Core.List.{List}
-use Prim.Native.Nat.{ℕ, ◌+◌, ◌-◌, ◌*◌, ◌/◌, ◌%◌, ◌<◌}
+use Prim.Native.Nat.{ℕ, ◌+◌, ◌*◌, ◌/◌, ◌%◌, ◌<◌}
 use native.Mathlib.Omega.{arith}
 use lib.ListN.{length}
 use lib.Ieee.{of_bits}
-use Rattle.shapes.specs.Turns.{turns}
 use Rattle.imageview.specs.Image.{samples_of}
 use Rattle.refine_operator.specs.Basis as Basis
-use Rattle.refine_patch.specs.StepsRows.{term}
 use Rattle.refine_patch.proofs.RowLaws.{centre-inside, sample-inside, samples-most, terms-none, term-more, terms-all, below}
 use Rattle.refine_patch.proofs.each.coefficient.Goals as goal
 

@@ -1,6 +1,6 @@
 -- `refine_patch::each::fit_each` meets its contract. After c turns the coefficients below c stand in the list.
 use mathlib.Core.Path.{◌≡◌, ap, ◌∙◌}
-use Prim.Native.Nat.{ℕ, ◌-◌}
+use Prim.Native.Nat.{ℕ}
 use native.Mathlib.Omega.{arith}
 use lib.Ieee.{Float}
 use Rattle.imageview.specs.Image.{samples_of}

@@ -1,8 +1,7 @@
 -- `refine_seed::entry::good_limit` meets its contract: both tests, the first first.
 use mathlib.Core.Path.{sym, ap, ◌∙◌}
-use mathlib.Core.Bool.{Bool, true, false, ◌&&◌, not}
+use mathlib.Core.Bool.{Bool, ◌&&◌, not}
 use lib.Ieee.{of_bits, lt}
-use lib.Ieee.Scale.{finite}
 use Rattle.shapes.specs.Numbers.{plus_zero}
 use Rattle.refine_seed.proofs.entry.good_limit.Goals as goal
 

@@ -1,6 +1,6 @@
 -- `refine_seed::entry::good_limits` meets its contract: three tests, in order.
 use mathlib.Core.Path.{sym, ap, ◌∙◌}
-use mathlib.Core.Bool.{Bool, true, false, ◌&&◌}
+use mathlib.Core.Bool.{Bool, ◌&&◌}
 use Rattle.refine_formulas.specs.Solve.{good_limit}
 use Rattle.refine_seed.proofs.entry.good_limits.Goals as goal
 

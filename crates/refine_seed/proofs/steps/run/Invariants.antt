@@ -7,7 +7,6 @@ use Rattle.refine_formulas.specs.declared.PatchSaddle.{PatchSaddle}
 use Rattle.refine_fits.specs.declared.IntegerFits.{IntegerFits}
 use Rattle.refine_fits.specs.declared.Bases.{Bases}
 use Rattle.refine_fits.specs.Candidate.{task_at, Task}
-use Rattle.refine_fits.proofs.TryLaws.{tries}
 use Rattle.refine_seed.specs.declared.Step.{Step}
 use Rattle.refine_seed.specs.StepsEnding.{Going}
 use Rattle.refine_seed.proofs.steps.run.Given as goal

@@ -1,3 +1,0 @@
--- What the walks share.
-pub mod Apart
-pub mod Further
