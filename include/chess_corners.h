@@ -26,9 +26,9 @@
  * Symbols that the archive needs: memset and memcpy. It has no others, no constructors and no writable data.
  *
  * Stack in bytes, on x86-64, as compiled for release, all that a call calls included, the greater of what was counted and what was painted
- * (docs/SPEED.md), for either depth: response 1,672, peaks 5,985, fit_operator 2,192, refine 7,672, refine_with 3,160, refine_list 7,576,
- * refine_list_fallback_with 3,224, merge 240, tie 1,984, graymap 144 and 208, salvage 56, coverage 56 to 88, gradient 368;
- * refine_list_fallback 12,648, more than
+ * (docs/SPEED.md), for either depth: response 1,624, peaks 5,721, fit_operator 2,224, refine 7,544, refine_with 2,984, refine_list 7,352,
+ * refine_list_fallback_with 2,984, merge 240, tie 2,016, graymap 136 and 232, salvage 90, coverage 56 to 88, gradient 305;
+ * refine_list_fallback 12,392, more than
  * any other, since it builds two operators. No call recurses. Scratch: only the merge asks for any, heads and links.
  *
  * Numbers:
