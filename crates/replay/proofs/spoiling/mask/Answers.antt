@@ -1,10 +1,8 @@
 -- A bit of a byte by itself, number by number.
 use mathlib.Core.Path.{◌≡◌, sym, ap}
 use Prim.Native.Nat.{ℕ, ◌%◌, ◌^◌}
-use native.Mathlib.Nat.{mod-lt}
 use native.Mathlib.Omega.{arith}
 use Rattle.replay.specs.Spoil.{mask_of}
-use Rattle.replay.proofs.SpoilLaws.{seven}
 use Rattle.replay.proofs.spoiling.mask.Goals as goal
 
 pub returns-in-0 : goal.returns-in-0
