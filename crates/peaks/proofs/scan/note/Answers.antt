@@ -7,9 +7,6 @@ use Rattle.peaks.proofs.scan.note.Goals as goal
 pub loop-at-init : goal.loop-at-init
 loop-at-init c = let a = c.args in noted-first (scan_of a.response.now a.rule) a.list.now c.requires.fact_2
 
-pub returns-then-count-gt768 : goal.returns-then-count-gt768
-returns-then-count-gt768 c = c.loop-at.invariant
-
 pub list_from-part-requires : goal.list_from-part-requires
 list_from-part-requires c = let l = c.loop-at in record { fact_1 = c.requires.fact_1; fact_2 = (c.loop-at-test.true, l.invariant.most, l.invariant.long) }
 
@@ -21,7 +18,7 @@ loop-at-preserved c =
     let a = c.args in
     let l = c.loop-at in
     let p = c.list_from-part.ensures in
-    noted-next (scan_of a.response.now a.rule) p l.invariant c.if-count-gt768.false
+    noted-next (scan_of a.response.now a.rule) p l.invariant (omega arith)
 
 pub returns : goal.returns
 returns c = c.loop-at.invariant
