@@ -1,5 +1,5 @@
 -- Where things stand in a case: a word after a place, the image at its start, and what follows the image.
-use Rattle.std.specs.Prelude.{cond, List, [], ℕ, ◌+◌, ◌-◌, ◌*◌, ◌/◌, ltb, length, take, drop}
+use Rattle.std.specs.Prelude.{cond, List, [], ℕ, ◌+◌, ◌*◌, ◌/◌, ltb, length, take, drop}
 use Rattle.words.specs.Words.{word_at}
 
 abbrev pub past : ℕ

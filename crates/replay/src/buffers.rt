@@ -30,10 +30,8 @@ pub fn wanted(case: &[u8], at: usize, n: usize, painted: bool, i: usize) -> u32
 pub fn lend(case: &[u8], at: usize, n: usize, painted: bool, list: &mut [f32])
     ensures { list.new ≡ lent_of case.now at n painted list.old }
 {
-    let mut i = 0;
-    while i < list.len() {
-        list[i] = floats::f32_from_bits(wanted(case, at, n, painted, i));
-        i += 1;
+    for (i, x) in list.iter_mut().enumerate() {
+        *x = floats::f32_from_bits(wanted(case, at, n, painted, i));
     }
 }
 
@@ -51,12 +49,10 @@ pub fn stands(case: &[u8], at: usize, n: usize, painted: bool, list: &[f32]) -> 
     if list.len() < n {
         return false;
     }
-    let mut i = 0;
-    while i < list.len() {
+    for i in 0..list.len() {
         if floats::f32_to_bits(list[i]) != wanted(case, at, n, painted, i) {
             return false;
         }
-        i += 1;
     }
     true
 }
@@ -75,22 +71,18 @@ fn scratch(painted: bool, i: usize) -> u16
 pub fn paint_u16(list: &mut [u16])
     ensures { list.new ≡ painted_of list.old }
 {
-    let mut i = 0;
-    while i < list.len() {
-        list[i] = scratch(true, i);
-        i += 1;
+    for (i, x) in list.iter_mut().enumerate() {
+        *x = scratch(true, i);
     }
 }
 
 pub fn stands_u16(painted: bool, list: &[u16]) -> bool
     ensures { result ≡ scratch_stands painted list.now }
 {
-    let mut i = 0;
-    while i < list.len() {
+    for i in 0..list.len() {
         if list[i] != scratch(painted, i) {
             return false;
         }
-        i += 1;
     }
     true
 }
@@ -127,12 +119,10 @@ pub fn corners_stand(case: &[u8], at: usize, number: u32, count: usize, out: &[f
 pub fn zeros(case: &[u8], at: usize, from: usize, to: usize) -> bool
     ensures { result ≡ zeros_in case.now at from to }
 {
-    let mut i = from;
-    while i < to {
+    for i in from..to {
         if crate::word_from(case, at, i) != 0 {
             return false;
         }
-        i += 1;
     }
     true
 }

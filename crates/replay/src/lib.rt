@@ -5,19 +5,22 @@
 mod buffers;
 mod spoiling;
 
-ghost use Rattle.std.specs.Prelude.{◌≡◌, length};
+ghost use Rattle.std.specs.Prelude.{◌≡◌, ◌*◌, ℕ, List, length, IfOk, OnErr};
+ghost use Rattle.std.specs.Io.KnownBytes.{Consumes};
 ghost use Rattle.std.specs.Float.Ieee as Ieee;
 ghost use Rattle.std.specs.Float.{binary32};
 ghost use Rattle.words.specs.Words.{word_at, long_at};
 ghost use Rattle.replay.specs.Place.{place_of, image_in, image_end};
 ghost use Rattle.replay.specs.Aim.{no_aim, aim_of, aim_in_two, aimed_at};
-ghost use Rattle.replay.specs.Count.{Within, none, more_of, counted_in, ended_of};
+ghost use Rattle.replay.specs.Count.{Within, Takes, none, more_of, counted_in, ended_of};
 
 pub use buffers::{
     corners_stand, counts, float_stands, lend, mark, paint_u16, stands, stands_u16, wanted, zeros,
 };
-use libc::STDOUT_FILENO;
 pub use spoiling::{bit_for, flip, hit, hit_number, hit_u16, judged, other, pick, spoil, spoil_at};
+use std::io::Read;
+use std::rt::Files;
+use std::{fs, io};
 
 // What an open list has next: a case of so many bytes, its end, or what is no whole case.
 #[derive(Drop)]
@@ -28,28 +31,33 @@ pub enum Next {
 }
 
 // The next case at the start of buf. The list ends only at a case's border: a cut head, a cut case and one that buf cannot hold are broken.
-pub fn next_case(fd: i32, buf: &mut [u8]) -> Next
-    ensures { Within result (length buf.new) }
+// A read that fails is the error; what was taken of the list by then is bytes from its front.
+pub fn next_case<R: Read>(list: &mut R, buf: &mut [u8]) -> io::Result<Next>
+    ensures fits { IfOk result (λ next. Within next (length buf.new)) }
+    ensures takes { IfOk result (λ next. Takes next buf.new (R.remaining list.old) (R.remaining list.new)) }
+    ensures failed { OnErr result ((bytes : List ℕ) × Consumes (R.remaining list.old) (R.remaining list.new) bytes) }
 {
     let mut head = [0u8; 4];
-    let got = io::read_full(fd, &mut head);
+    let got = input::read_input(list, &mut head)?;
     if got == 0 {
-        return Next::End;
+        return Ok(Next::End);
     }
     if got < 4 {
-        return Next::Broken;
+        return Ok(Next::Broken);
     }
     let size = bytes_of(words::word(&head, 0));
     if buf.len() < size {
-        return Next::Broken;
+        return Ok(Next::Broken);
     }
-    if io::read_full(fd, &mut buf[..size]) < size {
-        return Next::Broken;
+    if input::read_input(list, &mut buf[..size])? < size {
+        return Ok(Next::Broken);
     }
-    Next::Case(size)
+    Ok(Next::Case(size))
 }
 
-fn bytes_of(words: u32) -> usize {
+fn bytes_of(words: u32) -> usize
+    ensures { result ≡ 4 * words }
+{
     (words as usize) * 4
 }
 
@@ -214,20 +222,66 @@ fn more(n: u32, well: bool) -> u32
     n + 1
 }
 
-// A list's name and what was counted; a list that was not read to its end is broken.
-pub fn report(name: &[u8], tally: Tally) {
-    io::write_all(STDOUT_FILENO, name);
-    if !tally.whole {
-        io::write_all(STDOUT_FILENO, b" broken\n");
-        return;
-    }
-    figure(b" cases ", tally.cases);
-    figure(b" wrong ", tally.wrong);
-    figure(b" blind ", tally.blind);
-    io::write_all(STDOUT_FILENO, b"\n");
+// What was made of a list's cases, and whether the list was read to its end.
+#[derive(Drop)]
+pub struct Walked<T> {
+    pub found: T,
+    pub whole: bool,
 }
 
-fn figure(word: &[u8], n: u32) {
-    io::write_all(STDOUT_FILENO, word);
-    io::print_decimal(STDOUT_FILENO, n as u64);
+// The cases of a stored list one after the other, each at the start of `case`; `each` takes what was made of those before. A list that has more cases
+// than are given as the most, and one that is broken, are not read to the end.
+pub fn walk<R: Files, T: Drop, F: FnMut(T, &mut [u8]) -> T>(
+    rt: &R,
+    name: &str,
+    case: &mut [u8],
+    most: u32,
+    start: T,
+    mut each: F,
+) -> io::Result<Walked<T>>
+    requires { F.IsAlwaysCallable each }
+{
+    let mut list = fs::open(rt, name)?;
+    let mut found = start;
+    for _ in 0..most {
+        match next_case(&mut list, case)? {
+            Next::Case(n) => found = each(found, &mut case[..n]),
+            Next::End => return Ok(Walked { found, whole: true }),
+            Next::Broken => break,
+        }
+    }
+    Ok(Walked {
+        found,
+        whole: false,
+    })
+}
+
+// A stored list's cases, each tried and counted, and the line of what was counted.
+pub fn replay<R: Files + Print, F: FnMut(Tally, &mut [u8]) -> Tally>(
+    rt: &R,
+    name: &str,
+    case: &mut [u8],
+    most: u32,
+    each: F,
+) -> io::Result<()>
+    requires { F.IsAlwaysCallable each }
+{
+    let Walked { found, whole } = walk(rt, name, case, most, Tally::new(), each)?;
+    let tally = if whole { found.ended() } else { found };
+    report(rt, name.as_bytes(), tally)
+}
+
+// A list's name and what was counted; a list that was not read to its end is broken.
+pub fn report(rt: &impl Print, name: &[u8], tally: Tally) -> io::Result<()> {
+    rt.write_all(name)?;
+    if !tally.whole {
+        return println!(rt; " broken");
+    }
+    let Tally {
+        cases,
+        wrong,
+        blind,
+        ..
+    } = tally;
+    println!(rt; " cases {cases} wrong {wrong} blind {blind}")
 }

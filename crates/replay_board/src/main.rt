@@ -2,44 +2,20 @@
 // painted.
 #![tactic(auto)]
 
-use replay::{Aim, Next, Tally};
+use replay::{Aim, Tally};
+use std::io;
 
 // More cases than the list has, so that the loop ends.
 const MOST: u32 = 20000;
 
-fn main() {
+fn main(rt: HostRuntime) -> io::Result<()> {
     let mut case = [0u8; 70000];
     let mut places = [0f32; 2000];
     let mut corners = [0f32; 16384];
     let mut answers = [0u16; 1000];
-    replay_list(&mut case, &mut places, &mut corners, &mut answers);
-}
-
-fn replay_list(case: &mut [u8], places: &mut [f32], corners: &mut [f32], answers: &mut [u16]) {
-    let name = b"board.bin";
-    let fd = os::open_read(name);
-    if fd < 0 {
-        os::fail(name);
-        return;
-    }
-    let mut tally = Tally::new();
-    let mut left = MOST;
-    while 0 < left {
-        let next = replay::next_case(fd, case);
-        match next {
-            Next::Case(n) => {
-                tally = trial(tally, &mut case[..n], places, corners, answers);
-                left -= 1;
-            }
-            Next::End => {
-                tally = tally.ended();
-                left = 0;
-            }
-            Next::Broken => left = 0,
-        }
-    }
-    libc::close(fd);
-    replay::report(name, tally);
+    replay::replay(&rt, "board.bin", &mut case, MOST, |tally, case| {
+        trial(tally, case, &mut places, &mut corners, &mut answers)
+    })
 }
 
 // One case: as it is stored, with a bit of its answer flipped, and with an element of what was written changed.
@@ -181,12 +157,10 @@ fn unnamed(number: u32) -> u32 {
 
 // Whether the answers are the words of the case from a place on.
 fn are_stored(case: &[u8], at: usize, answers: &[u16]) -> bool {
-    let mut i = 0;
-    while i < answers.len() {
-        if wide(answers[i]) != replay::word_from(case, at, i) {
+    for (i, answer) in answers.iter().enumerate() {
+        if wide(*answer) != replay::word_from(case, at, i) {
             return false;
         }
-        i += 1;
     }
     true
 }

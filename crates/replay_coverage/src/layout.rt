@@ -60,10 +60,8 @@ pub fn call(at: Places, i: usize) -> usize {
 pub fn lend_list(case: &[u8], at: usize, list: &mut [f32]) {
     let records = words::word(case, at) as usize;
     replay::lend(case, 0, 0, words::word(case, 24) == 1, list);
-    let mut i = 0;
-    while i < records {
+    for i in 0..records {
         put(case, replay::place(replay::place(at, 1), 4 * i), list);
-        i += 1;
     }
 }
 
@@ -85,19 +83,11 @@ fn write(list: &mut [f32], i: usize, x: f32) {
 // The counts that stand at a place: each is a tile times 65,536 and its count.
 pub fn lend_counts(case: &[u8], at: usize, counts: &mut [u16]) {
     let given = words::word(case, at) as usize;
-    clear(counts);
-    let mut i = 0;
-    while i < given {
-        set(replay::word_from(case, replay::place(at, 1), i), counts);
-        i += 1;
+    for count in counts.iter_mut() {
+        *count = 0;
     }
-}
-
-fn clear(counts: &mut [u16]) {
-    let mut i = 0;
-    while i < counts.len() {
-        counts[i] = 0;
-        i += 1;
+    for i in 0..given {
+        set(replay::word_from(case, replay::place(at, 1), i), counts);
     }
 }
 
@@ -113,26 +103,14 @@ pub fn same_floats(a: &[f32], b: &[f32]) -> bool {
     if a.len() != b.len() {
         return false;
     }
-    let mut i = 0;
-    while i < a.len() {
-        if floats::f32_to_bits(a[i]) != floats::f32_to_bits(b[i]) {
+    for (x, y) in a.iter().zip(b) {
+        if floats::f32_to_bits(*x) != floats::f32_to_bits(*y) {
             return false;
         }
-        i += 1;
     }
     true
 }
 
 pub fn same_counts(a: &[u16], b: &[u16]) -> bool {
-    if a.len() != b.len() {
-        return false;
-    }
-    let mut i = 0;
-    while i < a.len() {
-        if a[i] != b[i] {
-            return false;
-        }
-        i += 1;
-    }
-    true
+    a == b
 }

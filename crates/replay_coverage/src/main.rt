@@ -5,51 +5,21 @@
 mod layout;
 
 use layout::Places;
-use replay::{Aim, Next, Tally};
+use replay::{Aim, Tally};
+use std::io;
 
 // More cases than the list has, so that the loop ends.
 const MOST: u32 = 20000;
 
-fn main() {
+fn main(rt: HostRuntime) -> io::Result<()> {
     let mut case = [0u8; 20000];
     let mut list = [0f32; 12288];
     let mut counts = [0u16; 65];
     let mut wanted = [0f32; 12288];
     let mut tiles = [0u16; 65];
-    replay_list(&mut case, &mut list, &mut counts, &mut wanted, &mut tiles);
-}
-
-fn replay_list(
-    case: &mut [u8],
-    list: &mut [f32; 12288],
-    counts: &mut [u16; 65],
-    wanted: &mut [f32; 12288],
-    tiles: &mut [u16; 65],
-) {
-    let name = b"coverage.bin";
-    let fd = os::open_read(name);
-    if fd < 0 {
-        os::fail(name);
-        return;
-    }
-    let mut tally = Tally::new();
-    let mut left = MOST;
-    while 0 < left {
-        let next = replay::next_case(fd, case);
-        match next {
-            Next::Case(n) => {
-                tally = trial(tally, &mut case[..n], list, counts, wanted, tiles);
-                left -= 1;
-            }
-            Next::End => {
-                tally = tally.ended();
-                left = 0;
-            }
-            Next::Broken => left = 0,
-        }
-    }
-    libc::close(fd);
-    replay::report(name, tally);
+    replay::replay(&rt, "coverage.bin", &mut case, MOST, |tally, case| {
+        trial(tally, case, &mut list, &mut counts, &mut wanted, &mut tiles)
+    })
 }
 
 // One row: as it is stored, with a bit of its answer flipped, and with an element of what was written changed.
@@ -132,11 +102,9 @@ fn run(
 ) -> bool {
     let calls = words::word(case, 28) as usize;
     let mut right = true;
-    let mut i = 0;
-    while i < calls {
+    for i in 0..calls {
         let number = ask(case, layout::call(at, i), list, count, counts);
         right = right & (number == replay::word_from(case, at.numbers, i));
-        i += 1;
     }
     right
 }

@@ -6,10 +6,8 @@ fn mark(i: usize) -> u8 {
 }
 
 pub fn paint(passes: &mut [u8]) {
-    let mut i = 0;
-    while i < passes.len() {
-        passes[i] = mark(i);
-        i += 1;
+    for (i, x) in passes.iter_mut().enumerate() {
+        *x = mark(i);
     }
 }
 
@@ -40,12 +38,10 @@ fn told(case: &[u8], from: usize, k: usize, passes: &[u8]) -> bool {
     if passes.len() < k {
         return false;
     }
-    let mut i = 0;
-    while i < passes.len() {
-        if passes[i] != wanted(case, from, k, i) {
+    for (i, x) in passes.iter().enumerate() {
+        if *x != wanted(case, from, k, i) {
             return false;
         }
-        i += 1;
     }
     true
 }

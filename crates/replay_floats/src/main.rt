@@ -2,47 +2,37 @@
 #![tactic(auto)]
 
 use floats::Order;
-use replay::{Next, Spoilt, Tally};
+use replay::{Spoilt, Tally};
+use std::io;
 
 // More cases than any list has, so that the loop ends.
 const MOST: u32 = 20000;
 
-fn main() {
-    let mut case = [0u8; 64];
-    replay_list(b"floats32.bin", 0, &mut case);
-    replay_list(b"ints32.bin", 1, &mut case);
-    replay_list(b"floats64.bin", 2, &mut case);
-    replay_list(b"order64.bin", 3, &mut case);
+// What a list's cases are about.
+#[derive(Clone, Copy)]
+enum Kind {
+    Floats32,
+    Ints32,
+    Floats64,
+    Order64,
 }
 
-fn replay_list(name: &[u8], kind: u8, case: &mut [u8]) {
-    let fd = os::open_read(name);
-    if fd < 0 {
-        os::fail(name);
-        return;
-    }
-    let mut tally = Tally::new();
-    let mut left = MOST;
-    while 0 < left {
-        let next = replay::next_case(fd, case);
-        match next {
-            Next::Case(n) => {
-                tally = trial(tally, kind, &mut case[..n]);
-                left -= 1;
-            }
-            Next::End => {
-                tally = tally.ended();
-                left = 0;
-            }
-            Next::Broken => left = 0,
-        }
-    }
-    libc::close(fd);
-    replay::report(name, tally);
+fn main(rt: HostRuntime) -> io::Result<()> {
+    replay_list(&rt, "floats32.bin", Kind::Floats32)?;
+    replay_list(&rt, "ints32.bin", Kind::Ints32)?;
+    replay_list(&rt, "floats64.bin", Kind::Floats64)?;
+    replay_list(&rt, "order64.bin", Kind::Order64)
+}
+
+fn replay_list(rt: &HostRuntime, name: &str, kind: Kind) -> io::Result<()> {
+    let mut case = [0u8; 64];
+    replay::replay(rt, name, &mut case, MOST, |tally, case| {
+        trial(tally, kind, case)
+    })
 }
 
 // One case: as it is stored, and with a bit of its answer flipped.
-fn trial(tally: Tally, kind: u8, case: &mut [u8]) -> Tally {
+fn trial(tally: Tally, kind: Kind, case: &mut [u8]) -> Tally {
     let right = holds(kind, case);
     let spoilt = spoil(kind, tally.cases, case);
     let taken = holds(kind, case);
@@ -51,12 +41,18 @@ fn trial(tally: Tally, kind: u8, case: &mut [u8]) -> Tally {
 }
 
 // The words behind the numbers that are put in are judged, each of them.
-fn spoil(kind: u8, turn: u32, case: &mut [u8]) -> Spoilt {
+fn spoil(kind: Kind, turn: u32, case: &mut [u8]) -> Spoilt {
     match kind {
-        0 => replay::spoil_at(case, turn, 8, replay::place(4, replay::pick(turn, 8)), 0),
-        1 => replay::spoil_at(case, turn, 1, 4, 0),
-        2 => spoil_narrowing(turn, case),
-        _ => replay::spoil_at(case, turn, 1, 16, 0),
+        Kind::Floats32 => replay::spoil_at(
+            case,
+            turn,
+            8,
+            replay::place(4, replay::pick(turn, 8)),
+            0,
+        ),
+        Kind::Ints32 => replay::spoil_at(case, turn, 1, 4, 0),
+        Kind::Floats64 => spoil_narrowing(turn, case),
+        Kind::Order64 => replay::spoil_at(case, turn, 1, 16, 0),
     }
 }
 
@@ -71,12 +67,12 @@ fn spoil_narrowing(turn: u32, case: &mut [u8]) -> Spoilt {
     replay::spoil_at(case, turn, 4, replay::place(8, word), 0)
 }
 
-fn holds(kind: u8, case: &[u8]) -> bool {
+fn holds(kind: Kind, case: &[u8]) -> bool {
     match kind {
-        0 => whole_numbers(case) && conversions(case),
-        1 => replay::float_stands(case, 0, 1, floats::i32_to_f32(words::int(case, 0))),
-        2 => narrowing(case),
-        _ => order(case),
+        Kind::Floats32 => whole_numbers(case) && conversions(case),
+        Kind::Ints32 => replay::float_stands(case, 0, 1, floats::i32_to_f32(words::int(case, 0))),
+        Kind::Floats64 => narrowing(case),
+        Kind::Order64 => order(case),
     }
 }
 

@@ -1,42 +1,18 @@
 // Replays the oracle's list of gradients (data/gradient.bin) through the exported call: the number, and the whole grid, which a refusal leaves as it was.
 #![tactic(auto)]
 
-use replay::{Aim, Next, Tally};
+use replay::{Aim, Tally};
+use std::io;
 
 // More cases than the list has, so that the loop ends.
 const MOST: u32 = 20000;
 
-fn main() {
+fn main(rt: HostRuntime) -> io::Result<()> {
     let mut case = [0u8; 20000];
     let mut grid = [0f32; 2000];
-    replay_list(&mut case, &mut grid);
-}
-
-fn replay_list(case: &mut [u8], grid: &mut [f32]) {
-    let name = b"gradient.bin";
-    let fd = os::open_read(name);
-    if fd < 0 {
-        os::fail(name);
-        return;
-    }
-    let mut tally = Tally::new();
-    let mut left = MOST;
-    while 0 < left {
-        let next = replay::next_case(fd, case);
-        match next {
-            Next::Case(n) => {
-                tally = trial(tally, &mut case[..n], grid);
-                left -= 1;
-            }
-            Next::End => {
-                tally = tally.ended();
-                left = 0;
-            }
-            Next::Broken => left = 0,
-        }
-    }
-    libc::close(fd);
-    replay::report(name, tally);
+    replay::replay(&rt, "gradient.bin", &mut case, MOST, |tally, case| {
+        trial(tally, case, &mut grid)
+    })
 }
 
 // One case: as it is stored, with a bit of its answer flipped, and with the number or an element of the grid changed.
@@ -126,10 +102,8 @@ fn ask(case: &[u8], at: usize, grid: &mut [f32]) -> u32 {
 
 // The sixteen pairs.
 fn load_ring(case: &[u8], at: usize, ring: &mut [i32; 32]) {
-    let mut i = 0;
-    while i < 32 {
-        ring[i] = words::int(case, replay::place(at, i));
-        i += 1;
+    for (i, x) in ring.iter_mut().enumerate() {
+        *x = words::int(case, replay::place(at, i));
     }
 }
 

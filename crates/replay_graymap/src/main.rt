@@ -2,41 +2,15 @@
 // above the maximum. What a call does not write stays painted.
 #![tactic(auto)]
 
-use replay::{Aim, Next, Tally};
+use replay::{Aim, Tally};
+use std::io;
 
 // More cases than the list has, so that the loop ends.
 const MOST: u32 = 20000;
 
-fn main() {
+fn main(rt: HostRuntime) -> io::Result<()> {
     let mut case = [0u8; 8192];
-    replay_list(&mut case);
-}
-
-fn replay_list(case: &mut [u8]) {
-    let name = b"graymap.bin";
-    let fd = os::open_read(name);
-    if fd < 0 {
-        os::fail(name);
-        return;
-    }
-    let mut tally = Tally::new();
-    let mut left = MOST;
-    while 0 < left {
-        let next = replay::next_case(fd, case);
-        match next {
-            Next::Case(n) => {
-                tally = trial(tally, &mut case[..n]);
-                left -= 1;
-            }
-            Next::End => {
-                tally = tally.ended();
-                left = 0;
-            }
-            Next::Broken => left = 0,
-        }
-    }
-    libc::close(fd);
-    replay::report(name, tally);
+    replay::replay(&rt, "graymap.bin", &mut case, MOST, trial)
 }
 
 // One case: as it is stored, with a bit of its answer flipped, and with one of the numbers that are written changed.

@@ -2,7 +2,8 @@
 // counts as a case.
 #![tactic(auto)]
 
-use replay::{Next, Tally};
+use replay::Tally;
+use std::io;
 
 // More cases than the list has, so that the loop ends.
 const MOST: u32 = 1000;
@@ -12,36 +13,9 @@ const OPERATOR: usize = 6;
 
 const RECORDS: usize = 1356;
 
-fn main() {
+fn main(rt: HostRuntime) -> io::Result<()> {
     let mut case = [0u8; 7500];
-    replay_list(&mut case);
-}
-
-fn replay_list(case: &mut [u8]) {
-    let name = b"lent.bin";
-    let fd = os::open_read(name);
-    if fd < 0 {
-        os::fail(name);
-        return;
-    }
-    let mut tally = Tally::new();
-    let mut left = MOST;
-    while 0 < left {
-        let next = replay::next_case(fd, case);
-        match next {
-            Next::Case(n) => {
-                tally = trial(tally, &mut case[..n]);
-                left -= 1;
-            }
-            Next::End => {
-                tally = tally.ended();
-                left = 0;
-            }
-            Next::Broken => left = 0,
-        }
-    }
-    libc::close(fd);
-    replay::report(name, tally);
+    replay::replay(&rt, "lent.bin", &mut case, MOST, trial)
 }
 
 // The seeds of a case, each by the operator that stands before them all.

@@ -2,44 +2,20 @@
 // list as it was lent, and what becomes of heads and links, which are painted before each call.
 #![tactic(auto)]
 
-use replay::{Aim, Next, Spoilt, Tally};
+use replay::{Aim, Spoilt, Tally};
+use std::io;
 
 // More cases than the list has, so that the loop ends.
 const MOST: u32 = 20000;
 
-fn main() {
+fn main(rt: HostRuntime) -> io::Result<()> {
     let mut case = [0u8; 90000];
     let mut list = [0f32; 16384];
     let mut heads = [0u16; 16384];
     let mut links = [0u16; 5000];
-    replay_list(&mut case, &mut list, &mut heads, &mut links);
-}
-
-fn replay_list(case: &mut [u8], list: &mut [f32], heads: &mut [u16], links: &mut [u16]) {
-    let name = b"merge.bin";
-    let fd = os::open_read(name);
-    if fd < 0 {
-        os::fail(name);
-        return;
-    }
-    let mut tally = Tally::new();
-    let mut left = MOST;
-    while 0 < left {
-        let next = replay::next_case(fd, case);
-        match next {
-            Next::Case(n) => {
-                tally = trial(tally, &mut case[..n], list, heads, links);
-                left -= 1;
-            }
-            Next::End => {
-                tally = tally.ended();
-                left = 0;
-            }
-            Next::Broken => left = 0,
-        }
-    }
-    libc::close(fd);
-    replay::report(name, tally);
+    replay::replay(&rt, "merge.bin", &mut case, MOST, |tally, case| {
+        trial(tally, case, &mut list, &mut heads, &mut links)
+    })
 }
 
 // One case: as it is stored, with a bit of its answer flipped, and with an element of what was written changed.

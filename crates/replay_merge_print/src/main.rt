@@ -5,53 +5,23 @@
 ghost use Rattle.std.specs.Prelude.{◌≤◌};
 
 use merge::Merge;
-use replay::{Next, Tally};
+use replay::Tally;
+use std::io;
 
 mod text;
 
 // More cases than the list has, so that the loop ends.
 const MOST: u32 = 20000;
 
-fn main() {
+fn main(rt: HostRuntime) -> io::Result<()> {
     let mut case = [0u8; 170000];
     let mut bytes = [0u8; 49152];
     let mut list = [0f32; 12288];
     let mut heads = [0u16; 16384];
     let mut links = [0u16; 4096];
-    replay_list(&mut case, &mut bytes, &mut list, &mut heads, &mut links);
-}
-
-fn replay_list(
-    case: &mut [u8],
-    bytes: &mut [u8],
-    list: &mut [f32],
-    heads: &mut [u16],
-    links: &mut [u16],
-) {
-    let name = b"merge_print.bin";
-    let fd = os::open_read(name);
-    if fd < 0 {
-        os::fail(name);
-        return;
-    }
-    let mut tally = Tally::new();
-    let mut left = MOST;
-    while 0 < left {
-        let next = replay::next_case(fd, case);
-        match next {
-            Next::Case(n) => {
-                tally = trial(tally, &mut case[..n], bytes, list, heads, links);
-                left -= 1;
-            }
-            Next::End => {
-                tally = tally.ended();
-                left = 0;
-            }
-            Next::Broken => left = 0,
-        }
-    }
-    libc::close(fd);
-    replay::report(name, tally);
+    replay::replay(&rt, "merge_print.bin", &mut case, MOST, |tally, case| {
+        trial(tally, case, &mut bytes, &mut list, &mut heads, &mut links)
+    })
 }
 
 // One case: as it is stored, and with a bit of its text or of the text's length flipped.

@@ -5,10 +5,8 @@ use replay::Spoilt;
 
 // The bytes given in the case, from its third word on, and zeros behind them.
 pub fn load(case: &[u8], given: usize, bytes: &mut [u8]) {
-    let mut i = 0;
-    while i < bytes.len() {
-        bytes[i] = loaded(case, given, i);
-        i += 1;
+    for (i, x) in bytes.iter_mut().enumerate() {
+        *x = loaded(case, given, i);
     }
 }
 
@@ -54,15 +52,13 @@ pub fn refusal_stands(case: &[u8], start: usize, no: u64) -> bool {
 // It is a line a corner, and a line of `total` and the count.
 pub fn corners_stand(case: &[u8], start: usize, list: &[f32], count: usize) -> bool {
     let mut at = start;
-    let mut i = 0;
-    while i < count {
+    for i in 0..count {
         if list.len() / 3 <= i {
             return false;
         }
-        at = behind_number(case, at, list[3 * i], 32);
-        at = behind_number(case, at, list[3 * i + 1], 32);
-        at = behind_number(case, at, list[3 * i + 2], 10);
-        i += 1;
+        at = behind_number(case, at, list[3 * i], b' ');
+        at = behind_number(case, at, list[3 * i + 1], b' ');
+        at = behind_number(case, at, list[3 * i + 2], b'\n');
     }
     last_stands(case, start, at, b"total ", count as u64)
 }
@@ -103,12 +99,10 @@ fn behind(case: &[u8], at: usize, text: &[u8]) -> usize {
     if case.len() - text.len() < at {
         return 0;
     }
-    let mut i = 0;
-    while i < text.len() {
+    for i in 0..text.len() {
         if case[at + i] != text[i] {
             return 0;
         }
-        i += 1;
     }
     at + text.len()
 }

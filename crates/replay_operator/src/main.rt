@@ -4,7 +4,8 @@
 
 ghost use Rattle.std.specs.Prelude.{◌≤◌};
 
-use replay::{Aim, Next, Tally};
+use replay::{Aim, Tally};
+use std::io;
 
 // More cases than the list has, so that the loop ends.
 const MOST: u32 = 100;
@@ -12,36 +13,9 @@ const MOST: u32 = 100;
 // How often each case is spoilt: it has many words, and there are few cases.
 const TURNS: u32 = 100;
 
-fn main() {
+fn main(rt: HostRuntime) -> io::Result<()> {
     let mut case = [0u8; 5700];
-    replay_list(&mut case);
-}
-
-fn replay_list(case: &mut [u8]) {
-    let name = b"operator.bin";
-    let fd = os::open_read(name);
-    if fd < 0 {
-        os::fail(name);
-        return;
-    }
-    let mut tally = Tally::new();
-    let mut left = MOST;
-    while 0 < left {
-        let next = replay::next_case(fd, case);
-        match next {
-            Next::Case(n) => {
-                tally = trial(tally, &mut case[..n]);
-                left -= 1;
-            }
-            Next::End => {
-                tally = tally.ended();
-                left = 0;
-            }
-            Next::Broken => left = 0,
-        }
-    }
-    libc::close(fd);
-    replay::report(name, tally);
+    replay::replay(&rt, "operator.bin", &mut case, MOST, trial)
 }
 
 // One case as it is stored, and spoilt at many turns.
@@ -54,12 +28,10 @@ fn trial(tally: Tally, case: &mut [u8]) -> Tally {
 // Whether every flipped bit of the answer and every changed element of what was written is noticed.
 fn notices(case: &mut [u8]) -> bool {
     let mut noticed = true;
-    let mut k: u32 = 0;
-    while k < TURNS {
+    for k in 0..TURNS {
         let taken = spoilt_holds(case, 37 * k);
         let missed = holds(case, aim(37 * k));
         noticed = noticed & !taken & !missed;
-        k += 1;
     }
     noticed
 }

@@ -2,43 +2,19 @@
 // paint behind the last record, or everywhere where the scan is refused.
 #![tactic(auto)]
 
-use replay::{Aim, Next, Tally};
+use replay::{Aim, Tally};
+use std::io;
 
 // More cases than the list has, so that the loop ends.
 const MOST: u32 = 20000;
 
-fn main() {
+fn main(rt: HostRuntime) -> io::Result<()> {
     let mut case = [0u8; 20000];
     let mut values = [0f32; 5000];
     let mut out = [0f32; 1000];
-    replay_list(&mut case, &mut values, &mut out);
-}
-
-fn replay_list(case: &mut [u8], values: &mut [f32], out: &mut [f32]) {
-    let name = b"peaks.bin";
-    let fd = os::open_read(name);
-    if fd < 0 {
-        os::fail(name);
-        return;
-    }
-    let mut tally = Tally::new();
-    let mut left = MOST;
-    while 0 < left {
-        let next = replay::next_case(fd, case);
-        match next {
-            Next::Case(n) => {
-                tally = trial(tally, &mut case[..n], values, out);
-                left -= 1;
-            }
-            Next::End => {
-                tally = tally.ended();
-                left = 0;
-            }
-            Next::Broken => left = 0,
-        }
-    }
-    libc::close(fd);
-    replay::report(name, tally);
+    replay::replay(&rt, "peaks.bin", &mut case, MOST, |tally, case| {
+        trial(tally, case, &mut values, &mut out)
+    })
 }
 
 // One case: as it is stored, with a bit of its answer flipped, and with an element of what was written changed.

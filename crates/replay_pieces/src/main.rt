@@ -1,7 +1,8 @@
 // Replays the oracle's lists of the refiner's pieces (data/) on the functions that they are of. A line a list.
 #![tactic(auto)]
 
-use replay::{Next, Spoilt, Tally};
+use replay::{Spoilt, Tally};
+use std::io;
 
 mod fitting;
 mod moving;
@@ -11,60 +12,51 @@ mod solving;
 // More cases than any list has, so that the loop ends.
 const MOST: u32 = 20000;
 
-fn main() {
-    let mut case = [0u8; 25000];
-    replay_list(b"solve.bin", 0, &mut case);
-    replay_list(b"blend.bin", 1, &mut case);
-    replay_list(b"newton.bin", 2, &mut case);
-    replay_list(b"sensitivity.bin", 3, &mut case);
-    replay_list(b"covariance.bin", 4, &mut case);
-    replay_list(b"fit.bin", 5, &mut case);
+// The piece that a list's cases are of.
+#[derive(Clone, Copy)]
+enum Piece {
+    Solve,
+    Blend,
+    Newton,
+    Sensitivity,
+    Covariance,
+    Fit,
 }
 
-fn replay_list(name: &[u8], kind: u8, case: &mut [u8]) {
-    let fd = os::open_read(name);
-    if fd < 0 {
-        os::fail(name);
-        return;
-    }
-    let mut tally = Tally::new();
-    let mut left = MOST;
-    while 0 < left {
-        let next = replay::next_case(fd, case);
-        match next {
-            Next::Case(n) => {
-                tally = trial(tally, kind, &mut case[..n]);
-                left -= 1;
-            }
-            Next::End => {
-                tally = tally.ended();
-                left = 0;
-            }
-            Next::Broken => left = 0,
-        }
-    }
-    libc::close(fd);
-    replay::report(name, tally);
+fn main(rt: HostRuntime) -> io::Result<()> {
+    let mut case = [0u8; 25000];
+    replay_list(&rt, "solve.bin", Piece::Solve, &mut case)?;
+    replay_list(&rt, "blend.bin", Piece::Blend, &mut case)?;
+    replay_list(&rt, "newton.bin", Piece::Newton, &mut case)?;
+    replay_list(&rt, "sensitivity.bin", Piece::Sensitivity, &mut case)?;
+    replay_list(&rt, "covariance.bin", Piece::Covariance, &mut case)?;
+    replay_list(&rt, "fit.bin", Piece::Fit, &mut case)
+}
+
+fn replay_list(rt: &HostRuntime, name: &str, piece: Piece, case: &mut [u8]) -> io::Result<()> {
+    replay::replay(rt, name, case, MOST, |tally, case| {
+        trial(tally, piece, case)
+    })
 }
 
 // One case: as it is stored, and with a bit of its answer flipped.
-fn trial(tally: Tally, kind: u8, case: &mut [u8]) -> Tally {
-    let right = holds(kind, case);
-    let spoilt = spoil(kind, tally.cases, case);
-    let taken = holds(kind, case);
+fn trial(tally: Tally, piece: Piece, case: &mut [u8]) -> Tally {
+    let right = holds(piece, case);
+    let spoilt = spoil(piece, tally.cases, case);
+    let taken = holds(piece, case);
     replay::flip(case, spoilt.place, spoilt.bit);
     tally.counted(right, !taken)
 }
 
 // The judged words of each list begin behind what is put in.
-fn spoil(kind: u8, turn: u32, case: &mut [u8]) -> Spoilt {
-    match kind {
-        0 => spoil_from(28, 5, turn, case),
-        1 => spoil_from(88, 15, turn, case),
-        2 => moving::spoil_step(turn, case),
-        3 => spoil_from(64, 14, turn, case),
-        4 => spoil_from(68, 4, turn, case),
-        _ => spoil_from(fitting::coefficients(case), 5, turn, case),
+fn spoil(piece: Piece, turn: u32, case: &mut [u8]) -> Spoilt {
+    match piece {
+        Piece::Solve => spoil_from(28, 5, turn, case),
+        Piece::Blend => spoil_from(88, 15, turn, case),
+        Piece::Newton => moving::spoil_step(turn, case),
+        Piece::Sensitivity => spoil_from(64, 14, turn, case),
+        Piece::Covariance => spoil_from(68, 4, turn, case),
+        Piece::Fit => spoil_from(fitting::coefficients(case), 5, turn, case),
     }
 }
 
@@ -78,13 +70,13 @@ fn spoil_from(first: usize, n: usize, turn: u32, case: &mut [u8]) -> Spoilt {
     )
 }
 
-fn holds(kind: u8, case: &[u8]) -> bool {
-    match kind {
-        0 => solving::solve_holds(case),
-        1 => moving::blend_holds(case),
-        2 => moving::step_holds(case),
-        3 => moving::sensitivity_holds(case),
-        4 => fitting::covariance_holds(case),
-        _ => fitting::fit_holds(case),
+fn holds(piece: Piece, case: &[u8]) -> bool {
+    match piece {
+        Piece::Solve => solving::solve_holds(case),
+        Piece::Blend => moving::blend_holds(case),
+        Piece::Newton => moving::step_holds(case),
+        Piece::Sensitivity => moving::sensitivity_holds(case),
+        Piece::Covariance => fitting::covariance_holds(case),
+        Piece::Fit => fitting::fit_holds(case),
     }
 }

@@ -2,7 +2,8 @@
 // the one that is lent the operator built once for the case. A line a call; each seed counts as a case.
 #![tactic(auto)]
 
-use replay::{Next, Tally};
+use replay::Tally;
+use std::io;
 
 // More cases than the list has, so that the loop ends.
 const MOST: u32 = 2000;
@@ -17,36 +18,16 @@ pub struct Both {
     pub lent: Tally,
 }
 
-fn main() {
+fn main(rt: HostRuntime) -> io::Result<()> {
     let mut case = [0u8; 30000];
-    replay_list(&mut case);
-}
-
-fn replay_list(case: &mut [u8]) {
-    let name = b"refine.bin";
-    let fd = os::open_read(name);
-    if fd < 0 {
-        os::fail(name);
-        return;
-    }
-    let mut tally = new();
-    let mut left = MOST;
-    while 0 < left {
-        let next = replay::next_case(fd, case);
-        match next {
-            Next::Case(n) => {
-                tally = trial(tally, &mut case[..n]);
-                left -= 1;
-            }
-            Next::End => {
-                tally = ended(tally);
-                left = 0;
-            }
-            Next::Broken => left = 0,
-        }
-    }
-    libc::close(fd);
-    report(tally);
+    let walked = replay::walk(&rt, "refine.bin", &mut case, MOST, new(), trial)?;
+    let Both { own, lent } = if walked.whole {
+        ended(walked.found)
+    } else {
+        walked.found
+    };
+    replay::report(&rt, b"refine.bin refine", own)?;
+    replay::report(&rt, b"refine.bin refine_with", lent)
 }
 
 fn new() -> Both {
@@ -57,9 +38,10 @@ fn new() -> Both {
 
 // The seeds of a case by each call.
 fn trial(tally: Both, case: &mut [u8]) -> Both {
-    let own = own(tally.own, case);
-    let lent = lent(tally.lent, case);
-    Both { own, lent }
+    Both {
+        own: own(tally.own, case),
+        lent: lent(tally.lent, case),
+    }
 }
 
 // Every seed by the call that builds its own operator.
@@ -81,17 +63,9 @@ fn lent(tally: Tally, case: &mut [u8]) -> Tally {
 }
 
 fn ended(tally: Both) -> Both {
-    let own = tally.own;
-    let lent = tally.lent;
-    let own_ended = own.ended();
-    let lent_ended = lent.ended();
+    let Both { own, lent } = tally;
     Both {
-        own: own_ended,
-        lent: lent_ended,
+        own: own.ended(),
+        lent: lent.ended(),
     }
-}
-
-fn report(tally: Both) {
-    replay::report(b"refine.bin refine", tally.own);
-    replay::report(b"refine.bin refine_with", tally.lent);
 }

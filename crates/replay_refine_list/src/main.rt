@@ -2,43 +2,19 @@
 // paint behind the last record, or everywhere where the call is refused.
 #![tactic(auto)]
 
-use replay::{Aim, Next, Tally};
+use replay::{Aim, Tally};
+use std::io;
 
 // More cases than the list has, so that the loop ends.
 const MOST: u32 = 2000;
 
-fn main() {
+fn main(rt: HostRuntime) -> io::Result<()> {
     let mut case = [0u8; 30000];
     let mut corners = [0f32; 16384];
     let mut out = [0f32; 16384];
-    replay_list(&mut case, &mut corners, &mut out);
-}
-
-fn replay_list(case: &mut [u8], corners: &mut [f32], out: &mut [f32]) {
-    let name = b"refine_list.bin";
-    let fd = os::open_read(name);
-    if fd < 0 {
-        os::fail(name);
-        return;
-    }
-    let mut tally = Tally::new();
-    let mut left = MOST;
-    while 0 < left {
-        let next = replay::next_case(fd, case);
-        match next {
-            Next::Case(n) => {
-                tally = trial(tally, &mut case[..n], corners, out);
-                left -= 1;
-            }
-            Next::End => {
-                tally = tally.ended();
-                left = 0;
-            }
-            Next::Broken => left = 0,
-        }
-    }
-    libc::close(fd);
-    replay::report(name, tally);
+    replay::replay(&rt, "refine_list.bin", &mut case, MOST, |tally, case| {
+        trial(tally, case, &mut corners, &mut out)
+    })
 }
 
 // One case: as it is stored, with a bit of its answer flipped, and with an element of what was written changed.

@@ -4,42 +4,18 @@
 
 ghost use Rattle.std.specs.Prelude.{◌≤◌};
 
-use replay::{Aim, Next, Tally};
+use replay::{Aim, Tally};
+use std::io;
 
 // More cases than the list has, so that the loop ends.
 const MOST: u32 = 20000;
 
-fn main() {
+fn main(rt: HostRuntime) -> io::Result<()> {
     let mut case = [0u8; 70000];
     let mut out = [0f32; 20000];
-    replay_list(&mut case, &mut out);
-}
-
-fn replay_list(case: &mut [u8], out: &mut [f32]) {
-    let name = b"response.bin";
-    let fd = os::open_read(name);
-    if fd < 0 {
-        os::fail(name);
-        return;
-    }
-    let mut tally = Tally::new();
-    let mut left = MOST;
-    while 0 < left {
-        let next = replay::next_case(fd, case);
-        match next {
-            Next::Case(n) => {
-                tally = trial(tally, &mut case[..n], out);
-                left -= 1;
-            }
-            Next::End => {
-                tally = tally.ended();
-                left = 0;
-            }
-            Next::Broken => left = 0,
-        }
-    }
-    libc::close(fd);
-    replay::report(name, tally);
+    replay::replay(&rt, "response.bin", &mut case, MOST, |tally, case| {
+        trial(tally, case, &mut out)
+    })
 }
 
 // One case: as it is stored, with a bit of its answer flipped, and with an element of what was written changed.
@@ -127,10 +103,8 @@ fn ask(
 
 // The sixteen pairs, which follow the radius.
 fn load_ring(case: &[u8], at: usize, ring: &mut [i32; 32]) {
-    let mut i = 0;
-    while i < 32 {
-        ring[i] = words::int(case, replay::place(at, i + 1));
-        i += 1;
+    for (i, x) in ring.iter_mut().enumerate() {
+        *x = words::int(case, replay::place(at, i + 1));
     }
 }
 

@@ -4,44 +4,20 @@
 
 mod outputs;
 
-use replay::{Aim, Next, Tally};
+use replay::{Aim, Tally};
+use std::io;
 
 // More cases than the list has, so that the loop ends.
 const MOST: u32 = 20000;
 
-fn main() {
+fn main(rt: HostRuntime) -> io::Result<()> {
     let mut case = [0u8; 100000];
     let mut file = [0u8; 50000];
     let mut out = [0u8; 50000];
     let mut faults = [0u16; 10000];
-    replay_list(&mut case, &mut file, &mut out, &mut faults);
-}
-
-fn replay_list(case: &mut [u8], file: &mut [u8], out: &mut [u8], faults: &mut [u16]) {
-    let name = b"salvage.bin";
-    let fd = os::open_read(name);
-    if fd < 0 {
-        os::fail(name);
-        return;
-    }
-    let mut tally = Tally::new();
-    let mut left = MOST;
-    while 0 < left {
-        let next = replay::next_case(fd, case);
-        match next {
-            Next::Case(n) => {
-                tally = trial(tally, &mut case[..n], file, out, faults);
-                left -= 1;
-            }
-            Next::End => {
-                tally = tally.ended();
-                left = 0;
-            }
-            Next::Broken => left = 0,
-        }
-    }
-    libc::close(fd);
-    replay::report(name, tally);
+    replay::replay(&rt, "salvage.bin", &mut case, MOST, |tally, case| {
+        trial(tally, case, &mut file, &mut out, &mut faults)
+    })
 }
 
 // One case: as it is stored, with a bit of its answer flipped, and with an element of what was written changed.

@@ -16,10 +16,8 @@ fn byte(case: &[u8], at: usize, given: usize, i: usize) -> u8 {
 }
 
 pub fn load(case: &[u8], at: usize, given: usize, file: &mut [u8]) {
-    let mut i = 0;
-    while i < file.len() {
-        file[i] = byte(case, at, given, i);
-        i += 1;
+    for (i, x) in file.iter_mut().enumerate() {
+        *x = byte(case, at, given, i);
     }
 }
 
@@ -29,10 +27,8 @@ fn mark(i: usize) -> u8 {
 }
 
 pub fn paint(out: &mut [u8]) {
-    let mut i = 0;
-    while i < out.len() {
-        out[i] = mark(i);
-        i += 1;
+    for (i, x) in out.iter_mut().enumerate() {
+        *x = mark(i);
     }
 }
 
@@ -85,12 +81,10 @@ fn records_stand(case: &[u8], at: usize, given: usize, n: usize, out: &[u8]) -> 
     if out.len() < n {
         return false;
     }
-    let mut i = 0;
-    while i < out.len() {
-        if out[i] != wanted(case, at, given, n, i) {
+    for (i, x) in out.iter().enumerate() {
+        if *x != wanted(case, at, given, n, i) {
             return false;
         }
-        i += 1;
     }
     true
 }
@@ -107,12 +101,10 @@ fn pairs_stand(case: &[u8], at: usize, n: usize, faults: &[u16]) -> bool {
     if faults.len() < n {
         return false;
     }
-    let mut i = 0;
-    while i < faults.len() {
-        if wide(faults[i]) != wanted_number(case, at, n, i) {
+    for (i, x) in faults.iter().enumerate() {
+        if wide(*x) != wanted_number(case, at, n, i) {
             return false;
         }
-        i += 1;
     }
     true
 }

@@ -20,8 +20,7 @@ pub fn every(
     let at = replay::place(replay::behind_image(case), before);
     let k = number(case);
     let mut tally = start;
-    let mut i = 0;
-    while i < k {
+    for i in 0..k {
         tally = trial(
             tally,
             case,
@@ -30,7 +29,6 @@ pub fn every(
             columns,
             overlap,
         );
-        i += 1;
     }
     tally
 }

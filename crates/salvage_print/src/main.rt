@@ -4,89 +4,124 @@
 
 ghost use Rattle.std.specs.Prelude.{◌*◌, ◌≤◌, length};
 
-use libc::{STDERR_FILENO, STDOUT_FILENO};
 use salvage::Salvage;
 use salvage_text::Size;
+use std::env::{Env, FillError};
+use std::io::{Read, Write};
+use std::process::ExitCode;
+use std::{fmt, io};
+
+// The stream that failed, and how.
+#[derive(Debug, Drop)]
+enum Failure {
+    Input(io::Error),
+    Output(io::Error),
+    Errors(io::Error),
+}
+
+impl fmt::Display for Failure {
+    fn fmt<W: fmt::Write>(&self, f: &mut fmt::Formatter<W>) -> fmt::Result {
+        match self {
+            Failure::Input(error) => write!(f, "standard input: {error}"),
+            Failure::Output(error) => write!(f, "standard output: {error}"),
+            Failure::Errors(error) => write!(f, "standard error: {error}"),
+        }
+    }
+}
 
 // The file has room for one record more than is taken, so that more are refused; the outputs have room for whatever goes into them.
-fn main() {
+fn main(rt: HostRuntime) -> ExitCode {
     let mut file = [0u8; 49164];
     let mut out = [0u8; 49152];
     let mut faults = [0u16; 8194];
-    run(&mut file, &mut out, &mut faults);
+    match run(&rt, &mut file, &mut out, &mut faults) {
+        Ok(()) => ExitCode::SUCCESS,
+        Err(failure) => {
+            // Where that line cannot be written either, the status is all that is left to tell.
+            let _ = eprintln!(rt; "{failure}");
+            ExitCode::FAILURE
+        }
+    }
 }
 
-fn run(file: &mut [u8], out: &mut [u8], faults: &mut [u16]) {
-    if os::arg_count() != 3 {
-        print_usage();
-        return;
+fn run(
+    rt: &HostRuntime,
+    file: &mut [u8],
+    out: &mut [u8],
+    faults: &mut [u16],
+) -> Result<(), Failure> {
+    let errors = &mut rt.stderr();
+    if is_there(rt, 3) {
+        return print_usage(errors);
     }
-    let Size::Pixels(width) = size_at(1) else {
-        print_usage();
-        return;
+    let Size::Pixels(width) = size_at(rt, 1) else {
+        return print_usage(errors);
     };
-    let Size::Pixels(height) = size_at(2) else {
-        print_usage();
-        return;
+    let Size::Pixels(height) = size_at(rt, 2) else {
+        return print_usage(errors);
     };
-    let n = input::read_input(file);
-    if file.len() < n {
-        os::fail(b"standard input");
-        return;
-    }
-    let answer = salvage::salvage_corners(&file[..n], width, height, out, faults);
-    match answer {
-        Salvage::Saved { kept, dropped } => print_saved(out, kept, faults, dropped),
-        Salvage::Refused(refusal) => print_refused(refusals::number(refusal)),
+    let n = input::read_input(&mut rt.reader(), file).map_err(Failure::Input)?;
+    match salvage::salvage_corners(&file[..n], width, height, out, faults) {
+        Salvage::Saved { kept, dropped } => print_saved(rt, errors, out, kept, faults, dropped),
+        Salvage::Refused(refusal) => print_refused(errors, refusals::number(refusal)),
     }
 }
 
-// A word of the command line as a size; one that is not there is none.
-fn size_at(i: usize) -> Size {
-    let mut word = io::buffer();
-    let n = os::arg(i, &mut word);
-    salvage_text::size_of(&word[..n])
+// Whether the command line has a word there.
+fn is_there(rt: &impl Env, i: usize) -> bool {
+    !matches!(rt.arg(i, &mut []), Err(FillError::NotPresent))
 }
 
-fn print_saved(out: &[u8], kept: usize, faults: &[u16], dropped: usize)
+// A word of the command line as a size; one that is not there is none, and one that is longer than any size is none either.
+fn size_at(rt: &impl Env, i: usize) -> Size {
+    let mut word = [0u8; 4096];
+    match rt.arg(i, &mut word) {
+        Ok(n) => salvage_text::size_of(&word[..n]),
+        Err(_) => Size::Missing,
+    }
+}
+
+fn print_saved<W: Write>(
+    rt: &impl Print,
+    errors: &mut W,
+    out: &[u8],
+    kept: usize,
+    faults: &[u16],
+    dropped: usize,
+) -> Result<(), Failure>
     requires { (12 * kept ≤ length out.now) × (2 * dropped ≤ length faults.now) }
 {
     let end = 12 * kept;
-    if !io::write_all(STDOUT_FILENO, &out[..end]) {
-        os::fail(b"standard output");
-        return;
-    }
-    print_faults(faults, dropped);
+    rt.write_all(&out[..end]).map_err(Failure::Output)?;
+    print_faults(errors, faults, dropped).map_err(Failure::Errors)?;
     let mut text = [0u8; 64];
     let n = salvage_text::last_line(kept, dropped, &mut text);
-    io::write_all(STDERR_FILENO, &text[..n]);
+    errors.write_all(&text[..n]).map_err(Failure::Errors)
 }
 
-fn print_faults(faults: &[u16], dropped: usize)
+fn print_faults<W: Write>(errors: &mut W, faults: &[u16], dropped: usize) -> io::Result<()>
     requires { 2 * dropped ≤ length faults.now }
 {
-    let mut i = 0;
-    while i < dropped {
-        print_fault(faults[2 * i], faults[2 * i + 1]);
-        i += 1;
+    for i in 0..dropped {
+        print_fault(errors, faults[2 * i], faults[2 * i + 1])?;
     }
+    Ok(())
 }
 
-fn print_fault(number: u16, fault: u16) {
+fn print_fault<W: Write>(errors: &mut W, number: u16, fault: u16) -> io::Result<()> {
     let mut text = [0u8; 64];
     let n = salvage_text::fault_line(number, fault, &mut text);
-    io::write_all(STDERR_FILENO, &text[..n]);
+    errors.write_all(&text[..n])
 }
 
-fn print_refused(no: u32) {
+fn print_refused<W: Write>(errors: &mut W, no: u32) -> Result<(), Failure> {
     let mut text = [0u8; 64];
     let n = salvage_text::refused_line(no, &mut text);
-    io::write_all(STDERR_FILENO, &text[..n]);
+    errors.write_all(&text[..n]).map_err(Failure::Errors)
 }
 
-fn print_usage() {
-    io::write_all(
-        STDERR_FILENO,
-        b"usage: salvage-print WIDTH HEIGHT, both in decimal digits\n",
-    );
+fn print_usage<W: Write>(errors: &mut W) -> Result<(), Failure> {
+    errors
+        .write_all(b"usage: salvage-print WIDTH HEIGHT, both in decimal digits\n")
+        .map_err(Failure::Errors)
 }

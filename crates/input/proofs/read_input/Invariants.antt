@@ -1,11 +1,13 @@
--- `input::read_input` is proved safe and ending: each turn reads at least one byte, into what is left of the buffer.
-use mathlib.Core.Path.{◌≡◌}
-use Prim.Native.Nat.{◌-◌, ◌≤◌}
-use lib.ListN.{length}
+-- `read_input` ends as the buffer fills, and what stands at its start is what was consumed.
+use Rattle.std.proofs.Common.{length, ◌-◌, ◌≤◌, take}
+use Rattle.std.specs.Io.KnownBytes.{Consumes}
 use Rattle.input.proofs.read_input.Given as goal
 
 abbrev pub invariant-loop-n : goal.invariant-loop-n
-invariant-loop-n l = (l.n ≤ length l.initial.file) × (length l.file ≡ length l.initial.file)
+invariant-loop-n g l = record {
+  within : l.n ≤ length l.file;
+  taken : Consumes (g.R.Read.remaining l.initial.input) (g.R.Read.remaining l.input) (take l.n l.file);
+}
 
 abbrev pub decreases-loop-n : goal.decreases-loop-n
-decreases-loop-n l = length l.initial.file - l.n
+decreases-loop-n g l = length l.initial.file - l.n

@@ -1,10 +1,8 @@
 -- `replay::stands` meets its contract: what is left to test decides as the whole does.
 use mathlib.Core.Path.{sym, ◌∙◌}
-use Prim.Native.Nat.{◌-◌}
 use native.Mathlib.Omega.{arith}
 use borrow.Author.Tests.{eq-eqb, ne_eqb}
 use Rattle.replay.proofs.BufferLaws.{every-start, every_more, every-fails, every-end, stands-short, stands-is}
-use Rattle.replay.specs.Buffers.{every}
 use Rattle.replay.proofs.buffers.stands.Goals as goal
 
 pub returns-then-list-n : goal.returns-then-list-n

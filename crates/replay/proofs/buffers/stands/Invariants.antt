@@ -7,6 +7,3 @@ use Rattle.replay.proofs.buffers.stands.Given as goal
 
 abbrev pub invariant-loop-i : goal.invariant-loop-i
 invariant-loop-i l = every (stands_at l.case l.at l.n l.painted l.list) l.i (length l.list - l.i) ≡ every (stands_at l.case l.at l.n l.painted l.list) 0 (length l.list)
-
-abbrev pub decreases-loop-i : goal.decreases-loop-i
-decreases-loop-i l = length l.list - l.i

@@ -1,10 +1,9 @@
 -- `replay::stands_u16` meets its contract: what is left to test decides as the whole does.
 use mathlib.Core.Path.{sym, ◌∙◌}
-use Prim.Native.Nat.{◌-◌}
 use native.Mathlib.Omega.{arith}
 use borrow.Author.Tests.{eq-eqb, ne_eqb}
 use Rattle.replay.proofs.BufferLaws.{every-start, every_more, every-fails, every-end}
-use Rattle.replay.specs.Buffers.{every, scratch_stands}
+use Rattle.replay.specs.Buffers.{scratch_stands}
 use Rattle.replay.proofs.buffers.stands_u16.Goals as goal
 
 pub loop-i-init : goal.loop-i-init

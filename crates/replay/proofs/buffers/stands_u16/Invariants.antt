@@ -7,6 +7,3 @@ use Rattle.replay.proofs.buffers.stands_u16.Given as goal
 
 abbrev pub invariant-loop-i : goal.invariant-loop-i
 invariant-loop-i l = every (scratch_at l.painted l.list) l.i (length l.list - l.i) ≡ every (scratch_at l.painted l.list) 0 (length l.list)
-
-abbrev pub decreases-loop-i : goal.decreases-loop-i
-decreases-loop-i l = length l.list - l.i

@@ -1,9 +1,8 @@
 -- `replay::zeros` meets its contract: what is left to test decides as the whole does.
 use mathlib.Core.Path.{sym, ◌∙◌}
-use Prim.Native.Nat.{◌-◌}
 use native.Mathlib.Omega.{arith}
 use borrow.Author.Tests.{eq-eqb, ne_eqb}
-use Rattle.replay.specs.Buffers.{every, zeros_in}
+use Rattle.replay.specs.Buffers.{zeros_in}
 use Rattle.replay.proofs.BufferLaws.{every_more, every-fails, every-end}
 use Rattle.replay.proofs.buffers.zeros.Goals as goal
 

@@ -6,6 +6,3 @@ use Rattle.replay.proofs.buffers.zeros.Given as goal
 
 abbrev pub invariant-loop-i : goal.invariant-loop-i
 invariant-loop-i l = every (zero_at l.case l.at) l.i (l.to - l.i) ≡ every (zero_at l.case l.at) l.from (l.to - l.from)
-
-abbrev pub decreases-loop-i : goal.decreases-loop-i
-decreases-loop-i l = l.to - l.i

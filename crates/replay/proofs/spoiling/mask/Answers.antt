@@ -1,10 +1,8 @@
 -- A bit of a byte by itself, number by number.
-use mathlib.Core.Path.{sym, ap}
-use Prim.Native.Nat.{ℕ, ◌^◌}
-use native.Mathlib.Nat.{mod-lt}
+use mathlib.Core.Path.{◌≡◌, sym, ap}
+use Prim.Native.Nat.{ℕ, ◌%◌, ◌^◌}
 use native.Mathlib.Omega.{arith}
 use Rattle.replay.specs.Spoil.{mask_of}
-use Rattle.replay.proofs.SpoilLaws.{seven}
 use Rattle.replay.proofs.spoiling.mask.Goals as goal
 
 pub returns-in-0 : goal.returns-in-0
@@ -37,4 +35,6 @@ returns-in-6 c = ap (λ (n : ℕ). 2 ^ n) (sym c.in-6.is)
 
 pub returns-in_default : goal.returns-in_default
 unfolding mask_of
-returns-in_default c = ap (λ (n : ℕ). 2 ^ n) (sym (seven _ (mod-lt c.args.bit (omega arith)) c.in_default.rest.0.0.0.0.0.0.1 c.in_default.rest.0.0.0.0.0.1 c.in_default.rest.0.0.0.0.1 c.in_default.rest.0.0.0.1 c.in_default.rest.0.0.1 c.in_default.rest.0.1 c.in_default.rest.1))
+returns-in_default c =
+    let last : c.args.bit % 8 ≡ 7 = omega arith in
+    ap (λ (n : ℕ). 2 ^ n) (sym last)

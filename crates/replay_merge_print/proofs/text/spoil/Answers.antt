@@ -1,8 +1,6 @@
--- `replay_merge_print::text::spoil` is proved safe: what is picked is no later than the turn.
-use Prim.Native.Nat.{◌+◌}
-use native.Mathlib.Omega.{arith}
+-- What is picked is no later than the turn.
+use Rattle.std.proofs.Common.{◌+◌, rules, arith}
 use Rattle.replay.proofs.SpoilLaws.{pick-le}
-use borrow.Author.Rules.{rules}
 use Rattle.replay_merge_print.proofs.text.spoil.Goals as goal
 
 pub spoil_byte-requires : goal.spoil_byte-requires
