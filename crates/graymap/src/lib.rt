@@ -14,7 +14,7 @@ use header::Heading;
 use refusals::Refusal;
 
 // How reading ended: sizes, maximum and where the pixels begin; the first pixel above the maximum; or a refusal.
-#[derive(Drop)]
+#[derive(Clone, Copy)]
 pub enum Graymap {
     Read {
         width: usize,

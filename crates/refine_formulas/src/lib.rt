@@ -28,7 +28,7 @@ pub struct PatchSaddle {
 }
 
 // Why a fit is refused: the first test that it did not pass.
-#[derive(Drop)]
+#[derive(Clone, Copy)]
 pub enum Flaw {
     AboveMargin,
     TooSmall,

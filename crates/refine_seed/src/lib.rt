@@ -76,7 +76,7 @@ pub struct Ending {
 }
 
 // Why a seed stays where it is, by the Rust's names; that a coordinate is no finite number, and why a fit is refused, are ours. IllConditioned: there is no operator.
-#[derive(Drop)]
+#[derive(Clone, Copy)]
 pub enum Why {
     Rejected,
     OutOfBounds,

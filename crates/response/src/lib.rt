@@ -13,7 +13,7 @@ use imageview::Sizes;
 use refusals::Refusal;
 
 // A region from (x0, y0) up to but without (x1, y1).
-#[derive(Drop)]
+#[derive(Clone, Copy)]
 pub struct Roi {
     pub x0: usize,
     pub y0: usize,

@@ -14,7 +14,7 @@ use refine_formulas::SaddlePointConfig;
 use refine_seed::Refined;
 use response::{Response, Roi};
 
-#[derive(Drop)]
+#[derive(Clone, Copy)]
 pub struct ImageView<'a> {
     pub data: &'a [u8],
     pub width: usize,
