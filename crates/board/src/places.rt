@@ -64,12 +64,7 @@ fn all_finite(places: &[f32]) -> bool
 }
 
 // The answers are written once all of them are known, since a refusal may not write.
-pub fn tie(
-    places: &[f32],
-    limit: f32,
-    list: &[f32],
-    answers: &mut [u16],
-) -> Result<(), Untied>
+pub fn tie(places: &[f32], limit: f32, list: &[f32], answers: &mut [u16]) -> Result<(), Untied>
     requires { Fitting places.now list.now (length answers.old) }
     ensures says { result ≡ answer_of (tie_from places.now limit list.now (length answers.old) []) }
     ensures leaves { answers.new ≡ answers_after answers.old (tie_from places.now limit list.now (length answers.old) []) }

@@ -3,8 +3,6 @@ use mathlib.Core.Path.{◌≡◌, sym, ap, ◌∙◌}
 use Prim.Native.Nat.{◌+◌, ◌*◌, ◌/◌}
 use native.Mathlib.Omega.{arith}
 use lib.ListN.{length, take, length-set}
-use lib.Ieee.{le}
-use borrow.Author.Tests.{not-true, not-false}
 use Rattle.std.proofs.Common.{rules}
 use Rattle.shapes.specs.Numbers.{entry}
 use Rattle.board.specs.declared.Nearest.{Nearest}
