@@ -69,7 +69,7 @@ pub record Spare (P n : ℕ) (square edge sum : List ℕ) : Type 0 where
   pub sums : Room n (12 * (P - 1)) sum
 
 -- parts of one length, at most 64
-pub record Abreast (a b c d : List ℕ) : Type 0 where
+pub record Abreast {A : Type 0} (a b c d : List A) : Type 0 where
   pub few : length a ≤ 64
   pub second : length b ≡ length a
   pub third : length c ≡ length a

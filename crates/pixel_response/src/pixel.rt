@@ -6,7 +6,7 @@ ghost use Rattle.pixel_response.specs.Steps.{Bounded, Levels, square_of, edges_o
 // Four quarters' sums, 65520 at most, fit 16 bits.
 #[tactic(auto, unfolding(crate::specs::Steps::square_of, crate::specs::Samples::apart))]
 pub fn square_of(a: u16, b: u16, c: u16, d: u16) -> u16
-    requires levels { Levels a b c d }
+    requires { Levels a b c d }
     ensures { Bounded (square_of a b c d) 8190 result }
 {
     (a + c).abs_diff(b + d)
@@ -14,14 +14,14 @@ pub fn square_of(a: u16, b: u16, c: u16, d: u16) -> u16
 
 #[tactic(auto, unfolding(crate::specs::Steps::edges_of, crate::specs::Samples::apart))]
 pub fn edges_of(a: u16, b: u16, c: u16, d: u16) -> u16
-    requires levels { Levels a b c d }
+    requires { Levels a b c d }
     ensures { Bounded (edges_of a b c d) 8190 result }
 {
     a.abs_diff(c) + b.abs_diff(d)
 }
 
 pub fn sum_of(a: u16, b: u16, c: u16, d: u16) -> u16
-    requires levels { Levels a b c d }
+    requires { Levels a b c d }
     ensures { Bounded (sum_of a b c d) 16380 result }
 {
     a + b + c + d
