@@ -7,11 +7,11 @@ ghost use Rattle.shapes.specs.Numbers.{entry};
 ghost use Rattle.refine_operator.specs.Inverse.{exchanged, swapped, scaled, cleared, least_pivot, reduce_from, inverse_normal_matrix};
 ghost use Rattle.refine_operator.specs.Steps.{Better, Pivot, reduced_by, reduced_at, Continued};
 
-use crate::{basis, normal};
+use crate::{NoInverse, basis, normal};
 use std::cmp::Ordering;
 
-// The inverse of a radius' normal matrix, right of what is then the identity; false where there is none.
-pub fn inverse_of(radius: usize, m: &mut [f64; 72]) -> bool
+// The inverse of a radius' normal matrix, right of what is then the identity.
+pub fn inverse_of(radius: usize, m: &mut [f64; 72]) -> Result<(), NoInverse>
     requires { radius ≤ 7 }
     ensures { inverse_normal_matrix radius ≡ reduced_by result m.new }
 {
@@ -115,18 +115,18 @@ fn reduced_column(m: &[f64; 72], col: usize, pivot: usize, out: &mut [f64])
     }
 }
 
-// Reduces the matrix, column after column; false where a pivot is too small.
-fn reduce(m: &mut [f64; 72]) -> bool
+// Reduces the matrix, column after column.
+fn reduce(m: &mut [f64; 72]) -> Result<(), NoInverse>
     ensures { reduce_from 6 0 m.old ≡ reduced_by result m.new }
 {
     let mut next = [0.0f64; 72];
     for col in 0..6 {
         let p = pivot_of(m, col);
         if is_below_least(entry(m, 12 * p + col)) {
-            return false;
+            return Err(NoInverse);
         }
         reduced_column(m, col, p, &mut next);
         *m = next;
     }
-    true
+    Ok(())
 }

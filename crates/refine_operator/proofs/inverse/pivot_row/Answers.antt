@@ -10,5 +10,5 @@ pub loop-j-preserved : goal.loop-j-preserved
 unfolding of_bits
 loop-j-preserved c =
     let l = c.loop-j in
-    let a = c.args in 
+    let a = c.args in
     continued-next (12 * a.col) l.j (reduced_at a.col a.pivot a.m.now) a.out.now l.out _ l.invariant (pivot-entry a.col a.pivot a.m.now c.requires.0 c.requires.1 l.j c.loop-j-test.true)

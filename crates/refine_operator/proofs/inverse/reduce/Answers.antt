@@ -18,8 +18,8 @@ loop-col-preserved c =
     let l = c.loop-col in
     let p = c.pivot_of-p in
     reduce-more l.m l.col p.result c.loop-col-test.true p.ensures.is c.reduced_column.new.out
-          (ap (λ (x : Float). lt (magnitude x) least_pivot) (sym c.entry.ensures) ∙ sym c.is_below_least.ensures ∙ c.if-is_below_least.false)
-        c.reduced_column.ensures ∙ l.invariant
+    (ap (λ (x : Float). lt (magnitude x) least_pivot) (sym c.entry.ensures) ∙ sym c.is_below_least.ensures ∙ c.if-is_below_least.false)
+    c.reduced_column.ensures ∙ l.invariant
 
 pub returns : goal.returns
 returns c =
