@@ -1,6 +1,5 @@
 -- Laws of the fits about two bases in one flat list: four fits that are written stand where they are looked for, and the first base's stay where the last one's are put.
 use mathlib.Core.Path.{◌≡◌, refl, sym, ap, ◌∙◌, subst}
-use mathlib.Core.Bool.{Bool, true, false}
 use mathlib.Core.List.{List, [], ◌∷◌}
 use Prim.Native.Nat.{ℕ, ◌+◌, ◌-◌, ◌*◌, ◌≤◌, ◌<◌}
 use native.Mathlib.Nat.{add-mul, one-mul, mul-le-mul}
@@ -18,13 +17,10 @@ use Rattle.refine_patch.specs.declared.Firsts.{Firsts}
 use Rattle.refine_patch.specs.StepsFour.{lane_of, sum_in, PatchesInside}
 use Rattle.refine_patch.proofs.FourLaws.{written-length, written-before, written-here}
 use Rattle.refine_patch.proofs.PatchLaws.{coefficient-about}
-use Rattle.refine_fits.specs.declared.Bases.{Bases}
-use Rattle.refine_fits.specs.declared.Base.{Base}
-use Rattle.std.specs.Prelude.{Option, Some, None, IfSome, is_some}
 use Rattle.refine_fits.specs.Fit.{sample_of, coefficient, coefficients}
 use Rattle.refine_fits.specs.Windows.{Fits, lacking, four, corners_at}
 use Rattle.refine_fits.specs.StepsAdding.{PatchWithin, FourWithin}
-use Rattle.refine_fits.specs.StepsBases.{coefs_in, corners_in, side_by_side, first_place, firsts_about, Laid, Held, corners_about, Stands}
+use Rattle.refine_fits.specs.StepsBases.{coefs_in, side_by_side, first_place, firsts_about, Laid}
 use Rattle.refine_fits.proofs.CacheLaws.{five, five_of, all-five, room00, room10, room01, room11, has-four}
 
 -- ---- four fits that are written

@@ -1,5 +1,5 @@
 -- Laws of a fit: a row adds its samples to the sums, the patch's sample k is element k % side of row k / side, and the sums of all samples are the coefficients.
-use mathlib.Core.Path.{◌≡◌, refl, sym, ap, ◌∙◌, subst}
+use mathlib.Core.Path.{◌≡◌, refl, sym, ap, ◌∙◌}
 use mathlib.Core.List.{List, [], ◌∷◌}
 use Prim.Native.Nat.{ℕ, zero, suc, ◌+◌, ◌-◌, ◌*◌, ◌/◌, ◌%◌, ◌≤◌, ◌<◌}
 use native.Mathlib.Nat.{add_assoc, add-zero, add-suc, sub-add_cancel, add-mul, mul_assoc, one-mul, zero-mul, le_refl}
@@ -14,7 +14,7 @@ use Rattle.shapes.specs.Numbers.{plus_zero, entry}
 use Rattle.shapes.specs.Turns.{turns}
 use Rattle.shapes.specs.Lists.{tabulated}
 use Rattle.imageview.specs.Image.{Image, pixel}
-use Rattle.imageview.proofs.ImageLaws.{index, run-count}
+use Rattle.imageview.proofs.ImageLaws.{index}
 use Rattle.refine_operator.specs.Basis.{side, samples}
 use Rattle.refine_fits.specs.declared.Sums.{Sums}
 use Rattle.refine_formulas.specs.Numbers.{◌⊕◌, ◌⊖◌, ◌⊗◌}

@@ -2,12 +2,10 @@
 use mathlib.Core.Path.{◌≡◌, refl, sym, ap, ◌∙◌, subst}
 use mathlib.Core.Bool.{Bool, true, false, ◌&&◌, ◌||◌, cond, or-false}
 use mathlib.Core.List.{List}
-use Prim.Native.Nat.{ℕ, suc, ◌+◌, ◌≤◌, ◌<◌}
-use native.Mathlib.Nat.{lt_of_lt_of_le}
+use Prim.Native.Nat.{ℕ, ◌+◌, ◌≤◌, ◌<◌}
 use native.Mathlib.Omega.{arith}
 use lib.Dec.{T, ltb, lit≤}
-use lib.IntN.{ℤ, pos, negsuc, ◌+ℤ◌, nat_abs}
-use lib.Signed.{mag, lt_z, non_neg}
+use lib.IntN.{ℤ, pos, negsuc, ◌+ℤ◌}
 use lib.Ieee.{Float, binary32, to_signed, to_unsigned, of_int, lt, neg}
 use lib.Ieee.Bits.{is_true}
 use lib.Ieee.Casts.{to_signed_in}
@@ -19,17 +17,14 @@ use Rattle.shapes.specs.Numbers.{plus_zero, one}
 use Rattle.shapes.proofs.TestLaws.{first_of, second-of}
 use Rattle.refine_fits.specs.declared.Window.{Window}
 use Rattle.refine_formulas.specs.Numbers.{◌⊖◌}
-use mir.Syntax.{w32, w64}
+use mir.Syntax.{w32}
 use mir.Val.{SFits, to_z, of_z}
-use mir.Val as Val
-use mir.ValLaws.{to_z-of_z, to_z_pos}
-use mir.Facts.{sfits_widen}
-use borrow.Author.Tests.{lt-ltb, le-ltb, ltb-true, ltb-false}
+use mir.ValLaws.{to_z-of_z}
+use borrow.Author.Tests.{ltb-false}
 use Rattle.imageview.specs.Image.{Image}
 use Rattle.imageview.specs.Patch.{inside, supports_patch}
-use Rattle.refine_operator.proofs.BasisLaws.{sub_small}
 use Rattle.refine_fits.specs.Fit.{Fit, no_fit, fit_at, fit_within}
-use Rattle.refine_fits.specs.Windows.{window_place, Fits, lacking, corners_at}
+use Rattle.refine_fits.specs.Windows.{window_place, lacking, corners_at}
 use Rattle.refine_fits.specs.declared.Base.{Base}
 use Rattle.refine_fits.specs.StepsTries.{near_zero, pixel_of, base_by, base_at, window_of}
 use Rattle.refine_fits.specs.StepsBases.{corners_about}
