@@ -10,6 +10,7 @@ use Rattle.corners.specs.declared.Corner.{Corner}
 use Rattle.refusals.specs.declared.Refusal.{Refusal}
 use Rattle.merge.specs.declared.Disc.{Disc}
 use Rattle.merge.specs.declared.Cells.{Cells}
+use Rattle.merge.specs.declared.Chains as Lent
 use Rattle.merge.specs.declared.Extent.{Extent}
 use Rattle.merge.specs.Meets.{near, touch, Box, inverse, along}
 use Rattle.merge.specs.Fold.{after_corner, merged}
@@ -45,6 +46,13 @@ Nexts most cs links = (j : ℕ) → j < length cs → get_or cs j 0 < most → g
 pub record Chains (most : ℕ) (cs heads links : List ℕ) : Type 0 where
   pub tops : (c : ℕ) → c < most → get_or heads c 0 ≡ top cs c (length cs)
   pub nexts : Nexts most cs links
+
+-- chains stand in the same heads and links, whatever was written in them
+pub record StillLent (old new : Lent.Chains) : Type 0 where
+  pub same_heads : new.heads.ghost_name ≡ old.heads.ghost_name
+  pub same_links : new.links.ghost_name ≡ old.links.ghost_name
+  pub as_many_heads : length new.heads.now ≡ length old.heads.now
+  pub as_many_links : length new.links.now ≡ length old.links.now
 
 -- a chain from `start` on ends: from `low` on each link is lower than its number
 pub record Falling (links : List ℕ) (low start : ℕ) : Type 0 where

@@ -2,9 +2,10 @@
 ghost use Rattle.std.specs.Prelude.{◌≡◌, ℕ, ◌+◌, ◌*◌, ◌<◌, ◌≤◌, min, length, set, replicate};
 ghost use Rattle.corners.specs.Corners.{corners_of, corner};
 ghost use Rattle.merge.specs.Fold.{merged};
-ghost use Rattle.merge.specs.Steps.{Few, Roomy, Chains, Chained, Among, Joinable, Linked, total, cells_of, column_in, row_in, cell_in, meets_in, Stepped, Passed, Packed};
+ghost use Rattle.merge.specs.Steps as Steps;
+ghost use Rattle.merge.specs.Steps.{Few, Roomy, Chained, Among, Joinable, Linked, total, cells_of, column_in, row_in, cell_in, meets_in, StillLent, Stepped, Passed, Packed};
 
-use crate::{Cells, Disc, chains, list, seek};
+use crate::{Cells, Chains, Disc, list, seek};
 use corners::Corner;
 
 // Only the heads of the grid's cells are cleared before, since a link is written before it is read; all of both after.
@@ -22,22 +23,24 @@ pub fn merge(
     ensures links_after { links.new ≡ replicate (length links.old) 0 }
 {
     heads[..cells.across * cells.down].fill(0);
-    let count = pass(corners, r2, cells, heads, links);
+    let mut chains = Chains { heads, links };
+    let count = pass(corners, r2, cells, &mut chains);
     list::zero_from(corners, 3 * count);
-    heads.fill(0);
-    links.fill(0);
+    chains.heads.fill(0);
+    chains.links.fill(0);
     count
 }
 
 // All corners in order. The chains are those of the first `count`, at every turn.
-fn pass(corners: &mut [f32], r2: f32, cells: Cells, heads: &mut [u16], links: &mut [u16]) -> usize
-    requires few { Few corners.old links.old }
-    requires none_kept { Chained cells corners.old 0 heads.old links.old }
-    ensures { Passed (meets_in cells r2) corners.old result corners.new }
+fn pass(corners: &mut [f32], r2: f32, cells: Cells, chains: &mut Chains) -> usize
+    requires few { Few corners.old chains.old.links.now }
+    requires none_kept { Chained cells corners.old 0 chains.old.heads.now chains.old.links.now }
+    ensures passed { Passed (meets_in cells r2) corners.old result corners.new }
+    ensures lent { StillLent chains.old chains.new }
 {
     let mut count = 0;
     for i in 0..corners.len() / 3 {
-        count = step(corners, i, count, r2, cells, heads, links);
+        count = step(corners, i, count, r2, cells, chains);
     }
     count
 }
@@ -50,16 +53,16 @@ fn step(
     count: usize,
     r2: f32,
     cells: Cells,
-    heads: &mut [u16],
-    links: &mut [u16],
+    chains: &mut Chains,
 ) -> usize
-    requires chained { Chained cells corners.old count heads.old links.old }
+    requires chained { Chained cells corners.old count chains.old.heads.now chains.old.links.now }
     requires ordered { count ≤ i }
     requires in_list { 3 * i + 2 < length corners.old }
     requires small { i < 4096 }
-    requires linked { i < length links.old }
+    requires linked { i < length chains.old.links.now }
     ensures stepped { Stepped (meets_in cells r2) i count (corners_of corners.old) (corners_of corners.new) result }
-    ensures chained { Chained cells corners.new result heads.new links.new }
+    ensures chained { Chained cells corners.new result chains.new.heads.now chains.new.links.now }
+    ensures lent { StillLent chains.old chains.new }
 {
     let new = list::corner(corners, i);
     let column = cells.column(new.x);
@@ -69,15 +72,15 @@ fn step(
         y: new.y,
         r2,
     };
-    let met = seek::lowest(corners, heads, links, cells, column, row, disc, count);
+    let met = seek::lowest(chains, corners, cells, column, row, disc, count);
     let cell = cells.cell(column, row);
     if met < count {
         if corners[3 * met + 2] < new.strength {
-            replace(corners, met, new, cell, cells, heads, links);
+            replace(corners, met, new, cell, cells, chains);
         }
         return count;
     }
-    join(corners, count, new, cell, heads, links);
+    join(corners, count, new, cell, chains);
     count + 1
 }
 
@@ -88,44 +91,39 @@ fn replace(
     new: Corner,
     cell: usize,
     cells: Cells,
-    heads: &mut [u16],
-    links: &mut [u16],
+    chains: &mut Chains,
 )
-    requires kept { Among cells corners.old j heads.old links.old }
+    requires kept { Among cells corners.old j chains.old.heads.now chains.old.links.now }
     requires small { j < 4096 }
     requires in_cell { cell ≡ cell_in cells new }
     ensures corners_after { corners_of corners.new ≡ set (corners_of corners.old) j new }
-    ensures chained { (n : ℕ) → Chained cells corners.old n heads.old links.old → j < n → Chained cells corners.new n heads.new links.new }
+    ensures chained { (n : ℕ) → Chained cells corners.old n chains.old.heads.now chains.old.links.now → j < n → Chained cells corners.new n chains.new.heads.now chains.new.links.now }
+    ensures lent { StillLent chains.old chains.new }
 {
-    leave(corners, j, cells, heads, links);
-    join(corners, j, new, cell, heads, links);
+    leave(corners, j, cells, chains);
+    join(corners, j, new, cell, chains);
 }
 
 // Takes corner j out of its cell's chain.
 #[tactic(auto, using(crate::proofs::GridLaws::column_lt, crate::proofs::GridLaws::row_lt))]
-fn leave(corners: &[f32], j: usize, cells: Cells, heads: &mut [u16], links: &mut [u16])
-    requires { Among cells corners.now j heads.old links.old }
-    ensures { (n : ℕ) → Chained cells corners.now n heads.old links.old → j < n → Chains (total cells) (set (cells_of cells corners.now n) j (total cells)) heads.new links.new }
+fn leave(corners: &[f32], j: usize, cells: Cells, chains: &mut Chains)
+    requires { Among cells corners.now j chains.old.heads.now chains.old.links.now }
+    ensures left { (n : ℕ) → Chained cells corners.now n chains.old.heads.now chains.old.links.now → j < n → Steps.Chains (total cells) (set (cells_of cells corners.now n) j (total cells)) chains.new.heads.now chains.new.links.now }
+    ensures lent { StillLent chains.old chains.new }
 {
     let old = list::corner(corners, j);
     let cell = cells.cell(cells.column(old.x), cells.row(old.y));
-    chains::unlink(heads, links, cell, j);
+    chains.unlink(cell, j);
 }
 
 // Writes corner j, which is in no chain, and puts it into the chain of its cell.
-fn join(
-    corners: &mut [f32],
-    j: usize,
-    new: Corner,
-    cell: usize,
-    heads: &mut [u16],
-    links: &mut [u16],
-)
+fn join(corners: &mut [f32], j: usize, new: Corner, cell: usize, chains: &mut Chains)
     requires in_list { 3 * j + 2 < length corners.old }
-    requires joinable { Joinable heads.old links.old cell j }
+    requires joinable { Joinable chains.old.heads.now chains.old.links.now cell j }
     ensures corners_after { corners_of corners.new ≡ set (corners_of corners.old) j new }
-    ensures linked { Linked heads.old links.old cell j heads.new links.new }
+    ensures linked { Linked chains.old.heads.now chains.old.links.now cell j chains.new.heads.now chains.new.links.now }
+    ensures lent { StillLent chains.old chains.new }
 {
     corners::put(corners, j, new);
-    chains::link(heads, links, cell, j);
+    chains.link(cell, j);
 }

@@ -3,7 +3,7 @@
 #![tactic(auto)]
 
 mod bounds;
-mod chains;
+mod chain;
 mod grid;
 mod list;
 mod scan;
@@ -33,6 +33,13 @@ struct Cells {
     inv: f32,
     across: usize,
     down: usize,
+}
+
+// The chains of the kept corners, one a cell, each from the highest number down, in what is lent for them.
+#[derive(Drop)]
+struct Chains<'a> {
+    heads: &'a mut [u16],
+    links: &'a mut [u16],
 }
 
 // All points within the root of r2 of (x, y).

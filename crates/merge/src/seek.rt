@@ -3,29 +3,28 @@
 ghost use Rattle.std.specs.Prelude.{◌≡◌, ◌+◌, ◌<◌, ◌≤◌, length};
 ghost use Rattle.merge.specs.Steps.{lowest_below, Roomy, Chained, in_one_cell, in_three_cells, in_nine_cells, Noted, SomeNoted, NotedMore, Sought};
 
-use crate::{Cells, Disc, chains};
+use crate::{Cells, Chains, Disc};
 
 // The lowest number in the disc, or `count`.
 pub fn lowest(
+    chains: &Chains,
     corners: &[f32],
-    heads: &[u16],
-    links: &[u16],
     cells: Cells,
     column: usize,
     row: usize,
     disc: Disc,
     count: usize,
 ) -> usize
-    requires chained { Chained cells corners.now count heads.now links.now }
+    requires chained { Chained cells corners.now count chains.now.heads.now chains.now.links.now }
     requires column_in_grid { column < cells.across }
     requires row_in_grid { row < cells.down }
     ensures { result ≡ lowest_below (in_nine_cells cells corners.now disc column row) count count }
 {
     let mut notes = [0usize; 9];
-    let a = note_three(heads, cells, column, row, &mut notes, 0);
-    let b = note_three(heads, cells, column, row + 1, &mut notes, a);
-    let n = note_three(heads, cells, column, row + 2, &mut notes, b);
-    walk_noted(corners, heads, links, &notes, n, disc, count)
+    let a = note_three(chains.heads, cells, column, row, &mut notes, 0);
+    let b = note_three(chains.heads, cells, column, row + 1, &mut notes, a);
+    let n = note_three(chains.heads, cells, column, row + 2, &mut notes, b);
+    walk_noted(chains, corners, &notes, n, disc, count)
 }
 
 // Three cells of a row that is given as one more, so that 0 stands for the one before the first.
@@ -85,20 +84,19 @@ fn note_one(
 
 // The lowest number in the disc of the first n noted cells, or the best number yet where that is lower.
 fn walk_noted(
+    chains: &Chains,
     corners: &[f32],
-    heads: &[u16],
-    links: &[u16],
     notes: &[usize],
     n: usize,
     disc: Disc,
     best: usize,
 ) -> usize
-    requires { SomeNoted corners.now heads.now links.now notes.now n }
-    ensures { Sought corners.now heads.now links.now notes.now n disc best result }
+    requires { SomeNoted corners.now chains.now.heads.now chains.now.links.now notes.now n }
+    ensures { Sought corners.now chains.now.heads.now chains.now.links.now notes.now n disc best result }
 {
     let mut found = best;
     for i in 0..n {
-        found = chains::walk(corners, links, heads[notes[i]] as usize, disc, found);
+        found = chains.walk(corners, chains.heads[notes[i]] as usize, disc, found);
     }
     found
 }

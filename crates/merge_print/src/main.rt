@@ -2,7 +2,6 @@
 // Records are x, y and strength, little-endian binary32 bits, twelve bytes, no header. A read or a write that fails is told on standard error.
 #![tactic(auto)]
 
-use merge::Merge;
 use std::io::{ErrorKind, Read};
 use std::process::ExitCode;
 use std::{fmt, io};
@@ -77,8 +76,8 @@ fn answer(
     }
     merge_text::read_numbers(bytes, &mut list[..n]);
     match merge::merge_corners_simple(&mut list[..n], 2.0, heads, links) {
-        Merge::Merged(count) => print_merged(rt, list, count),
-        Merge::Refused(refusal) => print_refused(rt, u32::from(refusal) as u64),
+        Ok(count) => print_merged(rt, list, count),
+        Err(refusal) => print_refused(rt, u64::from(u32::from(refusal))),
     }
 }
 

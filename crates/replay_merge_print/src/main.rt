@@ -4,7 +4,6 @@
 
 ghost use Rattle.std.specs.Prelude.{◌≤◌};
 
-use merge::Merge;
 use replay::Tally;
 use std::io;
 
@@ -90,11 +89,8 @@ fn merged_stands(
     links: &mut [u16],
 ) -> bool {
     merge_text::read_numbers(bytes, list);
-    let answer = merge::merge_corners_simple(list, 2.0, heads, links);
-    match answer {
-        Merge::Merged(count) => text::corners_stand(case, start, list, count),
-        Merge::Refused(refusal) => {
-            text::refusal_stands(case, start, u32::from(refusal) as u64)
-        }
+    match merge::merge_corners_simple(list, 2.0, heads, links) {
+        Ok(count) => text::corners_stand(case, start, list, count),
+        Err(refusal) => text::refusal_stands(case, start, u64::from(u32::from(refusal))),
     }
 }

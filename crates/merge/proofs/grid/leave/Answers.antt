@@ -11,9 +11,9 @@ unlink-requires c =
     let lies : c.cell-cell.result ≡ cell_in a.cells (corner_at (corners_of a.corners.now) a.j) = c.cell-cell.ensures ∙ cell_of a.cells c.corner-old.result c.column.result c.row.result c.column.ensures c.row.ensures ∙ ap (cell_in a.cells) c.corner-old.ensures in
     kept_member c.requires.1 a.j c.requires.2 c.cell-cell.result lies
 
-pub returns : goal.returns
-returns c =
+pub returns-clause-left : goal.returns-clause-left
+returns-clause-left c =
     λ n k h.
     let a = c.args in
     let lies : c.cell-cell.result ≡ cell_in a.cells (corner_at (corners_of a.corners.now) a.j) = c.cell-cell.ensures ∙ cell_of a.cells c.corner-old.result c.column.result c.row.result c.column.ensures c.row.ensures ∙ ap (cell_in a.cells) c.corner-old.ensures in
-    kept_leaves k a.j h c.cell-cell.result lies c.unlink.new.heads c.unlink.new.links c.unlink.ensures
+    kept_leaves k a.j h c.cell-cell.result lies c.unlink.new.self.heads.now c.unlink.new.self.links.now c.unlink.ensures.unlinked

@@ -11,4 +11,4 @@ pass-count-requires c =
     record { few = c.requires.few; none_kept = none_chained (cleared_roomy r z) (cleared_zero r z) }
 
 pub returns-clause-packed : goal.returns-clause-packed
-returns-clause-packed c = fill_kept c.pass-count.ensures c.pass-count.auto.corners c.zero_from.ensures
+returns-clause-packed c = fill_kept c.pass-count.ensures.passed c.pass-count.auto.corners c.zero_from.ensures

@@ -4,15 +4,14 @@ use Prim.Native.Nat.{◌≤◌}
 use lib.ListN.{length, take, drop}
 use Rattle.corners.specs.Corners.{corners_of}
 use Rattle.merge.specs.Fold.{merge_from, merged}
-use Rattle.merge.specs.Steps.{Chained, meets_in}
+use Rattle.merge.specs.Steps.{Chained, StillLent, meets_in}
 use Rattle.merge.proofs.grid.pass.Given as goal
 
 abbrev pub invariant-loop-i : goal.invariant-loop-i
 invariant-loop-i l = record {
   fewer : l.count ≤ l.i;
   same_length : length l.corners ≡ length l.initial.corners;
-  same_heads : length l.heads ≡ length l.initial.heads;
-  same_links : length l.links ≡ length l.initial.links;
-  chained : Chained l.cells l.corners l.count l.heads l.links;
+  lent : StillLent l.initial.chains l.chains;
+  chained : Chained l.cells l.corners l.count l.chains.heads.now l.chains.links.now;
   so_far : merge_from (meets_in l.cells l.r2) (take l.count (corners_of l.corners)) (drop l.i (corners_of l.corners)) ≡ merged (meets_in l.cells l.r2) (corners_of l.initial.corners);
 }

@@ -19,4 +19,4 @@ walk_noted-requires c = (c.args.cells, c.args.count, c.requires.chained, c.note_
 pub returns : goal.returns
 returns c =
     let a = c.args in
-    nine-noted a.cells a.corners.now a.count a.heads.now a.links.now c.requires.chained a.disc a.count a.column a.row c.walk_noted.result c.note_three-a.ensures c.note_three-b.ensures c.note_three-n.ensures c.walk_noted.ensures
+    nine-noted a.cells a.corners.now a.count a.chains.now.heads.now a.chains.now.links.now c.requires.chained a.disc a.count a.column a.row c.walk_noted.result c.note_three-a.ensures c.note_three-b.ensures c.note_three-n.ensures c.walk_noted.ensures

@@ -31,7 +31,7 @@ walk-found-requires c =
 pub loop-i-preserved : goal.loop-i-preserved
 loop-i-preserved c =
     let a = c.args in
-    λ g m k noted. walk-next g a.corners.now m a.heads.now a.links.now k a.disc a.notes.now a.n c.loop-i.i a.best c.loop-i.found c.walk-found.result noted c.loop-i-test.true c.walk-found.ensures (c.loop-i.invariant g m k noted)
+    λ g m k noted. walk-next g a.corners.now m a.chains.now.heads.now a.chains.now.links.now k a.disc a.notes.now a.n c.loop-i.i a.best c.loop-i.found c.walk-found.result noted c.loop-i-test.true c.walk-found.ensures (c.loop-i.invariant g m k noted)
 
 pub returns : goal.returns
 returns c =

@@ -6,4 +6,4 @@ use Rattle.merge.specs.Steps.{Chained, Noted, lowest_noted}
 use Rattle.merge.proofs.seek.walk_noted.Given as goal
 
 abbrev pub invariant-loop-i : goal.invariant-loop-i
-invariant-loop-i l = (g : Cells) (m : ℕ) → Chained g l.corners m l.heads l.links → Noted g l.notes l.n → l.found ≡ lowest_noted g l.corners m l.disc l.notes l.i l.best
+invariant-loop-i l = (g : Cells) (m : ℕ) → Chained g l.corners m l.chains.heads.now l.chains.links.now → Noted g l.notes l.n → l.found ≡ lowest_noted g l.corners m l.disc l.notes l.i l.best

@@ -7,15 +7,12 @@ use Rattle.merge.specs.Steps.{lowest_below, in_cell, within}
 use Rattle.merge.proofs.ChainLaws.{top-le, walk_start, walk_turn, walk_end}
 use native.Mathlib.Omega.{arith}
 use native.Mathlib.Omega.{arith}
-use Rattle.merge.proofs.chains.walk.Goals as goal
+use Rattle.merge.proofs.Chains.walk.Goals as goal
 
 pub loop-p-init : goal.loop-p-init
 loop-p-init c =
     let a = c.args in
     (le_refl a.from, λ most k cs nexts inside e. walk_start cs k (within a.disc a.corners.now) (length cs) a.from a.best e)
-
-pub overflow_cast-p : goal.overflow_cast-p
-overflow_cast-p c = omega (arith, c.shared_slice_known-in-loop-p-1.given (c.loop-p.p - 1))
 
 pub loop-p-smaller : goal.loop-p-smaller
 loop-p-smaller c =
@@ -26,12 +23,12 @@ pub loop-p-preserved : goal.loop-p-preserved
 loop-p-preserved c =
     let a = c.args in
     let p = c.loop-p.p in
-    let h : get_or a.links.now (p - 1) 0 ≤ p - 1 = c.requires.falling.falls (p - 1) (omega arith) (omega arith) in (
+    let h : get_or a.self.now.links.now (p - 1) 0 ≤ p - 1 = c.requires.falling.falls (p - 1) (omega arith) (omega arith) in (
       omega arith,
       λ most k cs nexts inside e.
           let i = c.loop-p.invariant.1 most k cs nexts inside e in
-          let t = walk_turn most k cs a.links.now (within a.disc a.corners.now) (p - 1) p c.loop-p.found nexts inside (omega arith) i.0 (omega (arith, top-le cs k (length cs))) in
-          (t.0, ap (λ (b : ℕ). lowest_below (in_cell cs k (within a.disc a.corners.now)) (get_or a.links.now (p - 1) 0) b) c.lower-found.ensures ∙ t.1 ∙ i.1),
+          let t = walk_turn most k cs a.self.now.links.now (within a.disc a.corners.now) (p - 1) p c.loop-p.found nexts inside (omega arith) i.0 (omega (arith, top-le cs k (length cs))) in
+          (t.0, ap (λ (b : ℕ). lowest_below (in_cell cs k (within a.disc a.corners.now)) (get_or a.self.now.links.now (p - 1) 0) b) c.lower-found.ensures ∙ t.1 ∙ i.1),
     )
 
 pub returns : goal.returns

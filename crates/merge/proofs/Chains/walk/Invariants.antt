@@ -4,12 +4,12 @@ use mathlib.Core.List.{List}
 use Prim.Native.Nat.{ℕ, ◌≤◌, ◌<◌}
 use lib.ListN.{length}
 use Rattle.merge.specs.Steps.{Nexts, lowest_below, top, in_cell, within}
-use Rattle.merge.proofs.chains.walk.Given as goal
+use Rattle.merge.proofs.Chains.walk.Given as goal
 
 abbrev pub invariant-loop-p : goal.invariant-loop-p
 invariant-loop-p l =
     (l.p ≤ l.from)
-    × ((most c : ℕ) (cs : List ℕ) → Nexts most cs l.links → c < most → l.from ≡ top cs c (length cs)
+    × ((most c : ℕ) (cs : List ℕ) → Nexts most cs l.self.links.now → c < most → l.from ≡ top cs c (length cs)
     → (l.p ≡ top cs c l.p) × (lowest_below (in_cell cs c (within l.disc l.corners)) l.p l.found ≡ lowest_below (in_cell cs c (within l.disc l.corners)) (length cs) l.best))
 
 abbrev pub decreases-loop-p : goal.decreases-loop-p
