@@ -13,7 +13,7 @@ use lib.Ieee.{Float}
 use Rattle.merge.specs.declared.Cells.{Cells}
 use Rattle.merge.specs.declared.Disc.{Disc}
 use Rattle.merge.specs.Steps.{within, lowest_below, in_cell, total, cells_of, Chained, Walked, in_one_cell, in_three_cells, in_nine_cells, lowest_noted, Noted, NotedMore, Sought}
-use Rattle.merge.proofs.GridLaws.{cell-lt, no-column, past-column, walked-in, empty-in, cell-one, no_row, past_row, three-cells, nine-cells}
+use Rattle.merge.proofs.GridLaws.{cell_lt, no-column, past-column, walked-in, empty-in, cell-one, no_row, past_row, three-cells, nine-cells}
 
 -- only the first k notes count
 noted-frame :
@@ -55,7 +55,7 @@ module _ (g : Cells) (heads notes : List ℕ) (k : ℕ) (noted : Noted g notes k
   -- a cell of the grid
   module _ (column row : ℕ) (low : 0 < column) (high : column ≤ g.across) (inside : row < g.down) (own : k < length notes) where
     cell-there : row * g.across + (column - 1) < total g
-    cell-there = cell-lt g.across g.down row (column - 1) inside (omega arith)
+    cell-there = cell_lt g.across g.down row (column - 1) inside (omega arith)
 
     before : (list : List Float) (n : ℕ) (d : Disc) (best : ℕ) → lowest_noted g list n d (set notes k (row * g.across + (column - 1))) k best ≡ lowest_noted g list n d notes k best
     before list n d best = noted-frame g list n d notes (set notes k (row * g.across + (column - 1))) k best (set_before notes k (row * g.across + (column - 1)))

@@ -4,35 +4,22 @@ ghost use Rattle.merge.specs.Steps.{Falling, Walked, Above, Member, Unlinked, Jo
 
 use crate::{Disc, list};
 
-// Zero in every place.
-pub fn clear(s: &mut [u16])
-    ensures { s.new ≡ replicate (length s.old) 0 }
-{
-    let mut i = 0;
-    while i < s.len() {
-        s[i] = 0;
-        i += 1;
-    }
-}
-
 // j where it lies in the disc and is lower than the best number yet. The disc is asked first, so that the choice needs no branch.
 fn lower(corners: &[f32], j: usize, disc: Disc, best: usize) -> usize
     requires { 3 * j + 2 < length corners.now }
     ensures { result ≡ pick disc corners.now j best }
 {
     if list::near(corners, j, disc) {
-        if j < best {
-            return j;
-        }
-        return best;
+        j.min(best)
+    } else {
+        best
     }
-    best
 }
 
 // The lowest number of a chain that lies in the disc, or the best number yet where that is lower.
 pub fn walk(corners: &[f32], links: &[u16], from: usize, disc: Disc, best: usize) -> usize
-    requires fact_1 { Falling links.now 0 from }
-    requires fact_2 { 3 * from ≤ length corners.now }
+    requires falling { Falling links.now 0 from }
+    requires in_list { 3 * from ≤ length corners.now }
     ensures { Walked corners.now links.now from disc best result }
 {
     let mut p = from;
@@ -46,8 +33,8 @@ pub fn walk(corners: &[f32], links: &[u16], from: usize, disc: Disc, best: usize
 
 // The lowest number of a chain that is above j. The chain starts above j.
 fn above(links: &[u16], from: usize, j: usize) -> usize
-    requires fact_1 { Falling links.now (j + 1) from }
-    requires fact_2 { j + 1 < from }
+    requires falling { Falling links.now (j + 1) from }
+    requires above { j + 1 < from }
     ensures { Above links.now from j result }
 {
     let mut q = from - 1;

@@ -16,8 +16,9 @@ pub fn lowest(
     disc: Disc,
     count: usize,
 ) -> usize
-    requires fact_1 { Chained cells corners.now count heads.now links.now }
-    requires fact_2 { (column < cells.across) × (row < cells.down) }
+    requires chained { Chained cells corners.now count heads.now links.now }
+    requires column_in_grid { column < cells.across }
+    requires row_in_grid { row < cells.down }
     ensures { result ≡ lowest_below (in_nine_cells cells corners.now disc column row) count count }
 {
     let mut notes = [0usize; 9];
@@ -36,10 +37,10 @@ fn note_three(
     notes: &mut [usize],
     k: usize,
 ) -> usize
-    requires fact_1 { Roomy cells heads.now }
-    requires fact_2 { column < cells.across }
-    requires fact_3 { Noted cells notes.old k }
-    requires fact_4 { k + 3 ≤ length notes.old }
+    requires roomy { Roomy cells heads.now }
+    requires column_in_grid { column < cells.across }
+    requires noted { Noted cells notes.old k }
+    requires room_for_three { k + 3 ≤ length notes.old }
     ensures { NotedMore 3 cells heads.now (λ list d. in_three_cells cells list d column row) notes.old k notes.new result }
 {
     if row == 0 {
@@ -62,10 +63,10 @@ fn note_one(
     notes: &mut [usize],
     k: usize,
 ) -> usize
-    requires fact_1 { Roomy cells heads.now }
-    requires fact_2 { row < cells.down }
-    requires fact_3 { Noted cells notes.old k }
-    requires fact_4 { k < length notes.old }
+    requires roomy { Roomy cells heads.now }
+    requires row_in_grid { row < cells.down }
+    requires noted { Noted cells notes.old k }
+    requires room_for_one { k < length notes.old }
     ensures { NotedMore 1 cells heads.now (λ list d. in_one_cell cells list d column row) notes.old k notes.new result }
 {
     if column == 0 {
@@ -74,7 +75,7 @@ fn note_one(
     if cells.across < column {
         return k;
     }
-    let c = row * cells.across + (column - 1);
+    let c = cells.cell(column - 1, row);
     notes[k] = c;
     if heads[c] == 0 {
         return k;
@@ -96,12 +97,8 @@ fn walk_noted(
     ensures { Sought corners.now heads.now links.now notes.now n disc best result }
 {
     let mut found = best;
-    let mut i = 0;
-    while i < n {
-        let c = notes[i];
-        let head = heads[c] as usize;
-        found = chains::walk(corners, links, head, disc, found);
-        i += 1;
+    for i in 0..n {
+        found = chains::walk(corners, links, heads[notes[i]] as usize, disc, found);
     }
     found
 }

@@ -14,21 +14,21 @@ pub loop-next-init : goal.loop-next-init
 loop-next-init c = (omega arith, omega arith, refl, λ most k cs nexts inside e. top-hit cs k (length cs) (c.args.from - 1) (omega arith))
 
 pub offset_bounds-links-q-in-loop-next : goal.offset_bounds-links-q-in-loop-next
-offset_bounds-links-q-in-loop-next c = let h = c.requires.fact_1.falls c.loop-next.q (omega arith) (omega arith) in omega arith
+offset_bounds-links-q-in-loop-next c = let h = c.requires.falling.falls c.loop-next.q (omega arith) (omega arith) in omega arith
 
 pub bounds-links-q-in-loop-next : goal.bounds-links-q-in-loop-next
-bounds-links-q-in-loop-next c = let h = c.requires.fact_1.falls c.loop-next.q (omega arith) (omega arith) in omega arith
+bounds-links-q-in-loop-next c = let h = c.requires.falling.falls c.loop-next.q (omega arith) (omega arith) in omega arith
 
 pub overflow_cast-next-in-loop-next : goal.overflow_cast-next-in-loop-next
 overflow_cast-next-in-loop-next c = omega (arith, c.shared_slice_known-in-loop-next-1.given (c.loop-next.next - 1))
 
 pub loop-next-smaller : goal.loop-next-smaller
-loop-next-smaller c = let h = c.requires.fact_1.falls c.loop-next.q (omega arith) (omega arith) in omega arith
+loop-next-smaller c = let h = c.requires.falling.falls c.loop-next.q (omega arith) (omega arith) in omega arith
 
 pub loop-next-preserved : goal.loop-next-preserved
 loop-next-preserved c =
     let q = c.loop-next.q in
-    let h = c.requires.fact_1.falls q (omega arith) (omega arith) in (
+    let h = c.requires.falling.falls q (omega arith) (omega arith) in (
       omega arith,
       omega arith,
       refl,

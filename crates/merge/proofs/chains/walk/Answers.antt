@@ -19,14 +19,14 @@ overflow_cast-p c = omega (arith, c.shared_slice_known-in-loop-p-1.given (c.loop
 
 pub loop-p-smaller : goal.loop-p-smaller
 loop-p-smaller c =
-    let h = c.requires.fact_1.falls (c.loop-p.p - 1) (omega arith) (omega arith) in
+    let h = c.requires.falling.falls (c.loop-p.p - 1) (omega arith) (omega arith) in
     omega arith
 
 pub loop-p-preserved : goal.loop-p-preserved
 loop-p-preserved c =
     let a = c.args in
     let p = c.loop-p.p in
-    let h : get_or a.links.now (p - 1) 0 ≤ p - 1 = c.requires.fact_1.falls (p - 1) (omega arith) (omega arith) in (
+    let h : get_or a.links.now (p - 1) 0 ≤ p - 1 = c.requires.falling.falls (p - 1) (omega arith) (omega arith) in (
       omega arith,
       λ most k cs nexts inside e.
           let i = c.loop-p.invariant.1 most k cs nexts inside e in

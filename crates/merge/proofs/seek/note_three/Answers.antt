@@ -1,5 +1,5 @@
 -- `merge::seek::note_three` meets its contract: beyond the grid there is nothing to note, and inside three cells are gone through.
-use Rattle.merge.proofs.GridLaws.{across-room}
+use Rattle.merge.proofs.GridLaws.{across_room}
 use Rattle.merge.proofs.NoteLaws.{note-no-row, note-past-row, note-three}
 use native.Mathlib.Omega.{arith}
 use Rattle.merge.proofs.seek.note_three.Goals as goal
@@ -7,24 +7,24 @@ use Rattle.merge.proofs.seek.note_three.Goals as goal
 pub returns-then-row-eq0 : goal.returns-then-row-eq0
 returns-then-row-eq0 c =
     let a = c.args in
-    note-no-row a.cells a.heads.now a.notes.now a.k c.requires.fact_3 a.column a.row c.if-row-eq0.true
+    note-no-row a.cells a.heads.now a.notes.now a.k c.requires.noted a.column a.row c.if-row-eq0.true
 
 pub returns-then-cells-row : goal.returns-then-cells-row
 returns-then-cells-row c =
     let a = c.args in
-    note-past-row a.cells a.heads.now a.notes.now a.k c.requires.fact_3 a.column a.row c.if-cells-row.true
+    note-past-row a.cells a.heads.now a.notes.now a.k c.requires.noted a.column a.row c.if-cells-row.true
 
 pub note_one-a-requires : goal.note_one-a-requires
-note_one-a-requires c = record { fact_1 = c.requires.fact_1; fact_2 = omega arith; fact_3 = c.requires.fact_3; fact_4 = omega arith }
+note_one-a-requires c = record { roomy = c.requires.roomy; row_in_grid = omega arith; noted = c.requires.noted; room_for_one = omega arith }
 
 pub note_one-b-requires : goal.note_one-b-requires
-note_one-b-requires c = record { fact_1 = c.requires.fact_1; fact_2 = omega arith; fact_3 = c.note_one-a.ensures.noted; fact_4 = omega arith }
+note_one-b-requires c = record { roomy = c.requires.roomy; row_in_grid = omega arith; noted = c.note_one-a.ensures.noted; room_for_one = omega arith }
 
 pub overflow_add-column-2 : goal.overflow_add-column-2
-overflow_add-column-2 c = omega (arith, across-room c.args.cells c.requires.fact_1)
+overflow_add-column-2 c = omega (arith, across_room c.args.cells c.requires.roomy)
 
 pub note_one-requires : goal.note_one-requires
-note_one-requires c = record { fact_1 = c.requires.fact_1; fact_2 = omega arith; fact_3 = c.note_one-b.ensures.noted; fact_4 = omega arith }
+note_one-requires c = record { roomy = c.requires.roomy; row_in_grid = omega arith; noted = c.note_one-b.ensures.noted; room_for_one = omega arith }
 
 pub returns : goal.returns
 returns c =
