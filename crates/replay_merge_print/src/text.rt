@@ -39,5 +39,5 @@ fn is_last(text: &[u8], word: &[u8], n: u64) -> Option<bool> {
     let mut digits = [0u8; 20];
     let k = io::decimal(n, &mut digits);
     let rest = text.strip_prefix(word)?.strip_prefix(&digits[..k])?;
-    Some(rest == b"\n")
+    Some(rest == b"\n".as_slice())
 }
