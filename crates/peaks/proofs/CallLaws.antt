@@ -11,10 +11,9 @@ use borrow.Author.Tests.{lt-leb, le-leb, leb-true, lt-ltb, le-ltb}
 use Rattle.corners.specs.Corners.{whole}
 use Rattle.imageview.specs.Image.{sizes_fit}
 use Rattle.imageview.proofs.ImageLaws.{counted}
-use Rattle.peaks.specs.declared.Peaks.{Peaks}
 use Rattle.refusals.specs.declared.Refusal.{Refusal}
 use Rattle.refusals.specs.declared.Refusal.TheVariants.{BadImage, BadRadius, BadLimit, BadLength, TooMany}
-use Rattle.peaks.specs.declared.Peaks.TheVariants.{Found, Refused}
+use Rattle.std.specs.Prelude.{Result, Ok, Err}
 use Rattle.peaks.specs.Peak.{Scan}
 use Rattle.peaks.specs.Call.{Way, refused, found, peaks_of, radii_fit, way_of, answer_of, out_after, Done}
 use Rattle.peaks.specs.Steps.{Sound, all_recorded, rest_of, Recorded}
@@ -126,10 +125,10 @@ module _ (s : Scan) (room : ℕ) where
           way-rest = is-limited ∙ ap (λ (z : Bool). cond (not z) (refused BadLength) (rest_of s room)) records
 
 -- ---- what a way leaves behind
-pub done_refused : {s : Scan} {out : List Float} {r : Refusal} → way_of s (length out) ≡ refused r → Done s out (Refused r) out
+pub done_refused : {s : Scan} {out : List Float} {r : Refusal} → way_of s (length out) ≡ refused r → Done s out (Err r) out
 done_refused {s} {out} e = record { answers = sym (ap answer_of e); leaves = sym (ap (out_after s out) e) }
 
-pub done-rest : {s : Scan} {out out' : List Float} {answer : Peaks} → way_of s (length out) ≡ rest_of s (length out) → Recorded s out answer out' → Done s out answer out'
+pub done-rest : {s : Scan} {out out' : List Float} {answer : Result ℕ Refusal} → way_of s (length out) ≡ rest_of s (length out) → Recorded s out answer out' → Done s out answer out'
 done-rest {s} {out} e t = record { answers = t.answers ∙ sym (ap answer_of e); leaves = t.leaves ∙ sym (ap (out_after s out) e) }
 
 -- ---- the last test, of the room for the peaks
@@ -137,12 +136,12 @@ module _ (s : Scan) (out : List Float) where
   abbrev rest : Bool → Way
   rest b = cond b (refused TooMany) (found (peaks_of s))
 
-  pub recorded-none : length out / 3 < length (peaks_of s) → Recorded s out (Refused TooMany) out
+  pub recorded-none : length out / 3 < length (peaks_of s) → Recorded s out (Err TooMany) out
   recorded-none h =
       let e = ap rest (lt-ltb (length out / 3) (length (peaks_of s)) h) in
       record { answers = sym (ap answer_of e); leaves = sym (ap (out_after s out) e) }
 
-  pub recorded-all : {out' : List Float} {n : ℕ} → n ≤ length out / 3 → n ≡ length (peaks_of s) → out' ≡ all_recorded s out → Recorded s out (Found n) out'
+  pub recorded-all : {out' : List Float} {n : ℕ} → n ≤ length out / 3 → n ≡ length (peaks_of s) → out' ≡ all_recorded s out → Recorded s out (Ok n) out'
   recorded-all h f g =
       let e = ap rest (le-ltb (length out / 3) (length (peaks_of s)) (subst (λ (m : ℕ). m ≤ length out / 3) f h)) in
-      record { answers = ap Found f ∙ sym (ap answer_of e); leaves = g ∙ sym (ap (out_after s out) e) }
+      record { answers = ap Ok f ∙ sym (ap answer_of e); leaves = g ∙ sym (ap (out_after s out) e) }

@@ -1,9 +1,9 @@
 -- What the steps below the public call promise each other.
-use Rattle.std.specs.Prelude.{◌≡◌, Bool, true, false, ◌&&◌, cond, List, [], ◌∷◌, ◌++◌, ℕ, zero, suc, ◌+◌, ◌-◌, ◌*◌, ◌/◌, ◌%◌, ◌≤◌, ◌<◌, ltb, length, get_or, take, drop, Float}
+use Rattle.std.specs.Prelude.{◌≡◌, Bool, true, false, ◌&&◌, cond, List, [], ◌∷◌, ◌++◌, ℕ, zero, suc, ◌+◌, ◌-◌, ◌*◌, ◌/◌, ◌%◌, ◌≤◌, ◌<◌, ltb, length, get_or, take, drop, Float, Result}
 use Rattle.std.specs.Float.Ieee.{lt, le}
 use Rattle.shapes.specs.Numbers.{entry}
+use Rattle.refusals.specs.declared.Refusal.{Refusal}
 use Rattle.refusals.specs.declared.Refusal.TheVariants.{TooMany}
-use Rattle.peaks.specs.declared.Peaks.{Peaks}
 use Rattle.peaks.specs.declared.Rule.{Rule}
 use Rattle.shapes.specs.Tests.{every, some}
 use Rattle.peaks.specs.Peak.{Scan, border, floor_of, inside, beats_at}
@@ -208,6 +208,6 @@ all_recorded s out = records_of s (peaks_of s) ++ drop (3 * length (peaks_of s))
 abbrev pub rest_of : Scan → ℕ → Way
 rest_of s room = cond (ltb (room / 3) (length (peaks_of s))) (refused TooMany) (found (peaks_of s))
 
-pub record Recorded (s : Scan) (out : List Float) (answer : Peaks) (out' : List Float) : Type 0 where
+pub record Recorded (s : Scan) (out : List Float) (answer : Result ℕ Refusal) (out' : List Float) : Type 0 where
   pub answers : answer ≡ answer_of (rest_of s (length out))
   pub leaves : out' ≡ out_after s out (rest_of s (length out))

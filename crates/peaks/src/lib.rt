@@ -10,13 +10,6 @@ mod window;
 
 use refusals::Refusal;
 
-// How the scan ended.
-#[derive(Drop)]
-pub enum Peaks {
-    Found(usize),
-    Refused(Refusal),
-}
-
 // The sizes of a response and the settings.
 #[derive(Clone, Copy)]
 struct Rule {
@@ -47,20 +40,20 @@ pub fn detect_peaks_from_response_with_refine_radius(
     threshold: f32,
     min_cluster_size: u32,
     out: &mut [f32],
-) -> Peaks
+) -> Result<usize, Refusal>
     ensures { Done (record { values = response.now; width = width; height = height; ring = ring_radius; window = window_radius; refine = refine_radius; threshold = threshold; cluster = min_cluster_size }) out.old result out.new }
 {
     if !imageview::fits(response.len(), width, height) {
-        return Peaks::Refused(Refusal::BadImage);
+        return Err(Refusal::BadImage);
     }
     if !radii_fit(ring_radius, window_radius, refine_radius) {
-        return Peaks::Refused(Refusal::BadRadius);
+        return Err(Refusal::BadRadius);
     }
     if !floats::is_finite_f32(threshold) {
-        return Peaks::Refused(Refusal::BadLimit);
+        return Err(Refusal::BadLimit);
     }
     if !corners::is_whole(out.len()) {
-        return Peaks::Refused(Refusal::BadLength);
+        return Err(Refusal::BadLength);
     }
     let rule = Rule {
         width,

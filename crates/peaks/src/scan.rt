@@ -8,7 +8,7 @@ ghost use Rattle.peaks.specs.Peak.{is_peak};
 ghost use Rattle.peaks.specs.Call.{peak_at, peaks_of};
 ghost use Rattle.peaks.specs.Steps.{scan_of, Sound, Limited, most_of, Bordered, InsideBorder, between, picked, Added, Within, Part, Noted, Stands, Pixels, Follow, Written, all_recorded, Recorded};
 
-use crate::{Listed, Peaks, Rule, gather, window};
+use crate::{Listed, Rule, gather, window};
 use corners::Corner;
 use refusals::Refusal;
 
@@ -158,7 +158,7 @@ fn most_peaks(rule: Rule) -> usize
 
 // Writes the records of all peaks where there is room for them. Where there is room for any number, the peaks are sought once; else the first are
 // noted while they are counted, and those past the notes are sought again.
-pub fn record_all(response: &[f32], rule: Rule, out: &mut [f32]) -> Peaks
+pub fn record_all(response: &[f32], rule: Rule, out: &mut [f32]) -> Result<usize, Refusal>
     requires { Sound (scan_of response.now rule) }
     ensures { Recorded (scan_of response.now rule) out.old result out.new }
 {
@@ -166,17 +166,17 @@ pub fn record_all(response: &[f32], rule: Rule, out: &mut [f32]) -> Peaks
     let mut list = [0u32; 1280];
     if most_peaks(rule) <= room {
         let count = write(response, rule, 0, 0, &mut list, out);
-        return Peaks::Found(count);
+        return Ok(count);
     }
     let noted = note(response, rule, &mut list);
     let n = noted.count;
     let at = noted.at;
     if room < tally(response, rule, n, at, &mut list) {
-        return Peaks::Refused(Refusal::TooMany);
+        return Err(Refusal::TooMany);
     }
     write_listed(response, rule, &list, n, 0, out);
     let count = write(response, rule, n, at, &mut list, out);
-    Peaks::Found(count)
+    Ok(count)
 }
 
 // Lists the first peaks, up to 1,024.
