@@ -3,3 +3,4 @@ pub mod Peak
 pub mod Call
 pub mod Claims
 pub mod Steps
+pub mod Listed

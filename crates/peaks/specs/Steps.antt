@@ -7,6 +7,7 @@ use Rattle.refusals.specs.declared.Refusal.TheVariants.{TooMany}
 use Rattle.peaks.specs.declared.Rule.{Rule}
 use Rattle.shapes.specs.Tests.{every, some}
 use Rattle.peaks.specs.Peak.{Scan, border, floor_of, inside, beats_at}
+use Rattle.peaks.specs.Listed.{between, picked}
 use Rattle.peaks.specs.Call.{chosen, peak_at, peaks_of, records_of, Way, refused, found, answer_of, out_after}
 
 -- a response and the rule by which it is scanned
@@ -73,16 +74,6 @@ pub record Bordered (s : Scan) (floor : Float) (y start n : ℕ) : Type 0 where
   pub floor-is : floor ≡ floor_of s
 
 -- ---- lists of pixels
--- the n numbers from k on that have p, in order
-unfoldable pub between : ℕ → ℕ → (ℕ → Bool) → List ℕ
-between k zero p = []
-between k (suc n) p = between k n p ++ cond (p (k + n)) ((k + n) ∷ []) []
-
--- those of a list that have p
-unfoldable pub picked : List ℕ → (ℕ → Bool) → List ℕ
-picked [] p = []
-picked (k ∷ l) p = cond (p k) (k ∷ []) [] ++ picked l p
-
 -- a list of which m elements were used has r in use, the last of them `more`
 pub record Added (list list' : List ℕ) (m r : ℕ) (more : List ℕ) : Type 0 where
   pub long : length list' ≡ length list

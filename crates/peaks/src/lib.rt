@@ -5,6 +5,7 @@ ghost use Rattle.std.specs.Prelude.{◌≡◌, ◌&&◌, leb};
 ghost use Rattle.peaks.specs.Call.{Done};
 
 mod gather;
+mod list;
 mod scan;
 mod window;
 
