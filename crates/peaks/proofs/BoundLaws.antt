@@ -13,7 +13,8 @@ use lib.ListN.{length, length-append}
 use borrow.Author.Tests.{leb-true, ltb-true, eqb-true, eq-eqb, ne_eqb}
 use Rattle.peaks.specs.Peak.{Scan, border, inside, is_peak}
 use Rattle.peaks.specs.Call.{chosen, peak_at, peaks_of}
-use Rattle.peaks.specs.Steps.{Sound, covers}
+use Rattle.peaks.specs.Sound.{Sound}
+use Rattle.peaks.specs.Steps.{covers}
 use Rattle.shapes.proofs.TestLaws.{first_of, second-of}
 use Rattle.peaks.proofs.Theorems.{is-inside, peaks-apart}
 

@@ -16,50 +16,9 @@ use Rattle.refusals.specs.declared.Refusal.TheVariants.{BadImage, BadRadius, Bad
 use Rattle.std.specs.Prelude.{Result, Ok, Err}
 use Rattle.peaks.specs.Peak.{Scan}
 use Rattle.peaks.specs.Call.{Way, refused, found, peaks_of, radii_fit, way_of, answer_of, out_after, Done}
-use Rattle.peaks.specs.Steps.{Sound, all_recorded, rest_of, Recorded}
+use Rattle.peaks.specs.Sound.{Sound}
+use Rattle.peaks.specs.Steps.{all_recorded, rest_of, Recorded}
 use Rattle.shapes.proofs.TestLaws.{first_of, second-of}
-
--- ---- the test of the radii
-abbrev five : Bool → Bool → Bool → Bool → Bool → Bool
-five a b c d e = a && b && c && d && e
-
-second : (a c d e : Bool) → five a false c d e ≡ false
-second true c d e = refl
-second false c d e = refl
-
-third : (a b d e : Bool) → five a b false d e ≡ false
-third a b d e = ap (λ (z : Bool). z && d && e) (and-false (a && b))
-
-fourth : (a b c e : Bool) → five a b c false e ≡ false
-fourth a b c e = ap (λ (z : Bool). z && e) (and-false (a && b && c))
-
-module _ (ring window refine : ℕ) where
-  abbrev fits : Bool
-  fits = five (leb 1 ring) (leb ring 10) (leb 1 window) (leb window 8) (leb refine 7)
-
-  pub no-ring : ring < 1 → false ≡ fits
-  no-ring h = sym (ap (λ (z : Bool). five z (leb ring 10) (leb 1 window) (leb window 8) (leb refine 7)) (lt-leb 1 ring h))
-
-  pub wide-ring : 10 < ring → false ≡ fits
-  wide-ring h = sym (ap (λ (z : Bool). five (leb 1 ring) z (leb 1 window) (leb window 8) (leb refine 7)) (lt-leb ring 10 h) ∙ second (leb 1 ring) (leb 1 window) (leb window 8) (leb refine 7))
-
-  pub no-window : window < 1 → false ≡ fits
-  no-window h = sym (ap (λ (z : Bool). five (leb 1 ring) (leb ring 10) z (leb window 8) (leb refine 7)) (lt-leb 1 window h) ∙ third (leb 1 ring) (leb ring 10) (leb window 8) (leb refine 7))
-
-  pub wide-window : 8 < window → false ≡ fits
-  wide-window h = sym (ap (λ (z : Bool). five (leb 1 ring) (leb ring 10) (leb 1 window) z (leb refine 7)) (lt-leb window 8 h) ∙ fourth (leb 1 ring) (leb ring 10) (leb 1 window) (leb refine 7))
-
-  pub by-refine : 1 ≤ ring → ring ≤ 10 → 1 ≤ window → window ≤ 8 → leb refine 7 ≡ fits
-  by-refine a b c d =
-      sym (ap (λ (z : Bool). five z (leb ring 10) (leb 1 window) (leb window 8) (leb refine 7)) (le-leb 1 ring a)
-      ∙ ap (λ (z : Bool). five true z (leb 1 window) (leb window 8) (leb refine 7)) (le-leb ring 10 b)
-      ∙ ap (λ (z : Bool). five true true z (leb window 8) (leb refine 7)) (le-leb 1 window c)
-      ∙ ap (λ (z : Bool). five true true true z (leb refine 7)) (le-leb window 8 d))
-
--- the parameters of the call
-abbrev pub scan_for : List Float → ℕ → ℕ → ℕ → ℕ → ℕ → Float → ℕ → Scan
-scan_for values width height ring window refine threshold cluster =
-    record { values = values; width = width; height = height; ring = ring; window = window; refine = refine; threshold = threshold; cluster = cluster }
 
 -- what the tests leave
 pub sound : (s : Scan) → sizes_fit (length s.values) s.width s.height ≡ true → radii_fit s ≡ true → Sound s

@@ -2,5 +2,6 @@
 pub mod Peak
 pub mod Call
 pub mod Claims
-pub mod Steps
+pub mod Sound
 pub mod Listed
+pub mod Steps

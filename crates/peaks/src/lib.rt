@@ -2,6 +2,7 @@
 #![tactic(auto)]
 
 ghost use Rattle.std.specs.Prelude.{◌≡◌, ◌&&◌, leb};
+ghost use Rattle.peaks.specs.Sound.{scan_for, Sound};
 ghost use Rattle.peaks.specs.Call.{Done};
 
 mod gather;
@@ -11,9 +12,10 @@ mod window;
 
 use refusals::Refusal;
 
-// The sizes of a response and the settings.
+// A response and the settings by which it is scanned, as the public call has tested them.
 #[derive(Clone, Copy)]
-struct Rule {
+struct Response<'a> {
+    values: &'a [f32],
     width: usize,
     height: usize,
     ring: usize,
@@ -21,13 +23,7 @@ struct Rule {
     refine: usize,
     threshold: f32,
     cluster: u32,
-}
-
-// How many pixels are listed, and the pixel from which to go on.
-#[derive(Drop)]
-struct Listed {
-    count: usize,
-    at: usize,
+    ghost sound: { Sound (scan_for values.now width height ring window refine threshold cluster) },
 }
 
 // Writes x, y and value of every peak of the response, by row; the rest of the output stays.
@@ -56,7 +52,8 @@ pub fn detect_peaks_from_response_with_refine_radius(
     if !corners::is_whole(out.len()) {
         return Err(Refusal::BadLength);
     }
-    let rule = Rule {
+    let response = Response {
+        values: response,
         width,
         height,
         ring: ring_radius,
@@ -65,24 +62,12 @@ pub fn detect_peaks_from_response_with_refine_radius(
         threshold,
         cluster: min_cluster_size,
     };
-    scan::record_all(response, rule, out)
+    response.record_all(out)
 }
 
 // The test of the three radii.
 fn radii_fit(ring: usize, window: usize, refine: usize) -> bool
     ensures { result ≡ (leb 1 ring && leb ring 10 && leb 1 window && leb window 8 && leb refine 7) }
 {
-    if ring < 1 {
-        return false;
-    }
-    if 10 < ring {
-        return false;
-    }
-    if window < 1 {
-        return false;
-    }
-    if 8 < window {
-        return false;
-    }
-    refine <= 7
+    (1 <= ring) & (ring <= 10) & (1 <= window) & (window <= 8) & (refine <= 7)
 }
