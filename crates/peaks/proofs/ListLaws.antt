@@ -25,9 +25,9 @@ grown : (l : List ℕ) (b : Bool) (k n : ℕ) → length l ≤ n → length (l +
 grown l true k n h = omega (arith, length-append l (k ∷ []))
 grown l false k n h = omega (arith, length-append l [])
 
-pub cond-most : (b : Bool) → from_bool b ≤ 1
-cond-most true = omega arith
-cond-most false = omega arith
+pub bit-most : (b : Bool) → from_bool b ≤ 1
+bit-most true = omega arith
+bit-most false = omega arith
 
 pub length-taken : (n : ℕ) (list : List ℕ) → n ≤ length list → length (take n list) ≡ n
 length-taken n list h = length-take-le n list h
@@ -187,3 +187,15 @@ pub kept-all : (answers : ℕ → Bool → Type 0) (p : ℕ → Bool) {list list
     → TellsListed answers p list' first → now ≡ take first list' ++ picked (drop first list') p
 kept-all answers p {list} {list'} {now} first i e h f =
     subst (λ (z : List ℕ). TellsListed answers p z first → now ≡ take first z ++ picked (drop first z) p) e (λ t. f t ∙ ap (λ (z : List ℕ). take first list ++ picked (drop first z) p) (take_all i list h))
+
+-- what is picked of what was added behind a list
+pub picked-behind : (front new : List ℕ) {list list' : List ℕ} (p : ℕ → Bool) (n : ℕ) → n ≡ length front → list ≡ front ++ new → list' ≡ take n list ++ picked (drop n list) p → list' ≡ front ++ picked new p
+picked-behind front new p n e f g =
+    g ∙ ap (λ (z : List ℕ). take n z ++ picked (drop n z) p) f ∙ ap (λ (z : List ℕ). z ++ picked (drop n (front ++ new)) p) (take_at front new n (sym e)) ∙ ap (λ (z : List ℕ). front ++ picked z p) (drop_at front new n (sym e))
+
+-- a number of what was added
+pub behind-at : (front new : List ℕ) {list : List ℕ} (n i : ℕ) → n ≡ length front → list ≡ front ++ new → n ≤ i → i < length list → (get_or list i 0 ≡ get_or new (i - n) 0) × (i - n < length new)
+behind-at front new n i e f h l = (
+  ap (λ (z : List ℕ). get_or z i 0) f ∙ ap (λ (j : ℕ). get_or (front ++ new) j 0) (let q : i ≡ length front + (i - n) = omega arith in q) ∙ get_or-append-add front new (i - n) 0,
+  let q = ap length f ∙ length-append front new in omega arith,
+)

@@ -1,6 +1,6 @@
 -- `peaks::list::Listed::add` meets its contract.
 use Rattle.std.proofs.Common.{◌≡◌, sym, ap, ◌∙◌, ◌+◌, ◌<◌, ℕ, Bool, List, ◌++◌, append-nil, length, take, arith, length-take}
-use Rattle.peaks.proofs.ListLaws.{between_none, added-more, cond-most, length-taken}
+use Rattle.peaks.proofs.ListLaws.{between_none, added-more, bit-most, length-taken}
 use Rattle.peaks.proofs.list.Listed.add.Goals as goal
 
 pub loop-i-init : goal.loop-i-init
@@ -16,7 +16,7 @@ loop-i-preserved g c =
     let e : length a.self.now ≡ c.self.inside.len = ap length (sym c.self.view_is) ∙ length-taken c.self.inside.len c.self.inside.numbers (omega (arith, c.self.told, c.self.invariant)) in
     let room : l.len < length l.self-inside.numbers = omega (arith, e, l.invariant.few, h, c.requires.room) in
     record {
-      few = omega (arith, l.invariant.few, c.from-len.ensures, cond-most c.passes.result);
+      few = omega (arith, l.invariant.few, c.from-len.ensures, bit-most c.passes.result);
       added =
           λ p t.
           added-more p l.self-inside.numbers l.len c.from-len.ensures room (take c.self.inside.len c.self.inside.numbers) a.from l.i

@@ -1,6 +1,6 @@
 -- `peaks::list::Listed::retain` meets its contract.
 use Rattle.std.proofs.Common.{◌≡◌, refl, sym, ap, ◌∙◌, ◌+◌, ◌<◌, ◌≤◌, ℕ, Bool, List, length, get_or, take, arith}
-use Rattle.peaks.proofs.ListLaws.{kept-none, kept-more, kept-all, kept_at, to_come, cond-most, length-taken, taken-at, take-again}
+use Rattle.peaks.proofs.ListLaws.{kept-none, kept-more, kept-all, kept_at, to_come, bit-most, length-taken, taken-at, take-again}
 use Rattle.peaks.proofs.list.Listed.retain.Goals as goal
 
 pub loop-i-init : goal.loop-i-init
@@ -32,7 +32,7 @@ loop-i-preserved g c =
     let k : get_or l.self-inside.numbers l.i 0 ≡ get_or old l.i 0 = kept_at i.numbers l.self-inside.numbers l.i l.invariant.to_come ∙ sym (taken-at i.len i.numbers l.i c.loop-i-test.true) in
     let within : l.i < length old = omega (arith, e, h) in
     record {
-      few = omega (arith, l.invariant.few, c.from-len.ensures, cond-most c.passes.result);
+      few = omega (arith, l.invariant.few, c.from-len.ensures, bit-most c.passes.result);
       to_come = to_come i.numbers l.self-inside.numbers l.len l.i (get_or l.self-inside.numbers l.i 0) l.invariant.few l.invariant.to_come;
       kept =
           λ p t.
