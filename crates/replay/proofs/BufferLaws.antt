@@ -1,5 +1,5 @@
 -- A list that is written over from the front, and tests of every element and of every number from a place on.
-use Rattle.std.proofs.Common.{◌≡◌, refl, sym, ap, ◌∙◌, Bool, true, false, cond, List, [], ◌∷◌, ℕ, zero, suc, ◌+◌, ◌-◌, ◌≤◌, ◌<◌, length, drop, get_or, slice_set, arith}
+use Rattle.std.proofs.Common.{◌≡◌, refl, sym, ap, ◌∙◌, Bool, true, false, cond, List, [], ◌∷◌, ℕ, zero, suc, ◌+◌, ◌-◌, ◌≤◌, ◌<◌, length, drop, get_or, slice_index, slice_set, arith}
 use native.Mathlib.Nat.{not-suc-le-zero, le_of_suc-le-suc, zero-add}
 use native.Mathlib.Numerals.{add-one}
 use Rattle.replay.specs.Buffers.{over, every, every_at}
@@ -71,3 +71,15 @@ all_end p i l h = past i i l h
     past (suc i) k [] h = refl
     past zero k (a ∷ l) h = absurd (not-suc-le-zero h)
     past (suc i) k (a ∷ l) h = past i k l (le_of_suc-le-suc h)
+
+-- ---- the same of whole numbers
+number_here : (l : List ℕ) (i : ℕ) → i < length l → slice_index l i ≡ get_or l i (slice_index l i)
+number_here [] i h = absurd (not-suc-le-zero h)
+number_here (a ∷ l) zero h = refl
+number_here (a ∷ l) (suc i) h = number_here l i (le_of_suc-le-suc h)
+
+pub numbers_more : (p : ℕ → ℕ → Bool) (i : ℕ) (l : List ℕ) → i < length l → p i (slice_index l i) ≡ true → every_at p i (drop i l) ≡ every_at p (i + 1) (drop (i + 1) l)
+numbers_more p i l h e = all_more p i l (slice_index l i) h (number_here l i h) e
+
+pub numbers_fail : (p : ℕ → ℕ → Bool) (i : ℕ) (l : List ℕ) → i < length l → p i (slice_index l i) ≡ false → every_at p i (drop i l) ≡ false
+numbers_fail p i l h e = all_fails p i l (slice_index l i) h (number_here l i h) e

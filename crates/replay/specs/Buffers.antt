@@ -1,7 +1,7 @@
 -- What a buffer holds before a call and what it is judged by after it: words of the case, and behind them paint or zeros.
 -- A buffer's numbers are known by `word`, the word that one is stored as, `number`, the number that a word stands for, and `mark`, the word of the paint at
 -- a place.
-use Rattle.std.specs.Prelude.{Bool, true, false, cond, ◌&&◌, List, [], ◌∷◌, ℕ, zero, suc, ◌+◌, ◌-◌, ◌*◌, ◌%◌, eqb, ltb, Float, length}
+use Rattle.std.specs.Prelude.{Bool, true, false, cond, ◌&&◌, List, [], ◌∷◌, ℕ, zero, suc, ◌+◌, ◌-◌, ◌*◌, ◌%◌, eqb, ltb, Float, length, slice_index}
 use Rattle.std.specs.Float.{binary32}
 use Rattle.std.specs.Float.Ieee.{to_bits}
 use Rattle.words.specs.Words.{word_at}
@@ -55,6 +55,19 @@ painted_of number mark l = over (λ i. number (mark i)) 0 (length l) l
 
 abbrev pub stands_in : {A : Type 0} → (A → ℕ) → (ℕ → ℕ) → List ℕ → ℕ → ℕ → Fill → List A → Bool
 stands_in word mark case at n fill l = cond (ltb (length l) n) false (every_at (λ i x. eqb (word x) (wanted_of mark case at n fill i)) 0 l)
+
+-- ---- bytes: those that are given, from a place on, and zeros behind them; n of these are judged, and the others are paint
+abbrev pub given_byte : List ℕ → ℕ → ℕ → ℕ → ℕ
+given_byte case at given i = cond (ltb i given) (slice_index case (at + i)) 0
+
+abbrev pub loaded_of : List ℕ → ℕ → ℕ → List ℕ → List ℕ
+loaded_of case at given l = over (given_byte case at given) 0 (length l) l
+
+abbrev pub wanted_byte : List ℕ → ℕ → ℕ → ℕ → ℕ → ℕ
+wanted_byte case at given n i = cond (ltb i n) (given_byte case at given i) (byte_mark i)
+
+abbrev pub bytes_stand_in : List ℕ → ℕ → ℕ → ℕ → List ℕ → Bool
+bytes_stand_in case at given n l = cond (ltb (length l) n) false (every_at (λ i x. eqb x (wanted_byte case at given n i)) 0 l)
 
 -- ---- a number handed out beside the answer: the stored one; where the call is refused 0 is stored and it is still paint
 abbrev pub counts_as : ℕ → ℕ → ℕ → Bool

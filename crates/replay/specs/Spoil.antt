@@ -4,6 +4,7 @@ use Rattle.std.specs.Int.Bits.{bit_xor}
 use Rattle.words.specs.Words.{word_at}
 use Rattle.replay.specs.Place.{place_of}
 use Rattle.replay.specs.declared.spoiling.Spoilt.{Spoilt}
+use Rattle.replay.specs.declared.spoiling.Judged.{Judged}
 
 -- ---- a turn's choice among n, and a number for its bit
 abbrev pub pick_of : ℕ → ℕ → ℕ
@@ -30,6 +31,9 @@ flipped l place bit = set l (byte_of place bit) (bit_xor (get_or l (byte_of plac
 -- the judged words: the answer's number, and those from `next` on
 abbrev pub judged_at : ℕ → ℕ → ℕ → ℕ
 judged_at number next i = cond (eqb i 0) number (place_of next (i - 1))
+
+abbrev pub judged_in : ℕ → ℕ → ℕ → ℕ → Judged
+judged_in at words number next = record { words = words; number = place_of at number; next = place_of at next }
 
 -- no bit below `low`
 abbrev pub raised_of : ℕ → ℕ → ℕ

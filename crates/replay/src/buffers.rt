@@ -1,7 +1,7 @@
 // Buffers: lent before a call with the numbers of a case or with paint, and judged after it.
 ghost use Rattle.std.specs.Prelude.{◌≡◌};
 ghost use Rattle.replay.specs.Place.{place_of};
-ghost use Rattle.replay.specs.Buffers.{mark_of, wanted_of, lent_of, painted_of, stands_in, counts_as, corners_stand};
+ghost use Rattle.replay.specs.Buffers.{mark_of, wanted_of, lent_of, painted_of, stands_in, given_byte, loaded_of, wanted_byte, bytes_stand_in, counts_as, corners_stand};
 
 use crate::{Element, Part};
 
@@ -62,6 +62,49 @@ pub fn stands<T: Element>(part: Part, n: usize, fill: Fill, list: &[T]) -> bool
     }
     for (i, x) in list.iter().enumerate() {
         if x.to_word() != wanted::<T>(part, n, fill, i) {
+            return false;
+        }
+    }
+    true
+}
+
+// The byte number i of those that are given; 0 behind them.
+fn given_byte(part: Part, given: usize, i: usize) -> u8
+    ensures { result ≡ given_byte part.entry.case.now part.entry.at given i }
+{
+    if i < given { part.byte(i) } else { 0 }
+}
+
+// A buffer lent with the bytes that are given, and zeros behind them.
+#[tactic(auto, using(crate::proofs::BufferLaws::over_more), unfolding(crate::specs::Buffers::over))]
+pub fn load(part: Part, given: usize, bytes: &mut [u8])
+    ensures { bytes.new ≡ loaded_of part.entry.case.now part.entry.at given bytes.old }
+{
+    for (i, x) in bytes.iter_mut().enumerate() {
+        *x = given_byte(part, given, i);
+    }
+}
+
+// The byte of a buffer at place i: one of the n that are stored, and behind them paint.
+fn wanted_byte(part: Part, given: usize, n: usize, i: usize) -> u8
+    ensures { result ≡ wanted_byte part.entry.case.now part.entry.at given n i }
+{
+    if i < n {
+        return given_byte(part, given, i);
+    }
+    (i % 250) as u8 + 3
+}
+
+// Whether a buffer is n bytes of a part, of which so many are given, with paint behind them.
+#[tactic(auto, using(crate::proofs::BufferLaws::numbers_more, crate::proofs::BufferLaws::numbers_fail, crate::proofs::BufferLaws::all_end))]
+pub fn bytes_stand(part: Part, given: usize, n: usize, bytes: &[u8]) -> bool
+    ensures { result ≡ bytes_stand_in part.entry.case.now part.entry.at given n bytes.now }
+{
+    if bytes.len() < n {
+        return false;
+    }
+    for (i, x) in bytes.iter().enumerate() {
+        if *x != wanted_byte(part, given, n, i) {
             return false;
         }
     }

@@ -40,6 +40,25 @@ impl Element for f32 {
     }
 }
 
+// The same words.
+impl Element for u32 {
+    ghost word_of = { λ n. n };
+    ghost of_word = { λ n. n };
+    ghost mark_at = { mark_of };
+
+    fn to_word(self) -> u32 {
+        self
+    }
+
+    fn from_word(word: u32) -> Self {
+        word
+    }
+
+    fn mark(i: usize) -> u32 {
+        <f32 as Element>::mark(i)
+    }
+}
+
 // Small numbers from 1 up.
 impl Element for u16 {
     ghost word_of = { λ n. n };

@@ -14,7 +14,9 @@ ghost use Rattle.replay.specs.Count.{Within, Takes, none, more_of, counted_in, e
 ghost use Rattle.replay.specs.Spoil.{flipped};
 
 pub use aim::{Aim, within};
-pub use buffers::{Fill, corners_stand, counts, lend, mark, paint, stands, wanted};
+pub use buffers::{
+    Fill, bytes_stand, corners_stand, counts, lend, load, mark, paint, stands, wanted,
+};
 pub use element::{Element, hit, other};
 pub use part::{Image, Part, behind_image, place};
 pub use spoiling::{Judged, Spoilt, bit_for, flip, hit_number, pick, spoil, spoil_at};
@@ -123,7 +125,9 @@ pub trait Trial {
         ensures { case.new ≡ flipped case.old result.place result.bit };
 
     // The element of what the call writes that is changed at a turn; none where it writes nothing.
-    fn aim(&self, case: &[u8], turn: u32) -> Option<Aim>;
+    fn aim(&self, _case: &[u8], _turn: u32) -> Option<Aim> {
+        None
+    }
 
     // Whether the answer of the call, with an element of what was written changed where one is aimed at, is the one stored in the case.
     fn holds(&mut self, case: &[u8], aim: Option<Aim>) -> bool;
@@ -131,7 +135,8 @@ pub trait Trial {
 
 // One case: as it is stored, with a bit of its answer flipped, and with an element of what was written changed.
 pub fn tried<T: Trial>(trial: &mut T, tally: Tally, case: &mut [u8]) -> Tally
-    ensures { result.cases ≡ more_of tally.cases false }
+    ensures counted { result.cases ≡ more_of tally.cases false }
+    ensures as_it_was { case.new ≡ case.old }
 {
     let turn = tally.cases;
     let right = trial.holds(case, None);
@@ -140,7 +145,10 @@ pub fn tried<T: Trial>(trial: &mut T, tally: Tally, case: &mut [u8]) -> Tally
 }
 
 // Whether the flipped bit and the changed element of a turn are both noticed.
-pub fn notices<T: Trial>(trial: &mut T, case: &mut [u8], turn: u32) -> bool {
+#[tactic(auto, using(crate::proofs::SpoilLaws::flipped_twice))]
+pub fn notices<T: Trial>(trial: &mut T, case: &mut [u8], turn: u32) -> bool
+    ensures { case.new ≡ case.old }
+{
     let spoilt = trial.spoil(case, turn);
     let taken = trial.holds(case, None);
     flip(case, spoilt.place, spoilt.bit);

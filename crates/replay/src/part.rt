@@ -1,10 +1,13 @@
 // Parts of a stored case: words that follow one after the other from a byte's place on, and the image that a case begins with.
-ghost use Rattle.std.specs.Prelude.{◌≡◌, ◌+◌, ◌/◌};
+ghost use Rattle.std.specs.Prelude.{◌≡◌, ◌≤◌, ◌+◌, ◌/◌, eqb, slice_index};
 ghost use Rattle.std.specs.Float.Ieee as Ieee;
 ghost use Rattle.std.specs.Float.{binary32};
-ghost use Rattle.words.specs.Words.{word_at, long_at};
+ghost use Rattle.words.specs.Words.{word_at, long_at, signed_of};
 ghost use Rattle.replay.specs.Place.{place_of, bytes_in, image_in, image_end};
 ghost use Rattle.replay.specs.Buffers.{zeros_in};
+ghost use Rattle.replay.specs.Spoil.{judged_in};
+
+use crate::Judged;
 
 // What stands in a case from a place on. A word past the case's end is 0.
 #[derive(Clone, Copy)]
@@ -49,7 +52,8 @@ impl<'a> Part<'a> {
 
     // The word as a number of things.
     pub fn number(self, i: usize) -> usize
-        ensures { result ≡ word_at self.entry.case.now (place_of self.entry.at i) }
+        ensures stored { result ≡ word_at self.entry.case.now (place_of self.entry.at i) }
+        ensures in_a_word { result ≤ 0xffff_ffff }
     {
         self.word(i) as usize
     }
@@ -66,6 +70,32 @@ impl<'a> Part<'a> {
         floats::f32_from_bits(self.word(i))
     }
 
+    pub fn int(self, i: usize) -> i32
+        ensures { result ≡ signed_of (word_at self.entry.case.now (place_of self.entry.at i)) }
+    {
+        words::int(self.case, place(self.at, i))
+    }
+
+    // Whether a number is the one that is stored.
+    pub fn is_float(self, i: usize, x: f32) -> bool
+        ensures { result ≡ eqb (Ieee.to_bits binary32 x) (word_at self.entry.case.now (place_of self.entry.at i)) }
+    {
+        floats::f32_to_bits(x) == self.word(i)
+    }
+
+    // The byte number i; 0 past the end of the case.
+    pub fn byte(self, i: usize) -> u8
+        ensures { result ≡ slice_index self.entry.case.now (self.entry.at + i) }
+    {
+        if self.case.len() <= i {
+            return 0;
+        }
+        if self.case.len() - i <= self.at {
+            return 0;
+        }
+        self.case[self.at + i]
+    }
+
     // So many bytes from here on; none where the case has fewer.
     pub fn bytes(self, n: usize) -> &'a [u8]
         ensures { result.now ≡ bytes_in self.entry.case.now self.entry.at n }
@@ -77,6 +107,17 @@ impl<'a> Part<'a> {
             return &self.case[..0];
         }
         &self.case[self.at..self.at + n]
+    }
+
+    // So many words that are judged of an answer: the one that is its number, and those that follow one after the other from another one on.
+    pub fn judged(self, words: usize, number: usize, next: usize) -> Judged
+        ensures { result ≡ judged_in self.entry.at words number next }
+    {
+        Judged {
+            words,
+            number: place(self.at, number),
+            next: place(self.at, next),
+        }
     }
 
     // Whether the words from one number up to another are 0.
