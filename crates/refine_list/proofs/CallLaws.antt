@@ -11,7 +11,7 @@ use Rattle.corners.specs.Corners.{whole, too_many}
 use Rattle.imageview.specs.Image.{Image, is_image, in_range}
 use Rattle.refine_formulas.specs.declared.SaddlePointConfig.{SaddlePointConfig}
 use Rattle.refine_seed.specs.Refine.{good_limits}
-use Rattle.refine_list.specs.declared.Refinements.TheVariants.{Refined, Refused}
+use Rattle.std.specs.Prelude.{Ok, Err}
 use Rattle.refusals.specs.declared.Refusal.{Refusal}
 use Rattle.refusals.specs.declared.Refusal.TheVariants.{BadImage, BadSample, BadRadius, BadLimit, BadLength, TooMany, BadOut}
 use Rattle.refine_list.specs.Refining.{records_of, Way, refused, wrote, way_of, answer_of, out_after, Done}
@@ -48,7 +48,7 @@ module _ (img : Image) (cfg : SaddlePointConfig) (corners out : List Float) wher
   abbrev way : Way
   way = way_of img cfg corners (length out)
 
-  refuses : (r : Refusal) → way ≡ refused r → Done img cfg corners out (Refused r) out
+  refuses : (r : Refusal) → way ≡ refused r → Done img cfg corners out (Err r) out
   refuses r e = record { answers = sym (ap answer_of e); leaves = sym (ap (out_after out) e) }
 
   -- ---- test by test
@@ -60,49 +60,49 @@ module _ (img : Image) (cfg : SaddlePointConfig) (corners out : List Float) wher
   unfolding way_of
   first-yes h = goes (not (is_image img)) (refused BadImage) second (ap not h)
 
-  pub bad-image : is_image img ≡ false → Done img cfg corners out (Refused BadImage) out
+  pub bad-image : is_image img ≡ false → Done img cfg corners out (Err BadImage) out
   bad-image h = refuses BadImage (first-no h)
 
   module _ (i : is_image img ≡ true) where
-    pub bad-sample : in_range img ≡ false → Done img cfg corners out (Refused BadSample) out
+    pub bad-sample : in_range img ≡ false → Done img cfg corners out (Err BadSample) out
     bad-sample h = refuses BadSample (first-yes i ∙ stops (not (in_range img)) (refused BadSample) third (ap not h))
 
     module _ (g : in_range img ≡ true) where
       to-third : way ≡ third
       to-third = first-yes i ∙ goes (not (in_range img)) (refused BadSample) third (ap not g)
 
-      pub bad-radius : 7 < cfg.radius → Done img cfg corners out (Refused BadRadius) out
+      pub bad-radius : 7 < cfg.radius → Done img cfg corners out (Err BadRadius) out
       bad-radius h = refuses BadRadius (to-third ∙ stops (not (leb cfg.radius 7)) (refused BadRadius) fourth (ap not (lt-leb cfg.radius 7 h)))
 
       module _ (r : cfg.radius ≤ 7) where
         to-fourth : way ≡ fourth
         to-fourth = to-third ∙ goes (not (leb cfg.radius 7)) (refused BadRadius) fourth (ap not (le-leb cfg.radius 7 r))
 
-        pub bad-limit : good_limits cfg ≡ false → Done img cfg corners out (Refused BadLimit) out
+        pub bad-limit : good_limits cfg ≡ false → Done img cfg corners out (Err BadLimit) out
         bad-limit h = refuses BadLimit (to-fourth ∙ stops (not (good_limits cfg)) (refused BadLimit) fifth (ap not h))
 
         module _ (l : good_limits cfg ≡ true) where
           to-fifth : way ≡ fifth
           to-fifth = to-fourth ∙ goes (not (good_limits cfg)) (refused BadLimit) fifth (ap not l)
 
-          pub bad-length : whole (length corners) ≡ false → Done img cfg corners out (Refused BadLength) out
+          pub bad-length : whole (length corners) ≡ false → Done img cfg corners out (Err BadLength) out
           bad-length h = refuses BadLength (to-fifth ∙ stops (not (whole (length corners))) (refused BadLength) sixth (ap not h))
 
           module _ (w : whole (length corners) ≡ true) where
             to-sixth : way ≡ sixth
             to-sixth = to-fifth ∙ goes (not (whole (length corners))) (refused BadLength) sixth (ap not w)
 
-            pub too_many_lem : too_many (length corners) ≡ true → Done img cfg corners out (Refused TooMany) out
+            pub too_many_lem : too_many (length corners) ≡ true → Done img cfg corners out (Err TooMany) out
             too_many_lem h = refuses TooMany (to-sixth ∙ stops (too_many (length corners)) (refused TooMany) seventh h)
 
             module _ (f : too_many (length corners) ≡ false) where
               to-seventh : way ≡ seventh
               to-seventh = to-sixth ∙ goes (too_many (length corners)) (refused TooMany) seventh f
 
-              pub bad-out : length out < length corners → Done img cfg corners out (Refused BadOut) out
+              pub bad-out : length out < length corners → Done img cfg corners out (Err BadOut) out
               bad-out h = refuses BadOut (to-seventh ∙ stops (ltb (length out) (length corners)) (refused BadOut) last (lt-ltb (length out) (length corners) h))
 
-              pub refined : length corners ≤ length out → (n : ℕ) (out' : List Float) → AllWritten img cfg corners out n out' → Done img cfg corners out (Refined (n / 3)) out'
+              pub refined : length corners ≤ length out → (n : ℕ) (out' : List Float) → AllWritten img cfg corners out n out' → Done img cfg corners out (Ok (n / 3)) out'
               refined h n out' d =
                   let e : way ≡ last = to-seventh ∙ goes (ltb (length out) (length corners)) (refused BadOut) last (le-ltb (length out) (length corners) h) in
-                  record { answers = ap (λ (k : ℕ). Refined (k / 3)) d.count ∙ sym (ap answer_of e); leaves = d.leaves ∙ sym (ap (out_after out) e) }
+                  record { answers = ap (λ (k : ℕ). Ok (k / 3)) d.count ∙ sym (ap answer_of e); leaves = d.leaves ∙ sym (ap (out_after out) e) }
