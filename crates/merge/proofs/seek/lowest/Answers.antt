@@ -2,9 +2,6 @@
 use Rattle.merge.proofs.NoteLaws.{nine_noted}
 use Rattle.merge.proofs.seek.lowest.Goals as goal
 
-pub walk-requires : goal.walk-requires
-walk-requires c = (c.args.cells, c.args.count, c.requires.chained, c.add_three-3.ensures.noted)
-
 pub returns : goal.returns
 returns c =
     let a = c.args in

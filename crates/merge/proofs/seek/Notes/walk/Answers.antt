@@ -1,8 +1,5 @@
 -- After i turns the first i noted cells are walked.
-use mathlib.Core.Path.{◌≡◌, ap, ◌∙◌}
-use Prim.Native.Nat.{ℕ}
 use lib.ListN.{get_or}
-use Rattle.merge.specs.Steps.{lowest_noted}
 use Rattle.merge.proofs.GridLaws.{cell_falling, cell_few}
 use Rattle.merge.proofs.NoteLaws.{walk_first, walk_next}
 use native.Mathlib.Omega.{arith}
@@ -12,12 +9,6 @@ pub loop-i-init : goal.loop-i-init
 loop-i-init c =
     let a = c.args in
     λ g m k noted. walk_first g a.corners.now m a.disc a.self.now.cells a.best
-
-pub offset_bounds-self-i : goal.offset_bounds-self-i
-offset_bounds-self-i c = let h = c.requires.3.room in omega arith
-
-pub bounds-self-i : goal.bounds-self-i
-bounds-self-i c = let h = c.requires.3.room in omega arith
 
 pub walk-found-requires : goal.walk-found-requires
 walk-found-requires c =
@@ -32,9 +23,3 @@ pub loop-i-preserved : goal.loop-i-preserved
 loop-i-preserved c =
     let a = c.args in
     λ g m k noted. walk_next g a.corners.now m a.chains.now.heads.now a.chains.now.links.now k a.disc a.self.now.cells a.self.now.count c.loop-i.i a.best c.loop-i.found c.walk-found.result noted c.loop-i-test.true c.walk-found.ensures (c.loop-i.invariant g m k noted)
-
-pub returns : goal.returns
-returns c =
-    let a = c.args in
-    let e : c.loop-i.i ≡ a.self.now.count = omega arith in
-    λ g m k noted. c.loop-i.invariant g m k noted ∙ ap (λ (j : ℕ). lowest_noted g a.corners.now m a.disc a.self.now.cells j a.best) e
