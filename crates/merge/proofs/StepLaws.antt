@@ -48,7 +48,7 @@ module _ (meets : Corner → Corner → Bool) (l : List Corner) (i count met : �
       record {
         kept = ap (take count) e ∙ take-set-lt count l met new h ∙ ap (λ (b : Bool). set (take count l) met (cond b new (corner_at l met))) (sym weak) ∙ sym (met-place h);
         rest = ap (drop (i + 1)) e ∙ rest_of met (omega arith);
-        bound = omega arith;
+        no_more_than_read = omega arith;
       }
 
   pub step_stays : met < count → lt (corner_at l met).strength new.strength ≡ false → Stepped meets i count l l count
@@ -60,7 +60,7 @@ module _ (meets : Corner → Corner → Bool) (l : List Corner) (i count met : �
             ∙ ap (λ (b : Bool). set (take count l) met (cond b new (corner_at l met))) (sym strong)
             ∙ sym (met-place h);
         rest = refl;
-        bound = omega arith;
+        no_more_than_read = omega arith;
       }
 
   pub step_adds : count ≤ met → (after : List Corner) → after ≡ set l count new → Stepped meets i count l after (count + 1)
@@ -72,7 +72,7 @@ module _ (meets : Corner → Corner → Bool) (l : List Corner) (i count met : �
             ∙ take-suc-set l count new (omega arith)
             ∙ sym (ap (λ (c : Corner). after_corner meets c (take count l)) here ∙ after_none meets new (take count l) (omega (arith, goes, counted)));
         rest = ap (drop (i + 1)) e ∙ rest_of count order;
-        bound = omega arith;
+        no_more_than_read = omega arith;
       }
 
 -- the corners that are left, merged into the kept ones, are what they were

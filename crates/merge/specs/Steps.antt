@@ -189,7 +189,7 @@ Sought list heads links notes k d best r =
 pub record Stepped (meets : Corner → Corner → Bool) (i count : ℕ) (before after : List Corner) (count' : ℕ) : Type 0 where
   pub kept : take count' after ≡ after_corner meets (corner_at before i) (take count before)
   pub rest : drop (i + 1) after ≡ drop (i + 1) before
-  pub bound : count' ≤ i + 1
+  pub no_more_than_read : count' ≤ i + 1
 
 pub record Passed (meets : Corner → Corner → Bool) (list : List Float) (count : ℕ) (list' : List Float) : Type 0 where
   pub kept : take count (corners_of list') ≡ merged meets (corners_of list)

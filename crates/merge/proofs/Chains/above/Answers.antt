@@ -9,15 +9,6 @@ use Rattle.merge.proofs.Chains.above.Goals as goal
 pub loop-next-init : goal.loop-next-init
 loop-next-init c = record { above = omega arith; below = omega arith; link = refl; on = λ most k cs nexts inside e. top-hit cs k (length cs) (c.args.from - 1) (omega arith) }
 
-pub bounds-self-q-in-loop-next : goal.bounds-self-q-in-loop-next
-bounds-self-q-in-loop-next c = let h = c.requires.falling.falls c.loop-next.q (omega arith) (omega arith) in omega arith
-
-pub offset_bounds-self-q-in-loop-next : goal.offset_bounds-self-q-in-loop-next
-offset_bounds-self-q-in-loop-next c = let h = c.requires.falling.falls c.loop-next.q (omega arith) (omega arith) in omega arith
-
-pub loop-next-smaller : goal.loop-next-smaller
-loop-next-smaller c = let h = c.requires.falling.falls c.loop-next.q (omega arith) (omega arith) in omega arith
-
 pub loop-next-preserved : goal.loop-next-preserved
 loop-next-preserved c =
     let q = c.loop-next.q in
@@ -29,6 +20,3 @@ loop-next-preserved c =
       on = λ most k cs nexts inside e.
           link_on most k cs c.args.self.now.links.now q (c.loop-next.next - 1) nexts inside (omega (arith, top-le cs k (length cs))) (c.loop-next.invariant.on most k cs nexts inside e) (omega arith);
     }
-
-pub returns : goal.returns
-returns c = record { above = omega arith; below = omega arith; low = omega arith; on = c.loop-next.invariant.on }

@@ -14,11 +14,6 @@ loop-p-init c =
     let a = c.args in
     (le_refl a.from, λ most k cs nexts inside e. walk_start cs k (within a.disc a.corners.now) (length cs) a.from a.best e)
 
-pub loop-p-smaller : goal.loop-p-smaller
-loop-p-smaller c =
-    let h = c.requires.falling.falls (c.loop-p.p - 1) (omega arith) (omega arith) in
-    omega arith
-
 pub loop-p-preserved : goal.loop-p-preserved
 loop-p-preserved c =
     let a = c.args in

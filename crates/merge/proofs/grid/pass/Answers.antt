@@ -18,7 +18,7 @@ loop-i-preserved c =
     let i = c.loop-i.invariant in
     let step = c.step-count in
     record {
-      fewer = step.ensures.stepped.bound;
+      fewer = step.ensures.stepped.no_more_than_read;
       same_length = step.auto.corners ∙ i.same_length;
       lent = still_lent step.ensures.lent i.lent;
       chained = step.ensures.chained;

@@ -8,12 +8,6 @@ use Rattle.merge.proofs.StepLaws.{replaces, stays, adds}
 use Rattle.merge.proofs.GridLaws.{cell_of, cell_inside, nine_meets, new_joins, joined_new}
 use Rattle.merge.proofs.grid.step.Goals as goal
 
-pub replace-requires : goal.replace-requires
-replace-requires c =
-    let a = c.args in
-    let lies : c.cell-cell.result ≡ cell_in a.cells c.corner-new.result = c.cell-cell.ensures ∙ cell_of a.cells c.corner-new.result c.column-column.result c.row-row.result c.column-column.ensures c.row-row.ensures in
-    record { kept = (a.count, c.requires.chained, c.if-met-count.true); small = omega arith; in_cell = lies }
-
 pub returns-then-corners-met-clause-stepped : goal.returns-then-corners-met-clause-stepped
 returns-then-corners-met-clause-stepped c =
     let a = c.args in
@@ -36,19 +30,13 @@ returns-else-corners-met-clause-stepped c =
     let found = nine_meets a.cells a.corners.now new a.r2 a.count c.column-column.result c.row-row.result c.lowest-met.result c.column-column.ensures c.row-row.ensures c.lowest-met.ensures in
     stays (meets_in a.cells a.r2) a.corners.now a.i a.count c.lowest-met.result nan new c.corner-new.ensures p.ordered p.in_list found c.if-met-count.true c.if-corners-met.false
 
-pub returns-else-corners-met-clause-chained : goal.returns-else-corners-met-clause-chained
-returns-else-corners-met-clause-chained c =
-    let a = c.args in
-    let p = c.requires in
-    p.chained
-
-pub join-requires : goal.join-requires
-join-requires c =
+pub join-requires-clause-joinable : goal.join-requires-clause-joinable
+join-requires-clause-joinable c =
     let a = c.args in
     let k = c.requires.chained in
     let linked = c.requires.linked in
     let lies : c.cell-cell.result ≡ cell_in a.cells c.corner-new.result = c.cell-cell.ensures ∙ cell_of a.cells c.corner-new.result c.column-column.result c.row-row.result c.column-column.ensures c.row-row.ensures in
-    record { in_list = omega arith; joinable = new_joins k (omega arith) (omega arith) c.cell-cell.result (cell_inside a.cells k.roomy c.corner-new.result c.cell-cell.result lies) }
+    new_joins k (omega arith) (omega arith) c.cell-cell.result (cell_inside a.cells k.roomy c.corner-new.result c.cell-cell.result lies)
 
 pub returns-clause-stepped : goal.returns-clause-stepped
 returns-clause-stepped c =

@@ -15,7 +15,7 @@ loop-i-preserved c =
     let i = c.loop-i.invariant in
     let step = c.step-count.ensures in
     record {
-      fewer = step.bound;
+      fewer = step.no_more_than_read;
       same_length = c.step-count.auto.corners ∙ i.same_length;
       so_far = pass_turn (omega (arith, length-corners c.loop-i.corners)) step ∙ i.so_far;
     }
