@@ -1,6 +1,6 @@
 -- Sample by sample, row by row, the sums of four patches become their coefficients; and where the rows and the centres lie.
 use mathlib.Core.Path.{◌≡◌, refl, sym, ap, ◌∙◌, subst}
-use mathlib.Core.Bool.{Bool, true, false, ◌&&◌, cond, and-eq-true_iff}
+use mathlib.Core.Bool.{Bool, true, ◌&&◌, cond, and-eq-true_iff}
 use mathlib.Core.Logic.{⊎_elim}
 use mathlib.Core.List.{List}
 use Prim.Native.Nat.{ℕ, zero, suc, ◌+◌, ◌-◌, ◌*◌, ◌/◌, ◌%◌, ◌≤◌, ◌<◌, ◌^◌}
@@ -24,7 +24,7 @@ use Rattle.refine_formulas.specs.Numbers.{◌⊕◌, ◌⊖◌, ◌⊗◌}
 use Rattle.refine_patch.specs.declared.Firsts.{Firsts}
 use Rattle.refine_patch.specs.declared.Sums.{Sums}
 use Rattle.refine_patch.specs.StepsFrom.{sample_from, coefficient_from}
-use Rattle.refine_patch.specs.StepsFour.{lane_of, lane_in, sum_in, quad_in, quad_by, sums_by, moved_by, float_of, level_of, added, row_added, blocks, wide_of, rows_of, FourReach, PatchesInside, Reaches, RowsReach, Gathered, Rows}
+use Rattle.refine_patch.specs.StepsFour.{lane_of, lane_in, sum_in, quad_by, sums_by, moved_by, float_of, level_of, added, row_added, blocks, wide_of, rows_of, FourReach, PatchesInside, Reaches, RowsReach, Gathered, Rows}
 use Rattle.refine_patch.specs.StepsRows.{centres_of, term, sums_after}
 use Rattle.refine_patch.proofs.FourLaws.{lt-or-le}
 

@@ -1,5 +1,5 @@
 -- `refine_patch::add_row` meets its contract: the sums keep their four lanes.
-use mathlib.Core.Path.{ap, ◌∙◌}
+use mathlib.Core.Path.{ap}
 use native.Mathlib.Omega.{arith}
 use lib.ListN.{length}
 use Rattle.refine_patch.proofs.LaneLaws.{row-lanes}

@@ -1,5 +1,5 @@
 -- `refine_patch::gather` meets its contract. After i turns the row has i samples of each patch.
-use mathlib.Core.Path.{◌≡◌, ap, ◌∙◌}
+use mathlib.Core.Path.{ap, ◌∙◌}
 use Prim.Native.Nat.{ℕ}
 use native.Mathlib.Omega.{arith}
 use mathlib.Core.List.{List}

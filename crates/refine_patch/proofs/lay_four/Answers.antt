@@ -1,6 +1,5 @@
 -- `refine_patch::lay_four` meets its contract.
 use mathlib.Core.Path.{ap, ◌∙◌}
-use lib.ListN.{length}
 use Rattle.refine_patch.specs.declared.Sums.{Sums}
 use Rattle.refine_patch.specs.StepsFour.{blocks, sum_in, side_by_side}
 use Rattle.refine_patch.proofs.FourLaws.{blocks-written}

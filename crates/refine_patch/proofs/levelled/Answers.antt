@@ -1,5 +1,5 @@
 -- `refine_patch::levelled` meets its contract: lane by lane.
-use Prim.Native.Nat.{◌+◌, ◌-◌, ◌*◌}
+use Prim.Native.Nat.{◌+◌, ◌-◌}
 use native.Mathlib.Omega.{arith}
 use Rattle.refine_patch.proofs.LaneLaws.{level-is}
 use Rattle.refine_patch.proofs.levelled.Goals as goal

@@ -2,8 +2,6 @@
 use mathlib.Core.Path.{sym, ◌∙◌, ap}
 use Prim.Native.Nat.{ℕ}
 use lib.IntN.{pos}
-use Rattle.refine_patch.specs.StepsFrom.{four_written}
-use Rattle.refine_patch.specs.StepsFour.{sum_in}
 use Rattle.refine_fits.specs.Windows.{corners_at}
 use Rattle.refine_fits.proofs.BaseLaws.{laid_kept}
 use Rattle.refine_fits.proofs.IntegerFits.lay.Goals as goal
