@@ -8,9 +8,8 @@ use lib.Ieee.{Float, lt}
 use Rattle.imageview.specs.Image.{Image}
 use Rattle.refine_formulas.specs.declared.SaddlePointConfig.{SaddlePointConfig}
 use Rattle.refine_formulas.specs.declared.PatchSaddle.{PatchSaddle}
-use Rattle.refine_formulas.specs.declared.Flaw.{Flaw}
-use Rattle.refine_formulas.specs.declared.Solved.{Solved}
-use Rattle.refine_formulas.specs.declared.Solved.TheVariants.{Refused, Saddle}
+use Rattle.refine_formulas.specs.declared.Unsolved.{Unsolved}
+use Rattle.std.specs.Prelude.{Result, Ok, Err}
 use Rattle.refine_formulas.specs.declared.Corners.{Corners}
 use Rattle.refine_fits.specs.declared.Seed.{Seed}
 use Rattle.refine_fits.specs.declared.Window.{Window}
@@ -27,7 +26,7 @@ use Rattle.refine_fits.specs.StepsBases.{corners_in, fits_of, Stands}
 use Rattle.refine_formulas.proofs.Choice.{and_both, and_first, and_second}
 use Rattle.refine_fits.proofs.PlaceLaws.{same-corners}
 
-module _ (cfg : SaddlePointConfig) (seed : Seed) (f : PatchSaddle) (ox oy : Float) (c : Corners) (tx ty : Float) (b : List Float) (s : Solved) (blended : b ≡ blend c tx ty) (solved : s ≡ solve cfg b) where
+module _ (cfg : SaddlePointConfig) (seed : Seed) (f : PatchSaddle) (ox oy : Float) (c : Corners) (tx ty : Float) (b : List Float) (s : Result PatchSaddle Unsolved) (blended : b ≡ blend c tx ty) (solved : s ≡ solve cfg b) where
   abbrev near : PatchSaddle → Bool
   near g = near_along cfg (pos seed.centre_x) (ox ⊕ g.ux) seed.x && near_along cfg (pos seed.centre_y) (oy ⊕ g.uy) seed.y
 
@@ -40,16 +39,16 @@ module _ (cfg : SaddlePointConfig) (seed : Seed) (f : PatchSaddle) (ox oy : Floa
       ap (λ (t : Float). judged (task_at img columns cfg seed) f ox oy w c (solve cfg (blend c t w.ty))) p
       ∙ ap (λ (t : Float). judged (task_at img columns cfg seed) f ox oy w c (solve cfg (blend c tx t))) q
       ∙ ap (λ (l : List Float). judged (task_at img columns cfg seed) f ox oy w c (solve cfg l)) (sym blended)
-      ∙ ap (λ (v : Solved). judged (task_at img columns cfg seed) f ox oy w c v) (sym solved)
+      ∙ ap (λ (v : Result PatchSaddle Unsolved). judged (task_at img columns cfg seed) f ox oy w c v) (sym solved)
 
-  by-saddle : (g : PatchSaddle) → s ≡ Saddle g → (img : Image) (columns : List Float) (w : WindowPlace) → w.tx ≡ tx → w.ty ≡ ty → weighed (task_at img columns cfg seed) f ox oy w (four c) ≡ cond (lt (norm2 g) (norm2 f) && near g) (stands w g) passed
+  by-saddle : (g : PatchSaddle) → s ≡ Ok g → (img : Image) (columns : List Float) (w : WindowPlace) → w.tx ≡ tx → w.ty ≡ ty → weighed (task_at img columns cfg seed) f ox oy w (four c) ≡ cond (lt (norm2 g) (norm2 f) && near g) (stands w g) passed
   unfolding near_seed
-  by-saddle g e img columns w p q = by-solved img columns w p q ∙ ap (λ (v : Solved). judged (task_at img columns cfg seed) f ox oy w c v) e
+  by-saddle g e img columns w p q = by-solved img columns w p q ∙ ap (λ (v : Result PatchSaddle Unsolved). judged (task_at img columns cfg seed) f ox oy w c v) e
 
-  pub refused : (flaw : Flaw) (d : Float) → s ≡ Refused flaw d → Weighs cfg seed f ox oy c tx ty (record { taken = false; fit = f })
-  refused flaw d e = record { is = λ img columns w p q. by-solved img columns w p q ∙ ap (λ (v : Solved). judged (task_at img columns cfg seed) f ox oy w c v) e }
+  pub refused : (e : Unsolved) → s ≡ Err e → Weighs cfg seed f ox oy c tx ty (record { taken = false; fit = f })
+  refused u e = record { is = λ img columns w p q. by-solved img columns w p q ∙ ap (λ (v : Result PatchSaddle Unsolved). judged (task_at img columns cfg seed) f ox oy w c v) e }
 
-  module _ (g : PatchSaddle) (n m : Float) (new : n ≡ norm2 g) (old : m ≡ norm2 f) (is : s ≡ Saddle g) where
+  module _ (g : PatchSaddle) (n m : Float) (new : n ≡ norm2 g) (old : m ≡ norm2 f) (is : s ≡ Ok g) where
     less : lt n m ≡ lt (norm2 g) (norm2 f)
     less = ap (λ (v : Float). lt v m) new ∙ ap (λ (v : Float). lt (norm2 g) v) old
 

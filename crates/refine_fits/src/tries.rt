@@ -4,7 +4,7 @@ ghost use Rattle.refine_fits.specs.Candidate.{half_side, near_along};
 ghost use Rattle.refine_fits.specs.StepsTries.{Weighs, Judges};
 
 use super::{Seed, Weighed};
-use refine_formulas::{Corners, PatchSaddle, SaddlePointConfig, Solved, between, solve};
+use refine_formulas::{Corners, PatchSaddle, SaddlePointConfig, between, solve};
 
 // Half the side of the box about the seed.
 fn half_side(cfg: SaddlePointConfig) -> f32
@@ -50,11 +50,11 @@ fn weigh(
 {
     let solved = solve::solve(cfg, between::blend(corners, tx, ty));
     match solved {
-        Solved::Refused(_, _) => Weighed {
+        Err(_) => Weighed {
             taken: false,
             fit: f,
         },
-        Solved::Saddle(g) => {
+        Ok(g) => {
             if solve::norm2(g) < solve::norm2(f) {
                 if near_seed(cfg, seed, ox + g.ux, oy + g.uy) {
                     return Weighed {

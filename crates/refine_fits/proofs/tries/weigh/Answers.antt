@@ -5,19 +5,19 @@ use Rattle.refine_fits.proofs.tries.weigh.Goals as goal
 pub returns-then-near_seed : goal.returns-then-near_seed
 returns-then-near_seed c =
     let a = c.args in
-    takes a.cfg a.seed a.f a.ox a.oy a.corners a.tx a.ty c.blend.result c.solve-solved.result c.blend.ensures c.solve-solved.ensures c.in-Saddle.g c.norm2.result c.norm2-in-Saddle.result c.norm2.ensures c.norm2-in-Saddle.ensures c.in-Saddle.is c.near_seed.result c.if-norm2.true c.near_seed.ensures c.if-near_seed.true
+    takes a.cfg a.seed a.f a.ox a.oy a.corners a.tx a.ty c.blend.result c.solve-solved.result c.blend.ensures c.solve-solved.ensures c.in-Ok.g c.norm2.result c.norm2-in-Ok.result c.norm2.ensures c.norm2-in-Ok.ensures c.in-Ok.is c.near_seed.result c.if-norm2.true c.near_seed.ensures c.if-near_seed.true
 
-pub returns-in-Refused : goal.returns-in-Refused
-returns-in-Refused c =
+pub returns-in-Err : goal.returns-in-Err
+returns-in-Err c =
     let a = c.args in
-    refused a.cfg a.seed a.f a.ox a.oy a.corners a.tx a.ty c.blend.result c.solve-solved.result c.blend.ensures c.solve-solved.ensures _ _ c.in-Refused.is
+    refused a.cfg a.seed a.f a.ox a.oy a.corners a.tx a.ty c.blend.result c.solve-solved.result c.blend.ensures c.solve-solved.ensures _ c.in-Err.is
 
 pub returns-else-near_seed : goal.returns-else-near_seed
 returns-else-near_seed c =
     let a = c.args in
-    strays a.cfg a.seed a.f a.ox a.oy a.corners a.tx a.ty c.blend.result c.solve-solved.result c.blend.ensures c.solve-solved.ensures c.in-Saddle.g c.norm2.result c.norm2-in-Saddle.result c.norm2.ensures c.norm2-in-Saddle.ensures c.in-Saddle.is c.near_seed.result c.if-norm2.true c.near_seed.ensures c.if-near_seed.false
+    strays a.cfg a.seed a.f a.ox a.oy a.corners a.tx a.ty c.blend.result c.solve-solved.result c.blend.ensures c.solve-solved.ensures c.in-Ok.g c.norm2.result c.norm2-in-Ok.result c.norm2.ensures c.norm2-in-Ok.ensures c.in-Ok.is c.near_seed.result c.if-norm2.true c.near_seed.ensures c.if-near_seed.false
 
 pub returns-else-norm2 : goal.returns-else-norm2
 returns-else-norm2 c =
     let a = c.args in
-    no-better a.cfg a.seed a.f a.ox a.oy a.corners a.tx a.ty c.blend.result c.solve-solved.result c.blend.ensures c.solve-solved.ensures c.in-Saddle.g c.norm2.result c.norm2-in-Saddle.result c.norm2.ensures c.norm2-in-Saddle.ensures c.in-Saddle.is c.if-norm2.false
+    no-better a.cfg a.seed a.f a.ox a.oy a.corners a.tx a.ty c.blend.result c.solve-solved.result c.blend.ensures c.solve-solved.ensures c.in-Ok.g c.norm2.result c.norm2-in-Ok.result c.norm2.ensures c.norm2-in-Ok.ensures c.in-Ok.is c.if-norm2.false
