@@ -33,7 +33,7 @@ pub struct Around {
 }
 
 // The two bases whose four fits stand in a flat array, the first and the last one; an x of 8192 is none.
-#[derive(Drop)]
+#[derive(Clone, Copy)]
 pub struct Bases {
     pub x0: usize,
     pub y0: usize,

@@ -6,8 +6,7 @@ use Rattle.std.specs.Float.Ieee.{lt}
 use Rattle.shapes.specs.Numbers.{plus_zero}
 use Rattle.imageview.specs.Image.{Image, is_image, in_range}
 use Rattle.refine_operator.specs.Call as Operator
-use Rattle.refine_operator.specs.declared.Operator.{Operator}
-use Rattle.refine_operator.specs.declared.Operator.TheVariants.{Built}
+use Rattle.refine_operator.specs.declared.OperatorError.{OperatorError}
 use Rattle.refine_formulas.specs.declared.SaddlePointConfig.{SaddlePointConfig}
 use Rattle.refine_formulas.specs.declared.PatchSaddle.{PatchSaddle}
 use Rattle.refine_formulas.specs.Numbers.{◌⊕◌}
@@ -47,8 +46,8 @@ AcceptedScored = (img : Image) (cfg : SaddlePointConfig) (x y : Float) (wanted :
 -- with what `fit_operator` built for the radius, in whatever the arrays held before, the answer is that of the call that builds its own
 abbrev pub LentIsBuilt : Type 0
 LentIsBuilt =
-    (img : Image) (cfg : SaddlePointConfig) (x y : Float) (wanted : Bool) (columns overlap columns' overlap' : List Float) (r : Operator)
-    → Operator.Done cfg.radius columns overlap r columns' overlap' → r ≡ Built → refine_lent img cfg x y wanted columns' overlap' ≡ refine_of img cfg x y wanted
+    (img : Image) (cfg : SaddlePointConfig) (x y : Float) (wanted : Bool) (columns overlap columns' overlap' : List Float) (r : Result Unit OperatorError)
+    → Operator.Done cfg.radius columns overlap r columns' overlap' → r ≡ Ok tt → refine_lent img cfg x y wanted columns' overlap' ≡ refine_of img cfg x y wanted
 
 -- ---- seeds that are no places
 -- image and settings can be used: no refusal

@@ -8,6 +8,8 @@ use Rattle.floats.specs.Whole.{round_away}
 use Rattle.imageview.specs.Image.{Image, is_image, in_range}
 use Rattle.imageview.specs.Patch.{supports_patch}
 use Rattle.refine_operator.specs.Call as Operator
+use Rattle.refine_operator.specs.declared.OperatorError.{OperatorError}
+use Rattle.refine_operator.specs.declared.OperatorError.TheVariants as OperatorError
 use Rattle.refine_formulas.specs.declared.SaddlePointConfig.{SaddlePointConfig}
 use Rattle.refine_formulas.specs.declared.PatchSaddle.{PatchSaddle}
 use Rattle.refine_formulas.specs.declared.Flaw.{Flaw}
@@ -111,6 +113,11 @@ from_saddle t overlap wanted (Ok f) = cond (near_seed t f.ux f.uy) (Ok (finished
 abbrev pub refine_with : Image → SaddlePointConfig → Seed → Bool → List Float → List Float → Refined
 refine_with img cfg seed wanted columns overlap =
     from_saddle (task_at img columns cfg seed) overlap wanted (solve cfg (coefficients img columns cfg.radius seed.centre_x seed.centre_y))
+
+-- why there is no operator
+abbrev pub unbuilt : OperatorError → Unrefined
+unbuilt OperatorError.Singular = unmoved IllConditioned
+unbuilt (OperatorError.Refused r) = Refused r
 
 -- with the operator that is built for it
 abbrev pub with_operator : Image → SaddlePointConfig → Seed → Bool → Operator.Way → Refined

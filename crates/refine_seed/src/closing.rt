@@ -8,13 +8,14 @@ ghost use Rattle.refine_fits.specs.StepsAdding.{PatchWithin};
 ghost use Rattle.refine_formulas.specs.Solve as Solve;
 ghost use Rattle.refine_formulas.specs.Sensitivity.{difference};
 ghost use Rattle.refine_seed.specs.PixelSlope.{slope_at};
+ghost use Rattle.refine_seed.specs.Run.{run_of};
 ghost use Rattle.refine_seed.specs.StepsEnding as Ending;
 
 use super::{Estimate, Noise, Opened, Spot};
 use crate::steps;
 use imageview::Sizes;
 use refine_fits::{Seed, fits};
-use refine_formulas::{PatchSaddle, SaddlePointConfig, Slope, between, noise, sensitivity};
+use refine_formulas::{PatchSaddle, SaddlePointConfig, Slope, noise, sensitivity};
 
 // The estimate, with the covariance where it is wanted and the run converged.
 pub fn closed(opened: Opened, overlap: &[f32; 225], wanted: bool) -> Estimate
@@ -46,8 +47,7 @@ pub fn at_centre(
 ) -> Opened
     requires within { PatchWithin (image_of bytes.now words.now sizes) cfg.radius seed.centre_x seed.centre_y }
     requires fitted { here ≡ coefficients (image_of bytes.now words.now sizes) columns.now cfg.radius seed.centre_x seed.centre_y }
-    requires settled { Solve.settled first ≡ true }
-    ensures { Ending.Closes (task_at (image_of bytes.now words.now sizes) columns.now cfg seed) first result }
+    ensures { result ≡ Ending.opened_there seed first (slope_at (image_of bytes.now words.now sizes) columns.now cfg.radius (pos seed.centre_x) (pos seed.centre_y)) }
 {
     // a window that is moved by nothing
     let middle = Spot::middle_of(seed).moved(0.0, 0.0);
@@ -78,18 +78,17 @@ pub fn stepped(
 ) -> Opened
     requires within { PatchWithin (image_of bytes.now words.now sizes) cfg.radius seed.centre_x seed.centre_y }
     requires unsettled { Solve.settled first ≡ false }
-    ensures { Ending.Closes (task_at (image_of bytes.now words.now sizes) columns.now cfg seed) first result }
+    ensures { result ≡ (let e = Ending.ended_of (run_of (task_at (image_of bytes.now words.now sizes) columns.now cfg seed) first) in Ending.opened_on seed first e.tries e.settled) }
 {
     let ended = steps::run(bytes, words, sizes, columns, false, cfg, seed, first);
     let middle = Spot::middle_of(seed);
     match ended.settled {
         Some(w) => {
-            let slope = between::slope_within(w.corners, w.tx, w.ty);
             let noise = Noise {
                 tx: w.tx,
                 ty: w.ty,
                 fit: w.fit,
-                moves: steps::moves_of(w.fit, slope),
+                moves: w.moves(),
             };
             settled_in(middle.moved(w.ox, w.oy), noise, ended.tries)
         }
@@ -149,12 +148,20 @@ fn slope_at(
 {
     let cx = seed.centre_x;
     let cy = seed.centre_y;
-    let x = along(cx, sizes.width, radius, here, |k| {
+    let in_row = |k: usize|
+        requires { PatchWithin (image_of bytes.now words.now sizes) radius k cy }
+        ensures { result ≡ coefficients (image_of bytes.entry.now words.entry.now sizes) columns.entry.now radius k cy }
+    {
         fits::fit_patch(bytes, words, sizes, k, cy, radius, columns)
-    })?;
-    let y = along(cy, sizes.height, radius, here, |k| {
+    };
+    let in_column = |k: usize|
+        requires { PatchWithin (image_of bytes.now words.now sizes) radius cx k }
+        ensures { result ≡ coefficients (image_of bytes.entry.now words.entry.now sizes) columns.entry.now radius cx k }
+    {
         fits::fit_patch(bytes, words, sizes, cx, k, radius, columns)
-    })?;
+    };
+    let x = along(cx, sizes.width, radius, here, in_row)?;
+    let y = along(cy, sizes.height, radius, here, in_column)?;
     Some(Slope { x, y })
 }
 

@@ -3,17 +3,17 @@ ghost use Rattle.std.specs.Prelude.{◌≡◌, ◌≤◌};
 ghost use Rattle.imageview.specs.Image.{image_of};
 ghost use Rattle.refine_fits.specs.Fit.{coefficients};
 ghost use Rattle.refine_formulas.specs.Solve.{good_limit};
-ghost use Rattle.refine_seed.specs.Refine.{good_limits, is_place, old_number, admit_of, refine_with, refine_lent, refine_of};
+ghost use Rattle.refine_seed.specs.Refine.{good_limits, is_place, old_number, admit_of, refine_lent, refine_of};
 ghost use Rattle.refine_fits.specs.StepsAdding.{PatchWithin};
-ghost use Rattle.refine_seed.specs.StepsEnding.{Opens, OpensFresh, ClosesFresh};
+ghost use Rattle.refine_seed.specs.StepsEnding.{open_of, open_with, ClosesFresh};
 ghost use Rattle.refine_seed.specs.StepsSpot.{seed_alone};
+ghost use Rattle.refine_operator.specs.Call.{way_of};
 
 use super::{Estimate, Opened, Unrefined, Why};
 use crate::closing;
 use imageview::Sizes;
 use refine_fits::{Seed, fits, tries};
 use refine_formulas::{SaddlePointConfig, solve};
-use refine_operator::Operator;
 use refusals::Refusal;
 
 // The refiner of one seed with an operator that is lent.
@@ -53,7 +53,7 @@ pub fn refine(
 {
     let seed = admit(bytes, words, sizes, cfg, x, y)?;
     let opened = open_fresh(bytes, words, sizes, cfg, seed)?;
-    Ok(close_fresh(opened, cfg.radius, wanted))
+    close_fresh(opened, cfg, wanted)
 }
 
 // A seed that passed the tests, as far as the columns of the settings' radius go; at radius 0 there is no operator.
@@ -65,26 +65,26 @@ fn open_fresh(
     seed: Seed,
 ) -> Result<Opened, Unrefined>
     requires { PatchWithin (image_of bytes.now words.now sizes) cfg.radius seed.centre_x seed.centre_y }
-    ensures { OpensFresh (image_of bytes.now words.now sizes) cfg seed result }
+    ensures { result ≡ open_with (image_of bytes.now words.now sizes) cfg seed (way_of cfg.radius) }
 {
     let mut columns = [0.0f32; 1125];
-    let operator = refine_operator::fit_columns(cfg.radius, &mut columns);
-    match operator {
-        Operator::Built => open_seed(bytes, words, sizes, cfg, seed, &columns),
-        Operator::Singular => Err(Unrefined::Unmoved(Why::IllConditioned, 0.0)),
-        Operator::Refused(refusal) => Err(Unrefined::Refused(refusal)),
-    }
+    refine_operator::fit_columns(cfg.radius, &mut columns)?;
+    open_seed(bytes, words, sizes, cfg, seed, &columns)
 }
 
 // The estimate, with the overlaps of the settings' radius where a covariance is wanted.
-fn close_fresh(opened: Opened, radius: usize, wanted: bool) -> Estimate
-    ensures { ClosesFresh radius wanted opened result }
+fn close_fresh(
+    opened: Opened,
+    cfg: SaddlePointConfig,
+    wanted: bool,
+) -> Result<Estimate, Unrefined>
+    ensures { ClosesFresh cfg wanted opened result }
 {
     let mut overlap = [0.0f32; 225];
     if wanted {
-        refine_operator::fit_overlap(radius, &mut overlap);
+        refine_operator::fit_overlap(cfg.radius, &mut overlap)?;
     }
-    closing::closed(opened, &overlap, wanted)
+    Ok(closing::closed(opened, &overlap, wanted))
 }
 
 // The number that stood for this one while a refused fit had one number.
@@ -175,7 +175,7 @@ fn open_seed(
     columns: &[f32; 1125],
 ) -> Result<Opened, Unrefined>
     requires { PatchWithin (image_of bytes.now words.now sizes) cfg.radius seed.centre_x seed.centre_y }
-    ensures { Opens (λ overlap wanted. refine_with (image_of bytes.now words.now sizes) cfg seed wanted columns.now overlap) result }
+    ensures { result ≡ open_of (image_of bytes.now words.now sizes) cfg seed columns.now }
 {
     let here = first_fit(bytes, words, sizes, cfg, seed, columns);
     let first = solve::solve(cfg, here)?;

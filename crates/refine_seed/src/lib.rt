@@ -2,11 +2,13 @@
 #![tactic(auto)]
 
 ghost use Rattle.std.specs.Prelude.{◌≡◌};
-ghost use Rattle.refine_seed.specs.Refine.{why_number};
+ghost use Rattle.refine_seed.specs.Refine.{why_number, unbuilt};
 ghost use Rattle.refine_seed.specs.declared.Why.TheVariants.{Flawed};
 ghost use Rattle.refine_seed.specs.declared.Unrefined.TheVariants.{Unmoved, Refused};
 
+use refine_fits::{Bases, IntegerFits};
 use refine_formulas::{Corners, Covariance, Flaw, Matrix, PatchSaddle, Unsolved};
+use refine_operator::OperatorError;
 use refusals::Refusal;
 
 mod closing;
@@ -17,22 +19,30 @@ mod steps;
 pub use entry::{good_limits, old_number, refine, refine_with};
 pub use spots::{first_place, spot_with};
 
-// Where the steps ended: after how many tries, and the window in which they settled, if they did.
+// Where the steps ended: after how many tries, and in which window they settled, if they did.
 #[derive(Clone, Copy)]
 pub struct Ended {
     pub tries: u32,
-    pub settled: Option<Settled>,
+    pub settled: Option<Taken>,
 }
 
-// A window that settled: its offset from the centre pixel and how far on it lies between pixels, the saddle there and the four fits about it.
+// A candidate window that was taken: its offset from the centre pixel and how far on it lies between pixels, the saddle there and the four fits about it.
 #[derive(Clone, Copy)]
-pub struct Settled {
+pub struct Taken {
     pub ox: f32,
     pub oy: f32,
     pub tx: f32,
     pub ty: f32,
     pub fit: PatchSaddle,
     pub corners: Corners,
+}
+
+// The fits that a run has worked out: the nine that it keeps, and those about two bases in a flat array.
+#[derive(Drop)]
+struct Nearby {
+    kept: IntegerFits,
+    bases: Bases,
+    flat: [f32; 40],
 }
 
 // How far a seed comes without the operator's overlaps: its estimate with no covariance yet, and what one asks where the run converged.
@@ -117,5 +127,17 @@ impl From<Unsolved> for Unrefined {
 
     fn from(unsolved: Unsolved) -> Unrefined {
         Unrefined::Unmoved(Why::Flawed(unsolved.flaw), unsolved.det_h)
+    }
+}
+
+// Where there is no operator the seed stays where it is, with the score 0.0.
+impl From<OperatorError> for Unrefined {
+    ghost from_gives = { λ error e. e ≡ unbuilt error };
+
+    fn from(error: OperatorError) -> Unrefined {
+        match error {
+            OperatorError::Singular => Unrefined::Unmoved(Why::IllConditioned, 0.0),
+            OperatorError::Refused(refusal) => Unrefined::Refused(refusal),
+        }
     }
 }

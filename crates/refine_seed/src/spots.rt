@@ -4,12 +4,14 @@ ghost use Rattle.std.specs.Float.{binary32};
 ghost use Rattle.std.specs.Float.Ieee.{of_int};
 ghost use Rattle.imageview.specs.Image.{image_of};
 ghost use Rattle.refine_patch.specs.StepsFrom.{Repeats};
+ghost use Rattle.refine_fits.specs.Fit.{coefficients};
 ghost use Rattle.refine_fits.specs.StepsAdding.{PatchWithin};
 ghost use Rattle.refine_fits.specs.StepsBases.{coefs_in};
 ghost use Rattle.refine_fits.specs.Candidate.{task_at};
 ghost use Rattle.refine_seed.specs.Refine.{refine_lent};
-ghost use Rattle.refine_seed.specs.StepsEnding.{middle_of, moved};
-ghost use Rattle.refine_seed.specs.StepsSpot.{Ready, seed_alone, first_for, Fitted, Comes, Lands};
+ghost use Rattle.refine_seed.specs.Spot.{spot_at};
+ghost use Rattle.refine_seed.specs.StepsEnding.{middle_of, moved, open_of, opened_from};
+ghost use Rattle.refine_seed.specs.StepsSpot.{Ready, seed_alone, first_for, Fitted, spot_in, Lands};
 
 use super::Spot;
 use crate::{entry, steps};
@@ -76,6 +78,27 @@ pub fn spot_with(
     if cfg.radius == 0 {
         return None;
     }
+    spot_of_seed(bytes, words, sizes, cfg, seed, columns, fourfold, flat, at)
+}
+
+// A seed that passed the tests: the first fit decides acceptance.
+fn spot_of_seed(
+    bytes: &[u8],
+    words: &[u16],
+    sizes: Sizes,
+    cfg: SaddlePointConfig,
+    seed: Seed,
+    columns: &[f32; 1125],
+    fourfold: bool,
+    flat: &[f32; 40],
+    at: usize,
+) -> Option<Spot>
+    requires within { PatchWithin (image_of bytes.now words.now sizes) cfg.radius seed.centre_x seed.centre_y }
+    requires fitted { coefs_in flat.now at ≡ coefficients (image_of bytes.now words.now sizes) columns.now cfg.radius seed.centre_x seed.centre_y }
+    requires stands { at ≤ 23 }
+    requires repeats { Repeats fourfold cfg.radius columns.now }
+    ensures { result ≡ spot_in (open_of (image_of bytes.now words.now sizes) cfg seed columns.now) }
+{
     let first = solve::solve(cfg, laid::coefs_at(flat, at)).ok()?;
     if !tries::near_seed(cfg, seed, first.ux, first.uy) {
         return None;
@@ -98,7 +121,7 @@ fn spot_from(
 ) -> Spot
     requires within { PatchWithin (image_of bytes.now words.now sizes) cfg.radius seed.centre_x seed.centre_y }
     requires repeats { Repeats fourfold cfg.radius columns.now }
-    ensures { Comes (task_at (image_of bytes.now words.now sizes) columns.now cfg seed) first result }
+    ensures { result ≡ spot_at (opened_from (task_at (image_of bytes.now words.now sizes) columns.now cfg seed) seed first).estimate }
 {
     let middle = Spot::middle_of(seed);
     if solve::settled(first) {

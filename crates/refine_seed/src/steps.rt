@@ -1,58 +1,21 @@
 // The steps toward the window at whose middle the saddle lies.
-ghost use Rattle.std.specs.Prelude.{◌≡◌, false, ◌<◌, Some};
-ghost use Rattle.imageview.specs.Image.{image_of};
+ghost use Rattle.std.specs.Prelude.{◌≡◌, List, ℕ, false, ◌<◌, Float};
+ghost use Rattle.imageview.specs.Image.{Image, image_of};
 ghost use Rattle.refine_formulas.specs.Sensitivity as Sensitivity;
 ghost use Rattle.refine_formulas.specs.Solve as Solve;
 ghost use Rattle.refine_patch.specs.StepsFrom.{Repeats};
 ghost use Rattle.refine_fits.specs.StepsAdding.{Sound};
 ghost use Rattle.refine_fits.specs.StepsCache.{Fresh};
-ghost use Rattle.refine_fits.specs.Candidate.{task_at};
+ghost use Rattle.refine_fits.specs.Candidate.{task_at, candidate};
 ghost use Rattle.refine_seed.specs.Run.{run_of};
-ghost use Rattle.refine_seed.specs.StepsEnding.{ended_of, moves_of};
+ghost use Rattle.refine_seed.specs.StepsEnding.{Holds, ended_of, taken_of, moves_of, next_move};
 
-use super::{Ended, Settled};
+use super::{Ended, Nearby, Taken};
 use imageview::Sizes;
-use refine_fits::{IntegerFits, Seed, Window, laid, place, tries};
+use refine_fits::{IntegerFits, Seed, laid, place, tries};
 use refine_formulas::{
-    Corners, Matrix, Move, PatchSaddle, SaddlePointConfig, Slope, between, sensitivity, solve,
+    Matrix, Move, PatchSaddle, SaddlePointConfig, Slope, between, sensitivity, solve,
 };
-
-// A cache with no fit in it.
-fn no_fits() -> IntegerFits
-    ensures { Fresh result }
-{
-    IntegerFits {
-        centres: [0; 18],
-        coefs: [0.0; 45],
-        len: 0,
-    }
-}
-
-// How a saddle moves with a window whose fits have this slope.
-pub fn moves_of(fit: PatchSaddle, slope: Slope) -> Matrix
-    ensures { result ≡ moves_of fit slope }
-{
-    sensitivity::sensitivity(sensitivity::saddle_jacobian(fit), slope)
-}
-
-// An end in a window that settled.
-fn settled_in(w: Window, ox: f32, oy: f32, fit: PatchSaddle, corners: Corners, tries: u32) -> Ended
-    ensures { result ≡ record { tries = tries; settled = Some (record { ox = ox; oy = oy; tx = w.tx; ty = w.ty; fit = fit; corners = corners }) } }
-{
-    let Window { tx, ty, .. } = w;
-    let window = Settled {
-        ox,
-        oy,
-        tx,
-        ty,
-        fit,
-        corners,
-    };
-    Ended {
-        tries,
-        settled: Some(window),
-    }
-}
 
 // From the first fit's saddle, which is not settled: at most 16 steps, each of at most four candidates, one half as far on as the one before it.
 pub fn run(
@@ -71,9 +34,7 @@ pub fn run(
     requires repeats { Repeats fourfold cfg.radius columns.now }
     ensures { result ≡ ended_of (run_of (task_at (image_of bytes.now words.now sizes) columns.now cfg seed) first) }
 {
-    let mut fits = no_fits();
-    let mut bases = laid::no_bases();
-    let mut flat = [0.0f32; 40];
+    let mut nearby = Nearby::new();
     let mut fit = first;
     let mut ox = 0.0f32;
     let mut oy = 0.0f32;
@@ -85,30 +46,26 @@ pub fn run(
     'steps: for step in 0..16usize {
         let mut scale = 1.0f32;
         for half in 0..4usize {
+            tries += 1;
             let nx = ox + scale * by.x;
             let ny = oy + scale * by.y;
-            let w = place::window_at(seed.centre_x, seed.centre_y, nx, ny);
-            let r = bases.ready(
-                bytes, words, sizes, w, cfg.radius, columns, fourfold, &mut flat,
-            );
-            bases = r.bases;
-            if r.further {
-                fits.lay(bytes, words, sizes, w, cfg.radius, columns, &mut flat);
+            let Some(taken) = nearby.candidate(
+                bytes, words, sizes, columns, fourfold, cfg, seed, fit, nx, ny,
+            ) else {
+                scale *= 0.5;
+                continue;
+            };
+            if solve::settled(taken.fit) {
+                return Ended {
+                    tries,
+                    settled: Some(taken),
+                };
             }
-            let corners = laid::corners_at(&flat, r.to);
-            let c = tries::candidate(cfg, seed, fit, nx, ny, r.room, corners, w.tx, w.ty);
-            tries += 1;
-            if c.taken {
-                fit = c.fit;
-                if solve::settled(fit) {
-                    return settled_in(w, nx, ny, fit, corners, tries);
-                }
-                ox = nx;
-                oy = ny;
-                by = later_move(fit, corners, w.tx, w.ty);
-                continue 'steps;
-            }
-            scale *= 0.5;
+            fit = taken.fit;
+            ox = taken.ox;
+            oy = taken.oy;
+            by = taken.next_move();
+            continue 'steps;
         }
         break;
     }
@@ -118,9 +75,111 @@ pub fn run(
     }
 }
 
-// The step from a window: how its saddle moves with it decides.
-fn later_move(fit: PatchSaddle, corners: Corners, tx: f32, ty: f32) -> Move
-    ensures { result ≡ Sensitivity.newton_step (moves_of fit (Sensitivity.slope_within corners tx ty)) fit }
+impl Nearby {
+    // With no fit in it.
+    fn new() -> Nearby
+        ensures { (img : Image) (columns : List Float) (radius : ℕ) → Holds img columns radius result }
+    {
+        Nearby {
+            kept: no_fits(),
+            bases: laid::no_bases(),
+            flat: [0.0; 40],
+        }
+    }
+
+    // The candidate window at (ox, oy), where it is taken in place of that of the saddle `fit`.
+    fn candidate(
+        &mut self,
+        bytes: &[u8],
+        words: &[u16],
+        sizes: Sizes,
+        columns: &[f32; 1125],
+        fourfold: bool,
+        cfg: SaddlePointConfig,
+        seed: Seed,
+        fit: PatchSaddle,
+        ox: f32,
+        oy: f32,
+    ) -> Option<Taken>
+        requires sound { Sound (image_of bytes.now words.now sizes) cfg.radius }
+        requires centre { (seed.centre_x < 4096) × (seed.centre_y < 4096) }
+        requires repeats { Repeats fourfold cfg.radius columns.now }
+        requires holds { Holds (image_of bytes.now words.now sizes) columns.now cfg.radius self.old }
+        ensures holds { Holds (image_of bytes.now words.now sizes) columns.now cfg.radius self.new }
+        ensures taken { result ≡ taken_of (candidate (task_at (image_of bytes.now words.now sizes) columns.now cfg seed) fit ox oy) }
+    {
+        let w = place::window_at(seed.centre_x, seed.centre_y, ox, oy);
+        let r = self.bases.ready(
+            bytes,
+            words,
+            sizes,
+            w,
+            cfg.radius,
+            columns,
+            fourfold,
+            &mut self.flat,
+        );
+        self.bases = r.bases;
+        if r.further {
+            self.kept.lay(
+                bytes,
+                words,
+                sizes,
+                w,
+                cfg.radius,
+                columns,
+                &mut self.flat,
+            );
+        }
+        let corners = laid::corners_at(&self.flat, r.to);
+        let c = tries::candidate(cfg, seed, fit, ox, oy, r.room, corners, w.tx, w.ty);
+        if !c.taken {
+            return None;
+        }
+        Some(Taken {
+            ox,
+            oy,
+            tx: w.tx,
+            ty: w.ty,
+            fit: c.fit,
+            corners,
+        })
+    }
+}
+
+impl Taken {
+    // How the saddle moves with the window.
+    pub fn moves(&self) -> Matrix
+        ensures { result ≡ moves_of self.now.fit (Sensitivity.slope_within self.now.corners self.now.tx self.now.ty) }
+    {
+        moves_of(
+            self.fit,
+            between::slope_within(self.corners, self.tx, self.ty),
+        )
+    }
+
+    // The step from this window, which that decides.
+    fn next_move(&self) -> Move
+        ensures { result ≡ next_move self.now }
+    {
+        sensitivity::newton_step(self.moves(), self.fit)
+    }
+}
+
+// How a saddle moves with a window whose fits have this slope.
+pub fn moves_of(fit: PatchSaddle, slope: Slope) -> Matrix
+    ensures { result ≡ moves_of fit slope }
 {
-    sensitivity::newton_step(moves_of(fit, between::slope_within(corners, tx, ty)), fit)
+    sensitivity::sensitivity(sensitivity::saddle_jacobian(fit), slope)
+}
+
+// A cache with no fit in it.
+fn no_fits() -> IntegerFits
+    ensures { Fresh result }
+{
+    IntegerFits {
+        centres: [0; 18],
+        coefs: [0.0; 45],
+        len: 0,
+    }
 }

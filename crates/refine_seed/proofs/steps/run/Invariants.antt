@@ -1,19 +1,21 @@
 -- The loops of `refine_seed::steps::run` go on where the whole run would: before a step with the steps that are left, and within one before a candidate.
-use Rattle.std.proofs.Common.{◌≡◌, ℕ, ◌+◌, ◌-◌, ◌*◌}
+use Rattle.std.proofs.Common.{◌≡◌, ℕ, ◌+◌, ◌-◌, ◌*◌, ◌≤◌}
 use Rattle.imageview.specs.Image.{image_of}
 use Rattle.refine_fits.specs.Candidate.{task_at}
 use Rattle.refine_seed.specs.Run.{run_of}
-use Rattle.refine_seed.specs.StepsEnding.{Carries, ended_of, from_candidate, from_step}
+use Rattle.refine_seed.specs.StepsEnding.{Holds, ended_of, from_candidate, from_step}
 use Rattle.refine_seed.proofs.steps.run.Given as goal
 
 abbrev pub invariant-steps : goal.invariant-steps
 invariant-steps l = record {
-  carries : Carries (task_at (image_of l.bytes l.words l.sizes) l.columns l.cfg l.seed) l.fits l.bases l.flat l.tries (4 * (16 - l.step));
+  holds : Holds (image_of l.bytes l.words l.sizes) l.columns l.cfg.radius l.nearby;
+  few : l.tries ≤ 4 * l.step;
   is : ended_of (run_of (task_at (image_of l.bytes l.words l.sizes) l.columns l.cfg l.seed) l.fn.first) ≡ from_step (task_at (image_of l.bytes l.words l.sizes) l.columns l.cfg l.seed) (16 - l.step) l.fit l.ox l.oy l.by l.tries
 }
 
 abbrev pub invariant-loop-half : goal.invariant-loop-half
 invariant-loop-half l = record {
-  carries : Carries (task_at (image_of l.bytes l.words l.sizes) l.columns l.cfg l.seed) l.fits l.bases l.flat l.tries (4 * (15 - l.step) + (4 - l.half));
+  holds : Holds (image_of l.bytes l.words l.sizes) l.columns l.cfg.radius l.nearby;
+  few : l.tries ≤ 4 * l.step + l.half;
   is : ended_of (run_of (task_at (image_of l.bytes l.words l.sizes) l.columns l.cfg l.seed) l.fn.first) ≡ from_candidate (task_at (image_of l.bytes l.words l.sizes) l.columns l.cfg l.seed) (15 - l.step) (4 - l.half) l.fit l.ox l.oy l.by l.scale l.tries
 }
