@@ -11,11 +11,11 @@ use Rattle.shapes.specs.Turns.{turns}
 use Rattle.shapes.proofs.TurnLaws.{turns-cong}
 use Rattle.pixel_response.specs.Samples.{ring_sum, cross_sum}
 use Rattle.refusals.specs.declared.Refusal.TheVariants.{BadImage, BadRing, BadOut}
-use Rattle.gradient.specs.declared.Gradient.{Gradient}
-use Rattle.gradient.specs.declared.Gradient.TheVariants.{Added, Refused}
+use Rattle.refusals.specs.declared.Refusal.{Refusal}
+use Rattle.std.specs.Prelude.{Result, Ok, Err}
 use Rattle.gradient.specs.Stencil.{stencil_stays, ring_of, cross_of}
 use Rattle.gradient.specs.Coefficients.{sign_of, square_sign, edge_sign, mean_sign, minus_where, coefficient}
-use Rattle.gradient.specs.Call.{Asked, added_at, cell_at, three_and_a_fifth, ring_turn, cross_turn, is_none, grid_after, Way, refused, added, way_of, answer_of, grid_left, Done}
+use Rattle.gradient.specs.Call.{Asked, added_at, cell_at, three_and_a_fifth, ring_turn, cross_turn, is_none, grid_after, way_of, grid_left, Done}
 use Rattle.gradient.specs.Steps.{raised_sign, turned, square_raised, edge_raised, mean_raised, coefficient_raised, ring_step, cross_step, all_by, sample_at, all_added}
 use Rattle.gradient.proofs.Differences.{sub-add}
 use Rattle.gradient.proofs.AdditionLaws.{same-cells}
@@ -97,8 +97,8 @@ module _ (a : Asked) where
 
 -- ---- the ways
 -- the way by the three tests
-abbrev by_tests : Bool → Bool → Bool → Way
-by_tests tile ring room = cond (not tile) (refused BadImage) (cond (not ring) (refused BadRing) (cond (not room) (refused BadOut) added))
+abbrev by_tests : Bool → Bool → Bool → Result Unit Refusal
+by_tests tile ring room = cond (not tile) (Err BadImage) (cond (not ring) (Err BadRing) (cond (not room) (Err BadOut) (Ok tt)))
 
 module _ (a : Asked) (grid : List Float) where
   goes : {p q r : Bool} → eqb (length a.tile) (a.side * a.side) ≡ p → stencil_stays a.side a.ring a.x a.y ≡ q → eqb (length grid) (2 * length a.tile) ≡ r → way_of a (length grid) ≡ by_tests p q r
@@ -107,18 +107,18 @@ module _ (a : Asked) (grid : List Float) where
       ap (λ (b : Bool). by_tests b (stencil_stays a.side a.ring a.x a.y) (eqb (length grid) (2 * length a.tile))) e
       ∙ ap (λ (b : Bool). by_tests p b (eqb (length grid) (2 * length a.tile))) f ∙ ap (λ (b : Bool). by_tests p q b) g
 
-  ends : {w : Way} {answer : Gradient} {after : List Float} → way_of a (length grid) ≡ w → answer ≡ answer_of w → after ≡ grid_left a grid w → Done a grid answer after
-  ends e p q = record { answers = p ∙ ap answer_of (sym e); leaves = q ∙ ap (grid_left a grid) (sym e) }
+  ends : {w : Result Unit Refusal} {after : List Float} → way_of a (length grid) ≡ w → after ≡ grid_left a grid w → Done a grid w after
+  ends e q = record { answers = sym e; leaves = q ∙ ap (grid_left a grid) (sym e) }
 
-  pub bad-tile : eqb (length a.tile) (a.side * a.side) ≡ false → Done a grid (Refused BadImage) grid
-  bad-tile e = ends (goes e refl refl) refl refl
+  pub bad-tile : eqb (length a.tile) (a.side * a.side) ≡ false → Done a grid (Err BadImage) grid
+  bad-tile e = ends (goes e refl refl) refl
 
-  pub bad-ring : eqb (length a.tile) (a.side * a.side) ≡ true → stencil_stays a.side a.ring a.x a.y ≡ false → Done a grid (Refused BadRing) grid
-  bad-ring e f = ends (goes e f refl) refl refl
+  pub bad-ring : eqb (length a.tile) (a.side * a.side) ≡ true → stencil_stays a.side a.ring a.x a.y ≡ false → Done a grid (Err BadRing) grid
+  bad-ring e f = ends (goes e f refl) refl
 
-  pub bad-grid : eqb (length a.tile) (a.side * a.side) ≡ true → stencil_stays a.side a.ring a.x a.y ≡ true → eqb (length grid) (2 * length a.tile) ≡ false → Done a grid (Refused BadOut) grid
-  bad-grid e f g = ends (goes e f g) refl refl
+  pub bad-grid : eqb (length a.tile) (a.side * a.side) ≡ true → stencil_stays a.side a.ring a.x a.y ≡ true → eqb (length grid) (2 * length a.tile) ≡ false → Done a grid (Err BadOut) grid
+  bad-grid e f g = ends (goes e f g) refl
 
   pub all-added : {after : List Float} (cell : ℕ → ℕ) → eqb (length a.tile) (a.side * a.side) ≡ true → stencil_stays a.side a.ring a.x a.y ≡ true → eqb (length grid) (2 * length a.tile) ≡ true
-      → ((k : ℕ) → k < 21 → cell k ≡ cell_at a k) → after ≡ all_added a.tile cell a.scale grid → Done a grid Added after
-  all-added cell e f g c h = ends (goes e f g) refl (h ∙ same-cells a.tile cell (cell_at a) c a.scale grid ∙ all-is a grid)
+      → ((k : ℕ) → k < 21 → cell k ≡ cell_at a k) → after ≡ all_added a.tile cell a.scale grid → Done a grid (Ok tt) after
+  all-added cell e f g c h = ends (goes e f g) (h ∙ same-cells a.tile cell (cell_at a) c a.scale grid ∙ all-is a grid)

@@ -1,33 +1,21 @@
 -- What the steps of the call promise each other. Signs and coefficients are unsigned here: 1 is added to a sign, 3 to a coefficient.
-use Rattle.std.specs.Prelude.{◌≡◌, Bool, true, false, cond, List, ℕ, ◌+◌, ◌-◌, ◌*◌, ◌/◌, ◌%◌, ◌<◌, leb, ltb, eqb, ℤ, get_or, Float}
+use Rattle.std.specs.Prelude.{◌≡◌, Bool, true, false, cond, Option, Some, None, List, ℕ, ◌+◌, ◌-◌, ◌*◌, ◌/◌, ◌%◌, ◌<◌, ltb, eqb, ℤ, get_or, Float}
 use Rattle.std.proofs.Math.IntN.{sub_ℕ}
-use Rattle.std.specs.Int.Signed.{mag}
 use Rattle.std.specs.Float.{binary32}
 use Rattle.std.specs.Float.Ieee.{of_int, mul}
 use Rattle.shapes.specs.Turns.{turns}
 use Rattle.pixel_response.specs.Samples.{total}
 use Rattle.response.specs.Region.{moved}
 use Rattle.gradient.specs.declared.Scale.{Scale}
-use Rattle.gradient.specs.Stencil.{stencil_stays, cell_of}
+use Rattle.gradient.specs.Stencil.{stays_on}
 use Rattle.gradient.specs.Call.{added_at, three_and_a_fifth}
 
 -- ---- the cells
--- a component of 32 bits, 2^31 added
-pub record Offset (z : ℤ) (r : ℕ) : Type 0 where
-  pub is : r ≡ moved 2147483648 z
-  pub small : r < 4294967296
-  pub near : mag z < 2147483648
+-- a coordinate moved by a component, where that stays on the tile
+abbrev pub moved_by : ℕ → ℤ → ℕ → Option ℕ
+moved_by at by side = cond (stays_on side at by) (Some (moved at by)) None
 
--- a coordinate moved by a component, to which 2^31 was added; the side where that leaves the tile
-abbrev pub moved_by : ℕ → ℕ → ℕ → ℕ
-moved_by at offset side = cond (ltb (at + offset) 2147483648) side (cond (leb side (at + offset - 2147483648)) side (at + offset - 2147483648))
-
--- whether all places lie on the tile; their cells, if so
-pub record Found (side : ℕ) (ring : List ℤ) (x y : ℕ) (r : Bool) (cells : List ℕ) : Type 0 where
-  pub decides : r ≡ stencil_stays side ring x y
-  pub are : r ≡ true → (k : ℕ) → k < 21 → get_or cells k 0 ≡ cell_of side ring x y k
-  pub within : r ≡ true → (k : ℕ) → k < 21 → get_or cells k 0 < side * side
-
+-- each cell is one of n
 abbrev pub Within : List ℕ → ℕ → Type 0
 Within cells n = (k : ℕ) → k < 21 → get_or cells k 0 < n
 

@@ -12,7 +12,8 @@ use crate::{Scale, signs};
 
 // The ring's places in their order, and where the means are not equal the cross's.
 pub fn add_all(tile: &[u8], cells: &[usize; 21], scale: Scale, grid: &mut [f32])
-    requires { Within cells.now (length tile.now) × Grid cells.now (length grid.old) }
+    requires on_tile { Within cells.now (length tile.now) }
+    requires in_grid { Grid cells.now (length grid.old) }
     ensures { grid.new ≡ all_added tile.now (listed cells.now) scale grid.old }
 {
     let samples = samples_of(tile, cells);
@@ -28,36 +29,31 @@ fn samples_of(tile: &[u8], cells: &[usize; 21]) -> [u8; 21]
     ensures { Sampled tile.now cells.now result }
 {
     let mut samples = [0u8; 21];
-    let mut k = 0;
-    while k < 21 {
-        let cell = cells[k];
-        samples[k] = tile[cell];
-        k += 1;
+    for k in 0..21 {
+        samples[k] = tile[cells[k]];
     }
     samples
 }
 
 fn add_ring(samples: &[u8; 21], mean: u8, cells: &[usize; 21], scale: Scale, grid: &mut [f32])
-    requires { (mean ≤ 2) × Grid cells.now (length grid.old) }
+    requires mean_is_sign { mean ≤ 2 }
+    requires in_grid { Grid cells.now (length grid.old) }
     ensures { grid.new ≡ turns 16 (ring_step (listed samples.now) mean (listed cells.now) scale) grid.old }
 {
-    let mut k = 0;
-    while k < 16 {
+    for k in 0..16 {
         let c = whole(signs::ring_coefficient(samples, mean, k));
         add_at(grid, cells[k], scale, c);
-        k += 1;
     }
 }
 
 fn add_cross(mean: u8, cells: &[usize; 21], scale: Scale, grid: &mut [f32])
-    requires { (mean ≤ 2) × Grid cells.now (length grid.old) }
+    requires mean_is_sign { mean ≤ 2 }
+    requires in_grid { Grid cells.now (length grid.old) }
     ensures { grid.new ≡ turns 5 (cross_step mean (listed cells.now) scale) grid.old }
 {
     let c = 3.2 * whole(mean + 2);
-    let mut k = 0;
-    while k < 5 {
+    for k in 0..5 {
         add_at(grid, cells[16 + k], scale, c);
-        k += 1;
     }
 }
 

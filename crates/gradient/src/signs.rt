@@ -78,11 +78,9 @@ fn sum(samples: &[u8; 21], from: usize, n: usize) -> u16
     requires { from + n ≤ 21 }
     ensures { (result ≡ total n (λ k. listed samples.now (from + k))) × (result ≤ 255 * n) }
 {
-    let mut sum: u16 = 0;
-    let mut k = 0;
-    while k < n {
+    let mut sum = 0;
+    for k in 0..n {
         sum = more(sum, samples[from + k]);
-        k += 1;
     }
     sum
 }

@@ -1,5 +1,5 @@
 -- One candidate window of a seed's run: it is taken only where its fit is a saddle, |u|² falls strictly and the estimate stays in the box about the seed.
-use Rattle.std.specs.Prelude.{Bool, ◌&&◌, cond, List, ℤ, pos, Float, Result, Ok, Err}
+use Rattle.std.specs.Prelude.{Bool, ◌&&◌, cond, Result, Ok, Err, List, ℤ, pos, Float}
 use Rattle.std.specs.Float.{binary32}
 use Rattle.std.specs.Float.Ieee.{of_int, lt, le}
 use Rattle.floats.specs.Magnitude.{magnitude}

@@ -3,10 +3,12 @@ use mathlib.Core.Path.{◌≡◌, refl, sym, ap, ◌∙◌, subst}
 use mathlib.Core.Bool.{Bool, true, false, ◌&&◌, cond, and-eq-true_iff}
 use mathlib.Core.Logic.{⊎_elim}
 use mathlib.Core.List.{List}
-use Prim.Native.Nat.{ℕ, zero, suc, ◌+◌, ◌-◌, ◌*◌, ◌/◌, ◌%◌, ◌≤◌, ◌<◌}
+use Prim.Native.Nat.{ℕ, zero, suc, ◌+◌, ◌-◌, ◌*◌, ◌/◌, ◌%◌, ◌≤◌, ◌<◌, ◌^◌}
 use native.Mathlib.Nat.{add_assoc, add-zero, add-suc, add-mul, mul_assoc, one-mul, zero-mul, le_refl, le_trans, suc-mul, mul-le-mul, mul-le-mul_right, eq-or-lt_of_le, div-add-mod', mod-lt}
 use native.Mathlib.Numerals.{add-one}
 use native.Mathlib.Omega.{arith}
+use Rattle.std.specs.Ordering.{ord_min, nat_cmp}
+use Rattle.std.proofs.lemmas.Grind.{common_steps}
 use borrow.Author.Tests.{leb-true, lt-ltb, le-ltb}
 use lib.Dec.{leb}
 use lib.Arith.{digits_div, digits_mod}
@@ -14,13 +16,15 @@ use lib.ListN.{length, get_or}
 use lib.Ieee.{Float}
 use Rattle.shapes.specs.Numbers.{plus_zero, entry}
 use Rattle.shapes.specs.Turns.{turns}
-use Rattle.imageview.specs.Image.{samples_of}
+use Rattle.imageview.specs.Image.{Image}
+use Rattle.imageview.specs.Steps.{IsTested}
+use Rattle.imageview.proofs.ImageLaws.{samples-most as image-most}
 use Rattle.refine_operator.specs.Basis.{side, samples}
 use Rattle.refine_formulas.specs.Numbers.{◌⊕◌, ◌⊖◌, ◌⊗◌}
 use Rattle.refine_patch.specs.declared.Firsts.{Firsts}
 use Rattle.refine_patch.specs.declared.Quad.{Quad}
 use Rattle.refine_patch.specs.declared.Sums.{Sums}
-use Rattle.refine_patch.specs.StepsFrom.{sample_from, coefficient_from, Repeats}
+use Rattle.refine_patch.specs.StepsFrom.{sample_from, coefficient_from}
 use Rattle.refine_patch.specs.StepsFour.{lane_of, lane_in, sum_in, quad_in, quad_by, sums_by, moved_by, float_of, level_of, added, row_added, blocks, wide_of, rows_of, FourReach, PatchesInside, Reaches, RowsReach, Gathered, Rows}
 use Rattle.refine_patch.specs.StepsRows.{centres_of, term, sums_after}
 use Rattle.refine_patch.proofs.FourLaws.{lt-or-le}
@@ -105,10 +109,14 @@ rows-most radius = ⊎_elim (λ (p : radius < 3). omega (arith, rows-small radiu
 pub rows-least : (radius : ℕ) → 0 < rows_of radius
 rows-least radius = ⊎_elim (λ (p : radius < 3). omega (arith, rows-small radius p)) (λ (p : 3 ≤ radius). omega (arith, rows-large radius p)) (lt-or-le radius 3)
 
+-- the lesser of two numbers
+pub lesser-of : (a b r : ℕ) → r ≡ ord_min nat_cmp a b → (r ≤ a) × (r ≤ b) × (0 < a → 0 < b → 0 < r)
+lesser-of a b r e = (grind (arith, common_steps), grind (arith, common_steps), λ p q. grind (arith, common_steps))
+
 -- ---- adding samples
-pub row-none : (columns : List Float) (row : List ℕ) (centre : Quad) (from : ℕ) (s : Sums) → s ≡ row_added columns row centre from 0 s
+pub row_none : (columns : List Float) (row : List ℕ) (centre : Quad) (from : ℕ) (s : Sums) → s ≡ row_added columns row centre from 0 s
 unfolding row_added
-row-none columns row centre from s = refl
+row_none columns row centre from s = refl
 
 pub row_more : (columns : List Float) (row : List ℕ) (centre : Quad) (from n : ℕ) (s t u : Sums) (z : Quad) → t ≡ row_added columns row centre from n s → z ≡ level_of (λ l. get_or row (4 * n + l) 0) centre → u ≡ added columns (from + n) z t → u ≡ row_added columns row centre from (n + 1) s
 unfolding row_added
@@ -242,10 +250,12 @@ sample-inside count pitch radius first k h q =
 pub samples-most : (radius : ℕ) → radius ≤ 7 → samples radius ≤ 225
 samples-most radius h = mul-le-mul {n₁ = side radius} {m₁ = side radius} {n₂ = 15} {m₂ = 15} (omega arith) (omega arith)
 
--- the lengths of both slices are below 2 ^ 64, and so is the count of the samples
-pub below : (bytes words : List ℕ) (deep : Bool) → length bytes < 18446744073709551616 → length words < 18446744073709551616 → length (samples_of bytes words deep) < 18446744073709551616
-below bytes words true p q = q
-below bytes words false p q = p
+-- the samples of an image are fewer than 2 ^ 64
+pub count-below : (img : Image) → IsTested img → length img.samples < 18446744073709551616
+count-below img t = below (length img.samples) (img.pitch * img.height) t.stands.count (image-most img.pitch img.height t.stands.pitch-most t.stands.sized.height-most)
+  where
+    below : (n p : ℕ) → n ≡ p → p ≤ 2 ^ 25 → n < 18446744073709551616
+    below n p e h = omega arith
 
 -- a row's samples are numbered below 225
 pub numbered : (radius j : ℕ) → radius ≤ 7 → j < side radius → j * side radius + side radius ≤ 225
@@ -277,10 +287,6 @@ rows-room radius j rows h q r =
     far : (a w : ℕ) → a ≤ 0 * 15 → w ≤ 16 → 4 * a + 4 * w ≤ 112
     far a w p q = omega arith
 
--- columns that repeat their numbers do so whatever the radius
-pub repeats-two : (fourfold : Bool) (radius : ℕ) (columns : List Float) → Repeats fourfold radius columns → Repeats fourfold 2 columns
-repeats-two fourfold radius columns w = record { few = λ e. le_refl 2; each = w.each }
-
 -- ---- rows one after the other
 -- an entry of an earlier row lies before a later one
 earlier : (side i j k l : ℕ) → i < side → l < 4 → j < k → 4 * (j * side + i) + l < 4 * (k * side)
@@ -306,27 +312,6 @@ module _ (list : List ℕ) (pitch side : ℕ) (at : Firsts) where
             (λ (less : j < k). w.before (4 * (j * side + i) + l) (earlier side i j k l q r less) ∙ g.here j i l less q r)
             (eq-or-lt_of_le (omega arith));
       }
-
--- ---- a number that is read four times
-pub number-four : (columns : List Float) (i : ℕ) → Repeats true 2 columns → i < 125 → quad_by (λ l. entry columns (624 + 4 * i + l)) ≡ quad_by (λ l. entry columns i)
-number-four columns i w h = quad-same (λ l. entry columns (624 + 4 * i + l)) (λ l. entry columns i) (λ l q. w.each refl i l h q)
-
--- the sums of a sample, of its five numbers read so
-module _ (columns : List Float) (k : ℕ) (z : Quad) (s : Sums) where
-  -- the sum of one coefficient
-  part : (c : ℕ) (old n r : Quad) → n ≡ quad_by (λ l. entry columns (5 * k + c)) → r ≡ quad_by (λ l. lane_in old l ⊕ lane_in n l ⊗ lane_in z l) → r ≡ quad_by (λ l. lane_in old l ⊕ entry columns (5 * k + c) ⊗ lane_in z l)
-  part c old n r e q = q ∙ ap (λ (v : Quad). quad_by (λ l. lane_in old l ⊕ lane_in v l ⊗ lane_in z l)) e
-
-  pub sample-added : (n0 n1 n2 n3 n4 r0 r1 r2 r3 r4 : Quad)
-      → n0 ≡ quad_by (λ l. entry columns (5 * k + 0)) → n1 ≡ quad_by (λ l. entry columns (5 * k + 1)) → n2 ≡ quad_by (λ l. entry columns (5 * k + 2)) → n3 ≡ quad_by (λ l. entry columns (5 * k + 3)) → n4 ≡ quad_by (λ l. entry columns (5 * k + 4))
-      → r0 ≡ quad_by (λ l. lane_in s.a l ⊕ lane_in n0 l ⊗ lane_in z l) → r1 ≡ quad_by (λ l. lane_in s.b l ⊕ lane_in n1 l ⊗ lane_in z l) → r2 ≡ quad_by (λ l. lane_in s.c l ⊕ lane_in n2 l ⊗ lane_in z l) → r3 ≡ quad_by (λ l. lane_in s.d l ⊕ lane_in n3 l ⊗ lane_in z l) → r4 ≡ quad_by (λ l. lane_in s.e l ⊕ lane_in n4 l ⊗ lane_in z l)
-      → record { a = r0; b = r1; c = r2; d = r3; e = r4 } ≡ added columns k z s
-  sample-added n0 n1 n2 n3 n4 r0 r1 r2 r3 r4 a b c d e p q u v w =
-      ap (λ (x : Quad). record { a = x; b = r1; c = r2; d = r3; e = r4 }) (part 0 s.a n0 r0 a p)
-      ∙ ap (λ (x : Quad). record { a = quad_in (added columns k z s) 0; b = x; c = r2; d = r3; e = r4 }) (part 1 s.b n1 r1 b q)
-      ∙ ap (λ (x : Quad). record { a = quad_in (added columns k z s) 0; b = quad_in (added columns k z s) 1; c = x; d = r3; e = r4 }) (part 2 s.c n2 r2 c u)
-      ∙ ap (λ (x : Quad). record { a = quad_in (added columns k z s) 0; b = quad_in (added columns k z s) 1; c = quad_in (added columns k z s) 2; d = x; e = r4 }) (part 3 s.d n3 r3 d v)
-      ∙ ap (λ (x : Quad). record { a = quad_in (added columns k z s) 0; b = quad_in (added columns k z s) 1; c = quad_in (added columns k z s) 2; d = quad_in (added columns k z s) 3; e = x }) (part 4 s.e n4 r4 e w)
 
 -- ---- the sum of one coefficient of one patch
 module _ (list : List ℕ) (pitch : ℕ) (columns : List Float) (radius first i : ℕ) where

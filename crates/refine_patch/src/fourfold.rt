@@ -2,23 +2,21 @@
 ghost use Rattle.std.specs.Prelude.{◌≡◌, true, ◌+◌, ◌*◌, ◌≤◌, ◌<◌};
 ghost use Rattle.shapes.specs.Numbers.{entry};
 ghost use Rattle.refine_formulas.specs.Numbers.{◌⊕◌, ◌⊗◌};
-ghost use Rattle.refine_patch.specs.StepsFrom.{Repeats};
 ghost use Rattle.refine_patch.specs.StepsFour.{lane_in, quad_by, added, row_added};
 
-use super::{Quad, Sums};
+use super::{Columns, Quad, Sums};
 
 // The number i, four times.
-fn number(columns: &[f32; 1125], i: usize) -> Quad
-    requires fact_1 { i < 125 }
-    requires fact_2 { Repeats true 2 columns.now }
-    ensures { result ≡ quad_by (λ l. entry columns.now i) }
+fn number(columns: &Columns, i: usize) -> Quad
+    requires { (columns.now.fourfold ≡ true) × (i < 125) }
+    ensures { result ≡ quad_by (λ l. entry columns.now.numbers.now i) }
 {
     let at = 624 + 4 * i;
     Quad {
-        p: columns[at + 0],
-        q: columns[at + 1],
-        r: columns[at + 2],
-        s: columns[at + 3],
+        p: columns.numbers[at + 0],
+        q: columns.numbers[at + 1],
+        r: columns.numbers[at + 2],
+        s: columns.numbers[at + 3],
     }
 }
 
@@ -34,10 +32,9 @@ fn plus(s: Quad, a: Quad, z: Quad) -> Quad
 }
 
 // The sums with the sample k, which is z above the centres.
-fn add_sample(s: Sums, columns: &[f32; 1125], k: usize, z: Quad) -> Sums
-    requires fact_1 { k < 25 }
-    requires fact_2 { Repeats true 2 columns.now }
-    ensures { result ≡ added columns.now k z s }
+fn add_sample(s: Sums, columns: &Columns, k: usize, z: Quad) -> Sums
+    requires { (columns.now.fourfold ≡ true) × (k < 25) }
+    ensures { result ≡ added columns.now.numbers.now k z s }
 {
     let i = 5 * k;
     let a = number(columns, i + 0);
@@ -55,25 +52,23 @@ fn add_sample(s: Sums, columns: &[f32; 1125], k: usize, z: Quad) -> Sums
 }
 
 // The sums with so many samples, the first of which is the sample `from`.
+#[tactic(auto, using(crate::proofs::RowLaws::row_none, crate::proofs::RowLaws::row_more))]
 pub fn add_row(
     s: Sums,
-    columns: &[f32; 1125],
+    columns: &Columns,
     row: &[u16; 112],
     count: usize,
     centre: Quad,
     from: usize,
 ) -> Sums
-    requires fact_1 { from + count ≤ 25 }
-    requires fact_2 { Repeats true 2 columns.now }
-    ensures { result ≡ row_added columns.now row.now centre from count s }
+    requires { (columns.now.fourfold ≡ true) × (from + count ≤ 25) }
+    ensures { result ≡ row_added columns.now.numbers.now row.now centre from count s }
 {
     let mut sums = s;
-    let mut i: usize = 0;
-    while i < count {
+    for i in 0..count {
         let n = 4 * i;
         let z = super::levelled(row[n + 0], row[n + 1], row[n + 2], row[n + 3], centre);
         sums = add_sample(sums, columns, from + i, z);
-        i += 1;
     }
     sums
 }

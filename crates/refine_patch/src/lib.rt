@@ -4,16 +4,25 @@
 
 ghost use Rattle.std.specs.Prelude.{◌≡◌, true, ◌+◌, ◌-◌, ◌*◌, ◌≤◌, ◌<◌, leb, length};
 ghost use Rattle.shapes.specs.Numbers.{plus_zero};
-ghost use Rattle.imageview.specs.Image.{samples_of};
 ghost use Rattle.refine_operator.specs.Basis.{side, samples};
 ghost use Rattle.refine_patch.specs.StepsFrom.{coefficient_from, four_written, Repeats};
-ghost use Rattle.refine_patch.specs.StepsFour.{lane_of, sample_in, sum_in, four_of, four_set, quad_by, sums_by, moved_by, float_of, level_of, added, row_added, wide_of, rows_of, FourReach, PatchesInside, Reaches, RowsReach, Gathered, Rows};
+ghost use Rattle.refine_patch.specs.StepsFour.{lane_of, sample_in, sum_in, four_of, four_at, four_set, quad_by, sums_by, moved_by, float_of, level_of, added, row_added, wide_of, rows_of, FourReach, PatchesInside, Reaches, RowsReach, Gathered, Rows};
 ghost use Rattle.refine_patch.specs.StepsRows.{centres_of, sums_after};
 
 mod each;
 mod fourfold;
-mod reads;
 mod stores;
+
+use imageview::{Image, Sample};
+
+/// An operator's columns for the patches of a radius: five numbers a sample. Where they are fourfold, each number stands four times more behind them, side by side.
+#[derive(Clone, Copy)]
+pub struct Columns<'a> {
+    pub numbers: &'a [f32; 1125],
+    pub fourfold: bool,
+    pub radius: usize,
+    ghost repeats: { Repeats fourfold radius numbers.now },
+}
 
 // The four first places of patches, as indices of the image's samples.
 #[derive(Clone, Copy)]
@@ -53,55 +62,34 @@ pub struct Sums {
 }
 
 // Writes coefficient c of patch l to `out` at `to + 4 · c + l`.
-pub fn fit_four(
-    bytes: &[u8],
-    words: &[u16],
-    deep: bool,
-    pitch: usize,
-    columns: &[f32; 1125],
-    fourfold: bool,
-    radius: usize,
+pub fn fit_four<S: Sample>(
+    image: &Image<S>,
+    columns: &Columns,
     at: Firsts,
     out: &mut [f32],
     to: usize,
 )
     requires out_len { (length out.old ≡ 40) × (to ≤ 20) }
-    requires patches_inside { PatchesInside (length (samples_of bytes.now words.now deep)) pitch radius at }
-    requires repeats { Repeats fourfold radius columns.now }
-    ensures { out.new ≡ four_written (λ c l. coefficient_from (samples_of bytes.now words.now deep) pitch columns.now radius (lane_of at l) c) to out.old }
+    requires patches_inside { PatchesInside (length image.now.samples) image.now.pitch columns.now.radius at }
+    ensures { out.new ≡ four_written (λ c l. coefficient_from image.now.samples image.now.pitch columns.now.numbers.now columns.now.radius (lane_of at l) c) to out.old }
 {
-    if reach(imageview::count(bytes, words, deep), pitch, radius, at) {
-        fit_rows(
-            bytes, words, deep, pitch, columns, fourfold, radius, at, out, to,
-        );
+    if reach(image.count(), image.pitch(), columns.radius, at) {
+        fit_rows(image, columns, at, out, to);
     } else {
-        each::fit_each(bytes, words, deep, pitch, columns, radius, at, out, to);
+        each::fit_each(image, columns, at, out, to);
     }
 }
 
 // The same where some more samples than its own lie behind each row.
-fn fit_rows(
-    bytes: &[u8],
-    words: &[u16],
-    deep: bool,
-    pitch: usize,
-    columns: &[f32; 1125],
-    fourfold: bool,
-    radius: usize,
-    at: Firsts,
-    out: &mut [f32],
-    to: usize,
-)
-    requires fact_1 { (length out.old ≡ 40) × (to ≤ 20) }
-    requires fact_2 { PatchesInside (length (samples_of bytes.now words.now deep)) pitch radius at }
-    requires fact_3 { Repeats fourfold radius columns.now }
-    requires fact_4 { Reaches (length (samples_of bytes.now words.now deep)) pitch radius at }
-    ensures { out.new ≡ four_written (λ c l. coefficient_from (samples_of bytes.now words.now deep) pitch columns.now radius (lane_of at l) c) to out.old }
+fn fit_rows<S: Sample>(image: &Image<S>, columns: &Columns, at: Firsts, out: &mut [f32], to: usize)
+    requires out_len { (length out.old ≡ 40) × (to ≤ 20) }
+    requires patches_inside { PatchesInside (length image.now.samples) image.now.pitch columns.now.radius at }
+    requires reaches { Reaches (length image.now.samples) image.now.pitch columns.now.radius at }
+    ensures { out.new ≡ four_written (λ c l. coefficient_from image.now.samples image.now.pitch columns.now.numbers.now columns.now.radius (lane_of at l) c) to out.old }
 {
-    let centre = centres(bytes, words, deep, at, radius * pitch + radius);
-    let sums = sum_rows(
-        bytes, words, deep, pitch, columns, fourfold, radius, at, centre,
-    );
+    let middle = columns.radius * image.pitch() + columns.radius;
+    let centre = centres(image.samples(), at, middle);
+    let sums = sum_rows(image, columns, at, centre);
     stores::store(out, to, sums);
 }
 
@@ -138,11 +126,24 @@ fn floats(v: Four) -> Quad
 }
 
 // The levels of the centres, which lie `by` past the first samples.
-fn centres(bytes: &[u8], words: &[u16], deep: bool, at: Firsts, by: usize) -> Quad
-    requires { FourReach (length (samples_of bytes.now words.now deep)) by at }
-    ensures { result ≡ centres_of (samples_of bytes.now words.now deep) at by }
+fn centres<S: Sample>(samples: &[S], at: Firsts, by: usize) -> Quad
+    requires { FourReach (length samples.now) by at }
+    ensures { result ≡ centres_of (S.levels samples.now) at by }
 {
-    floats(reads::read_four(bytes, words, deep, at, by))
+    floats(read_four(samples, at, by))
+}
+
+// The samples that lie `by` past the first ones.
+fn read_four<S: Sample>(samples: &[S], at: Firsts, by: usize) -> Four
+    requires { FourReach (length samples.now) by at }
+    ensures { result ≡ four_at (S.levels samples.now) at by }
+{
+    Four {
+        p: S::level_at(samples, at.a + by),
+        q: S::level_at(samples, at.b + by),
+        r: S::level_at(samples, at.c + by),
+        s: S::level_at(samples, at.d + by),
+    }
 }
 
 // Four samples side by side.
@@ -157,55 +158,35 @@ fn put_four(row: &mut [u16; 112], at: usize, v: Four)
 }
 
 // So many samples of one row of the four patches: sample i of patch l goes to `to + 4 · i + l`. The place is counted beside i: as a product the compiler does not read eight at once.
-fn gather(
-    bytes: &[u8],
-    words: &[u16],
-    deep: bool,
-    at: Firsts,
-    count: usize,
-    row: &mut [u16; 112],
-    to: usize,
-)
+fn gather<S: Sample>(samples: &[S], at: Firsts, count: usize, row: &mut [u16; 112], to: usize)
     requires row_len { (length row.old ≡ 112) × (to + 4 * count ≤ 112) }
-    requires four_reach { FourReach (length (samples_of bytes.now words.now deep) + 1) count at }
-    ensures { Gathered (samples_of bytes.now words.now deep) at count to row.old row.new }
+    requires four_reach { FourReach (length samples.now + 1) count at }
+    ensures { Gathered (S.levels samples.now) at count to row.old row.new }
 {
-    let mut i: usize = 0;
-    let mut n: usize = to;
-    while i < count {
-        put_four(row, n, reads::read_four(bytes, words, deep, at, i));
-        i += 1;
+    let mut n = to;
+    for i in 0..count {
+        put_four(row, n, read_four(samples, at, i));
         n += 4;
     }
 }
 
 // So many rows, sample after sample: what is read of a row past its own samples is written over by the next row.
-fn gather_rows(
-    bytes: &[u8],
-    words: &[u16],
-    deep: bool,
-    pitch: usize,
+fn gather_rows<S: Sample>(
+    image: &Image<S>,
     at: Firsts,
     radius: usize,
     rows: usize,
     row: &mut [u16; 112],
 )
     requires row_len { (length row.old ≡ 112) × (radius ≤ 7) × (rows ≤ rows_of radius) }
-    requires rows_reach { RowsReach (length (samples_of bytes.now words.now deep)) pitch radius at rows }
-    ensures { Rows (samples_of bytes.now words.now deep) pitch (side radius) at rows row.new }
+    requires rows_reach { RowsReach (length image.now.samples) image.now.pitch radius at rows }
+    ensures { Rows image.now.samples image.now.pitch (side radius) at rows row.new }
 {
-    let mut j: usize = 0;
-    while j < rows {
-        gather(
-            bytes,
-            words,
-            deep,
-            moved(at, j * pitch),
-            wide_of(radius),
-            row,
-            4 * (j * (2 * radius + 1)),
-        );
-        j += 1;
+    let pitch = image.pitch();
+    let samples = image.samples();
+    for j in 0..rows {
+        let to = 4 * (j * (2 * radius + 1));
+        gather(samples, moved(at, j * pitch), wide_of(radius), row, to);
     }
 }
 
@@ -221,12 +202,6 @@ fn rows_of(radius: usize) -> usize
     ensures { result ≡ rows_of radius }
 {
     if radius < 3 { 5 } else { 1 }
-}
-
-fn lesser(a: usize, b: usize) -> usize
-    ensures { (result ≤ a) × (result ≤ b) × (0 < a → 0 < b → 0 < result) }
-{
-    if a < b { a } else { b }
 }
 
 // Whether so many samples lie from the first of a patch's last row on.
@@ -308,6 +283,7 @@ fn add_sample(s: Sums, columns: &[f32; 1125], k: usize, z: Quad) -> Sums
 }
 
 // The sums with so many samples, the first of which is the sample `from`.
+#[tactic(auto, using(crate::proofs::RowLaws::row_none, crate::proofs::RowLaws::row_more))]
 fn add_row(
     s: Sums,
     columns: &[f32; 1125],
@@ -320,12 +296,10 @@ fn add_row(
     ensures { result ≡ row_added columns.now row.now centre from count s }
 {
     let mut sums = s;
-    let mut i: usize = 0;
-    while i < count {
+    for i in 0..count {
         let n = 4 * i;
         let z = levelled(row[n + 0], row[n + 1], row[n + 2], row[n + 3], centre);
         sums = add_sample(sums, columns, from + i, z);
-        i += 1;
     }
     sums
 }
@@ -351,59 +325,40 @@ fn no_sums() -> Sums
 // The same with the numbers of the columns as they are lent.
 fn add_rows(
     s: Sums,
-    columns: &[f32; 1125],
-    fourfold: bool,
+    columns: &Columns,
     row: &[u16; 112],
     count: usize,
     centre: Quad,
     from: usize,
 ) -> Sums
-    requires count_bound { (count ≤ 25) × (from + count ≤ 225) × (fourfold ≡ true → from + count ≤ 25) }
-    requires repeats { Repeats fourfold 2 columns.now }
-    ensures { result ≡ row_added columns.now row.now centre from count s }
+    requires { (count ≤ 25) × (from + count ≤ 225) × (columns.now.fourfold ≡ true → from + count ≤ 25) }
+    ensures { result ≡ row_added columns.now.numbers.now row.now centre from count s }
 {
-    if fourfold {
-        return fourfold::add_row(s, columns, row, count, centre, from);
+    if columns.fourfold {
+        fourfold::add_row(s, columns, row, count, centre, from)
+    } else {
+        add_row(s, columns.numbers, row, count, centre, from)
     }
-    add_row(s, columns, row, count, centre, from)
 }
 
 // The sums of all samples, some rows at a time.
-fn sum_rows(
-    bytes: &[u8],
-    words: &[u16],
-    deep: bool,
-    pitch: usize,
-    columns: &[f32; 1125],
-    fourfold: bool,
-    radius: usize,
-    at: Firsts,
-    centre: Quad,
-) -> Sums
-    requires fact_1 { PatchesInside (length (samples_of bytes.now words.now deep)) pitch radius at }
-    requires fact_2 { centre ≡ centres_of (samples_of bytes.now words.now deep) at (radius * pitch + radius) }
-    requires fact_3 { Repeats fourfold radius columns.now }
-    requires fact_4 { Reaches (length (samples_of bytes.now words.now deep)) pitch radius at }
-    ensures { result ≡ sums_after (samples_of bytes.now words.now deep) pitch columns.now radius at (samples radius) }
+fn sum_rows<S: Sample>(image: &Image<S>, columns: &Columns, at: Firsts, centre: Quad) -> Sums
+    requires patches_inside { PatchesInside (length image.now.samples) image.now.pitch columns.now.radius at }
+    requires reaches { Reaches (length image.now.samples) image.now.pitch columns.now.radius at }
+    requires of_centres { centre ≡ centres_of image.now.samples at (columns.now.radius * image.now.pitch + columns.now.radius) }
+    ensures { result ≡ sums_after image.now.samples image.now.pitch columns.now.numbers.now columns.now.radius at (samples columns.now.radius) }
 {
+    let radius = columns.radius;
     let side = 2 * radius + 1;
     let most = rows_of(radius);
+    let pitch = image.pitch();
     let mut row = [0u16; 112];
     let mut sums = no_sums();
     let mut j: usize = 0;
     while j < side {
-        let rows = lesser(most, side - j);
-        gather_rows(
-            bytes,
-            words,
-            deep,
-            pitch,
-            moved(at, j * pitch),
-            radius,
-            rows,
-            &mut row,
-        );
-        sums = add_rows(sums, columns, fourfold, &row, rows * side, centre, j * side);
+        let rows = std::cmp::min(most, side - j);
+        gather_rows(image, moved(at, j * pitch), radius, rows, &mut row);
+        sums = add_rows(sums, columns, &row, rows * side, centre, j * side);
         j += rows;
     }
     sums

@@ -11,7 +11,7 @@ use Rattle.gradient.proofs.AdditionLaws.{ring-only, ring-and-cross, same-samples
 use Rattle.gradient.proofs.additions.add_all.Goals as goal
 
 pub add_cross-requires : goal.add_cross-requires
-add_cross-requires c = (c.mean_sign-mean.ensures.1, λ k h. subst (λ (n : ℕ). 2 * get_or c.args.cells.now k 0 + 1 < n) (sym c.add_ring.auto.grid) (c.requires.1 k h))
+add_cross-requires c = record { mean_is_sign = c.mean_sign-mean.ensures.1; in_grid = λ k h. subst (λ (n : ℕ). 2 * get_or c.args.cells.now k 0 + 1 < n) (sym c.add_ring.auto.grid) (c.requires.in_grid k h) }
 
 pub returns-then-mean-ne1 : goal.returns-then-mean-ne1
 returns-then-mean-ne1 c =

@@ -1,13 +1,10 @@
 -- `gradient::additions::add_ring` meets its contract. The invariant: the grid is what k turns leave.
 use Rattle.gradient.proofs.AdditionLaws.{ring-more}
 use native.Mathlib.Omega.{arith}
-use Rattle.shapes.proofs.TurnLaws.{ended}
 use borrow.Author.Rules.{rules}
-use mathlib.Core.Path.{ap, ◌∙◌}
-use Prim.Native.Nat.{ℕ}
+use mathlib.Core.Path.{◌∙◌}
 use Rattle.shapes.specs.Turns.{turns}
 use Rattle.pixel_response.specs.Steps.{listed}
-use Rattle.gradient.specs.Steps.{ring_step}
 use Rattle.gradient.proofs.additions.add_ring.Goals as goal
 
 pub loop-k-init : goal.loop-k-init
@@ -17,16 +14,10 @@ loop-k-init c = search rules
 pub add_at-requires : goal.add_at-requires
 add_at-requires c =
     let l = c.loop-k in
-    omega (arith, c.requires.1 l.k (omega arith), l.invariant.1)
+    omega (arith, c.requires.in_grid l.k (omega arith), l.invariant.0)
 
 pub loop-k-preserved : goal.loop-k-preserved
 loop-k-preserved c =
     let a = c.args in
     let l = c.loop-k in
-    (search rules, c.add_at.auto.grid ∙ l.invariant.1, ring-more (listed a.samples.now) a.mean (listed a.cells.now) a.scale l.k c.ring_coefficient.result c.whole-c.result a.grid.now l.grid c.add_at.new.grid l.invariant.2 c.ring_coefficient.ensures.0 c.whole-c.ensures c.add_at.ensures)
-
-pub returns : goal.returns
-returns c =
-    let a = c.args in
-    let l = c.loop-k in
-    l.invariant.2 ∙ ap (λ (n : ℕ). turns n (ring_step (listed a.samples.now) a.mean (listed a.cells.now) a.scale) a.grid.now) (ended l.invariant.0 c.loop-k-test.false)
+    (c.add_at.auto.grid ∙ l.invariant.0, ring-more (listed a.samples.now) a.mean (listed a.cells.now) a.scale l.k c.ring_coefficient.result c.whole-c.result a.grid.now l.grid c.add_at.new.grid l.invariant.1 c.ring_coefficient.ensures.0 c.whole-c.ensures c.add_at.ensures)

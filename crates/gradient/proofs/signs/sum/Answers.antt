@@ -1,6 +1,5 @@
 -- `gradient::signs::sum` meets its contract. The invariant: the sum is that of the first k samples, at most 255 each.
 use native.Mathlib.Omega.{arith}
-use Rattle.shapes.proofs.TurnLaws.{ended}
 use Rattle.pixel_response.proofs.PixelLaws.{total-more}
 use borrow.Author.Rules.{rules}
 use mathlib.Core.Path.{ap, ◌∙◌}
@@ -19,11 +18,4 @@ loop-k-preserved c =
     let l = c.loop-k in
     let a = c.args in
     let m = c.more-sum.ensures in
-    (search rules, m.0 ∙ ap (λ (n : ℕ). n + get_or a.samples.now (a.from + l.k) 0) l.invariant.1 ∙ total-more l.k (λ j. listed a.samples.now (a.from + j)), omega (arith, m.1, l.invariant.2))
-
-pub returns : goal.returns
-returns c =
-    let l = c.loop-k in
-    let a = c.args in
-    let e = ended l.invariant.0 c.loop-k-test.false in
-    (l.invariant.1 ∙ ap (λ (n : ℕ). total n (λ j. listed a.samples.now (a.from + j))) e, omega (arith, l.invariant.2, e))
+    (m.0 ∙ ap (λ (n : ℕ). n + get_or a.samples.now (a.from + l.k) 0) l.invariant.0 ∙ total-more l.k (λ j. listed a.samples.now (a.from + j)), omega (arith, m.1, l.invariant.1))
