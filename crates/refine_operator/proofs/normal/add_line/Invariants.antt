@@ -5,7 +5,4 @@ use Rattle.refine_operator.specs.Steps.{upper_at}
 use Rattle.refine_operator.proofs.normal.add_line.Given as goal
 
 abbrev pub invariant-loop-x : goal.invariant-loop-x
-invariant-loop-x l = (l.x ≤ 2 * l.radius + 1) × (l.sums ≡ upper_at l.radius (l.y * side l.radius + l.x))
-
-abbrev pub decreases-loop-x : goal.decreases-loop-x
-decreases-loop-x l = 2 * l.radius + 1 - l.x
+invariant-loop-x l = l.sums ≡ upper_at l.radius (l.y * side l.radius + l.x)
