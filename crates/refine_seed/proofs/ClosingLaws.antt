@@ -7,6 +7,7 @@ use native.Mathlib.Omega.{arith}
 use lib.IntN.{ℤ, pos, negsuc, sub_ℕ, ◌+ℤ◌}
 use lib.Ieee.{Float, sub}
 use borrow.Author.Tests.{le-ltb}
+use mathlib.Core.Logic.{◌⊎◌, inl, inr}
 use Rattle.std.specs.Prelude.{Option, Some, None, Result, Ok, Err}
 use Rattle.std.proofs.lemmas.Bool.{cases_lt}
 use Rattle.floats.specs.Whole.{floor}
@@ -81,40 +82,39 @@ module _ (fit : ℤ → Fit) (coef : ℕ → List Float) (radius n x : ℕ) (fit
   axis_is here r e p q s = by (cases_lt (x + 1 + radius) n) (cases_lt radius x)
     where
       by : (x + 1 + radius < n) ⊎ (n ≤ x + 1 + radius) → (radius < x) ⊎ (x ≤ radius) → axis ≡ r
-      by (inl h) g = let w = p h in from_next h ∙ sym (w.2.1 ∙ ap (λ (l : List Float). Some (difference l here)) w.1 ∙ ap (λ (l : List Float). Some (difference (coef (x + 1)) l)) e)
-      by (inr h) (inl g) = let w = q h g in from_before h g ∙ sym (w.2.1 ∙ ap (λ (l : List Float). Some (difference here l)) w.1 ∙ ap (λ (l : List Float). Some (difference l (coef (x - 1)))) e)
+      by (inl h) g = let w = p h in from_next h ∙ sym (w.2 ∙ ap (λ (l : List Float). Some (difference l here)) w.1 ∙ ap (λ (l : List Float). Some (difference (coef (x + 1)) l)) e)
+      by (inr h) (inl g) = let w = q h g in from_before h g ∙ sym (w.2 ∙ ap (λ (l : List Float). Some (difference here l)) w.1 ∙ ap (λ (l : List Float). Some (difference l (coef (x - 1)))) e)
       by (inr h) (inr g) = from_none h g ∙ sym (s h g)
 
-module _ (img : Image) (columns : List Float) (radius x y : ℕ) (w : PatchWithin img radius x y) where
-  fits-x : (k : ℕ) → radius ≤ k → k + radius < img.width → fit_at img columns radius (pos k) (pos y) ≡ fitted (coefficients img columns radius k y)
-  fits-x k l h = there img columns radius k y (record { sound = w.sound; left = l; right = h; above = w.above; below = w.below })
-
-  fits-y : (k : ℕ) → radius ≤ k → k + radius < img.height → fit_at img columns radius (pos x) (pos k) ≡ fitted (coefficients img columns radius x k)
-  fits-y k l h = there img columns radius x k (record { sound = w.sound; left = w.left; right = w.right; above = l; below = h })
-
-  outside-x : (z : ℤ) → inside radius img.width z ≡ false → fit_at img columns radius z (pos y) ≡ no_fit
+module _ (img : Image) (columns : List Float) (radius x y : ℕ) (w : PatchWithin img radius x y) (here : List Float) (e : here ≡ coefficients img columns radius x y) (n : ℕ) where
+  -- what the code answers along a row of n pixels, and along a column
+  pub row_is : n ≡ img.width → (r : Option (List Float))
+      → (x + 1 + radius < n → (l : List Float) × (l ≡ coefficients img columns radius (x + 1) y) × (r ≡ Some (difference l here)))
+      → (n ≤ x + 1 + radius → radius < x → (l : List Float) × (l ≡ coefficients img columns radius (x - 1) y) × (r ≡ Some (difference here l)))
+      → (n ≤ x + 1 + radius → x ≤ radius → r ≡ None)
+      → along (fit_at img columns radius (pos x) (pos y)) (fit_at img columns radius (pos x +ℤ pos 1) (pos y)) (fit_at img columns radius (pos x +ℤ negsuc 0) (pos y)) ≡ r
   unfolding fit_at supports_patch
-  outside-x z h = ap (λ (b : Bool). cond (b && inside radius img.height (pos y)) (fit_within img columns radius z (pos y)) no_fit) h
+  row_is k r p q s = axis_is (λ z. fit_at img columns radius z (pos y)) (λ k. coefficients img columns radius k y) radius n x fits away w.left (omega (arith, w.right, k)) here r e p q s
+    where
+      fits : (j : ℕ) → radius ≤ j → j + radius < n → fit_at img columns radius (pos j) (pos y) ≡ fitted (coefficients img columns radius j y)
+      fits j l h = there img columns radius j y (record { sound = w.sound; left = l; right = omega (arith, h, k); above = w.above; below = w.below })
 
-  outside-y : (z : ℤ) → inside radius img.height z ≡ false → fit_at img columns radius (pos x) z ≡ no_fit
+      away : (z : ℤ) → inside radius n z ≡ false → fit_at img columns radius z (pos y) ≡ no_fit
+      away z h = ap (λ (b : Bool). cond (b && inside radius img.height (pos y)) (fit_within img columns radius z (pos y)) no_fit) (ap (λ (m : ℕ). inside radius m z) (sym k) ∙ h)
+
+  pub column_is : n ≡ img.height → (r : Option (List Float))
+      → (y + 1 + radius < n → (l : List Float) × (l ≡ coefficients img columns radius x (y + 1)) × (r ≡ Some (difference l here)))
+      → (n ≤ y + 1 + radius → radius < y → (l : List Float) × (l ≡ coefficients img columns radius x (y - 1)) × (r ≡ Some (difference here l)))
+      → (n ≤ y + 1 + radius → y ≤ radius → r ≡ None)
+      → along (fit_at img columns radius (pos x) (pos y)) (fit_at img columns radius (pos x) (pos y +ℤ pos 1)) (fit_at img columns radius (pos x) (pos y +ℤ negsuc 0)) ≡ r
   unfolding fit_at supports_patch
-  outside-y z h = ap (λ (b : Bool). cond (inside radius img.width (pos x) && b) (fit_within img columns radius (pos x) z) no_fit) h ∙ never (inside radius img.width (pos x)) (fit_within img columns radius (pos x) z)
+  column_is k r p q s = axis_is (λ z. fit_at img columns radius (pos x) z) (λ k. coefficients img columns radius x k) radius n y fits away w.above (omega (arith, w.below, k)) here r e p q s
+    where
+      fits : (j : ℕ) → radius ≤ j → j + radius < n → fit_at img columns radius (pos x) (pos j) ≡ fitted (coefficients img columns radius x j)
+      fits j l h = there img columns radius x j (record { sound = w.sound; left = w.left; right = w.right; above = l; below = omega (arith, h, k) })
 
-  -- the slope, from what the code answers along each axis
-  module _ (here : List Float) (e : here ≡ coefficients img columns radius x y) where
-    pub row_is : (r : Option (List Float))
-        → (x + 1 + radius < img.width → (l : List Float) × (l ≡ coefficients img columns radius (x + 1) y) × (r ≡ Some (difference l here)))
-        → (img.width ≤ x + 1 + radius → radius < x → (l : List Float) × (l ≡ coefficients img columns radius (x - 1) y) × (r ≡ Some (difference here l)))
-        → (img.width ≤ x + 1 + radius → x ≤ radius → r ≡ None)
-        → along (fit_at img columns radius (pos x) (pos y)) (fit_at img columns radius (pos x +ℤ pos 1) (pos y)) (fit_at img columns radius (pos x +ℤ negsuc 0) (pos y)) ≡ r
-    row_is r p q s = axis_is (λ z. fit_at img columns radius z (pos y)) (λ k. coefficients img columns radius k y) radius img.width x fits-x outside-x w.left w.right here r e p q s
-
-    pub column_is : (r : Option (List Float))
-        → (y + 1 + radius < img.height → (l : List Float) × (l ≡ coefficients img columns radius x (y + 1)) × (r ≡ Some (difference l here)))
-        → (img.height ≤ y + 1 + radius → radius < y → (l : List Float) × (l ≡ coefficients img columns radius x (y - 1)) × (r ≡ Some (difference here l)))
-        → (img.height ≤ y + 1 + radius → y ≤ radius → r ≡ None)
-        → along (fit_at img columns radius (pos x) (pos y)) (fit_at img columns radius (pos x) (pos y +ℤ pos 1)) (fit_at img columns radius (pos x) (pos y +ℤ negsuc 0)) ≡ r
-    column_is r p q s = axis_is (λ z. fit_at img columns radius (pos x) z) (λ k. coefficients img columns radius x k) radius img.height y fits-y outside-y w.above w.below here r e p q s
+      away : (z : ℤ) → inside radius n z ≡ false → fit_at img columns radius (pos x) z ≡ no_fit
+      away z h = ap (λ (b : Bool). cond (inside radius img.width (pos x) && b) (fit_within img columns radius (pos x) z) no_fit) (ap (λ (m : ℕ). inside radius m z) (sym k) ∙ h) ∙ never (inside radius img.width (pos x)) (fit_within img columns radius (pos x) z)
 
 pub slope_is : (img : Image) (columns : List Float) (radius : ℕ) (x y : ℤ) (a b : Option (List Float))
     → along (fit_at img columns radius x y) (fit_at img columns radius (x +ℤ pos 1) y) (fit_at img columns radius (x +ℤ negsuc 0) y) ≡ a
@@ -126,13 +126,6 @@ slope_is img columns radius x y a b p q = sym (ap (λ (u : Option (List Float)).
 pub no_second : (a : Option (List Float)) → both a None ≡ None
 no_second None = refl
 no_second (Some x) = refl
-
--- ---- a centre's column and row are those of some image
-pub column : {img : Image} {radius x y : ℕ} → PatchWithin img radius x y → x < 4096
-column w = omega (arith, w.right, w.sound.image.sized.width-most)
-
-pub row : {img : Image} {radius x y : ℕ} → PatchWithin img radius x y → y < 4096
-row w = omega (arith, w.below, w.sound.image.sized.height-most)
 
 -- ---- the whole run in two halves
 module _ (img : Image) (columns : List Float) (cfg : SaddlePointConfig) (seed : Seed) (overlap : List Float) (wanted : Bool) where
@@ -180,18 +173,18 @@ module _ (img : Image) (columns : List Float) (cfg : SaddlePointConfig) (seed : 
       by true = in_window s.ox s.oy s.place s.fit n (slope_within s.corners s.place.tx s.place.ty)
       by false = refl
 
+  starts : (f : PatchSaddle) → settled f ≡ true → run_of task f ≡ at_start 0
+  unfolding run_of
+  starts f h =
+      let r = search_from 4 task f plus_zero plus_zero (record { x = f.ux; y = f.uy }) one in
+      yes (settled f) (at_start 0) (picked r.outcome (λ s. steps_from 15 task s r.count) (at_start r.count)) h
+
   run-opened : (f : PatchSaddle) → finished task overlap wanted f (run_of task f) ≡ closed_with overlap wanted (opened_from task seed f)
   run-opened f = by (settled f) refl
     where
-      starts : settled f ≡ true → run_of task f ≡ at_start 0
-      unfolding run_of
-      starts h =
-          let r = search_from 4 task f plus_zero plus_zero (record { x = f.ux; y = f.uy }) one in
-          yes (settled f) (at_start 0) (picked r.outcome (λ s. steps_from 15 task s r.count) (at_start r.count)) h
-
       by : (b : Bool) → settled f ≡ b → finished task overlap wanted f (run_of task f) ≡ closed_with overlap wanted (opened_from task seed f)
       by true h =
-          ap (λ (e : Finish). finished task overlap wanted f e) (starts h)
+          ap (λ (e : Finish). finished task overlap wanted f e) (starts f h)
           ∙ yes (settled f) (closed_at task overlap wanted origin f 0 (slope_at img columns cfg.radius (pos seed.centre_x) (pos seed.centre_y))) (single task f 0) h
           ∙ at_origin f (slope_at img columns cfg.radius (pos seed.centre_x) (pos seed.centre_y))
           ∙ ap (closed_with overlap wanted) (sym (yes (settled f) (opened_there seed f (slope_at img columns cfg.radius (pos seed.centre_x) (pos seed.centre_y))) (opened_on seed f (ended_of (run_of task f)).tries (ended_of (run_of task f)).settled) h))

@@ -31,8 +31,8 @@ use Rattle.refine_seed.specs.declared.Estimate.{Estimate}
 use Rattle.refine_seed.specs.declared.Noise.{Noise}
 use Rattle.refine_seed.specs.declared.Opened.{Opened}
 use Rattle.refine_seed.specs.declared.Unrefined.{Unrefined}
-use Rattle.refine_seed.specs.declared.Unrefined.TheVariants.{Unmoved}
-use Rattle.refine_seed.specs.declared.Why.TheVariants.{Rejected}
+use Rattle.refine_seed.specs.declared.Unrefined.TheVariants.{Unmoved, Refused}
+use Rattle.refine_seed.specs.declared.Why.TheVariants.{Rejected, IllConditioned}
 use Rattle.refine_formulas.specs.Numbers.{◌⊕◌, ◌⊖◌, ◌⊗◌, half}
 use Rattle.refine_fits.specs.Fit.{sample_of, coefficient, coefficients, Fit, no_fit, fitted, fit_within, fit_at}
 use Rattle.refine_formulas.specs.Solve.{solve, settled}
@@ -41,10 +41,13 @@ use Rattle.refine_formulas.specs.Between.{blend}
 use Rattle.refine_seed.specs.PixelSlope.{along, both, slope_at}
 use Rattle.refine_fits.specs.Candidate.{Task, near_seed, Stand, Tried, passed, taken, judged, weighed, candidate, task_at}
 use Rattle.refine_seed.specs.Run.{Search, or_else, search_from, Finish, at_start, at_stand, picked, later_move, steps_from, run_of}
-use Rattle.refine_seed.specs.Refine.{unbuilt, refine_with, with_operator}
-use Rattle.refine_seed.specs.StepsEnding.{answer_with, closed_with, covariance_with, ended_of, opened_there, opened_on, opened_from, open_by, open_of, open_with}
+use Rattle.refusals.specs.declared.Refusal.{Refusal}
+use Rattle.imageview.specs.View.{passing}
+use Rattle.refine_seed.specs.Refine.{Refined, unmoved, unbuilt, admit_of, refine_with, with_operator, refine_of, refine_lent}
+use Rattle.refine_seed.specs.StepsEnding.{ClosesFresh, answer_with, closed_with, covariance_with, ended_of, opened_there, opened_on, opened_from, open_by, open_of, open_with}
 use Rattle.refine_seed.proofs.StepLaws.{no}
 use Rattle.refine_seed.proofs.ClosingLaws.{refined-opened}
+use Rattle.refine_seed.proofs.EntryLaws.{own_answer, lent_answer, lent_zero, lent_other, not_passing}
 
 -- ---- two images and two operators that give the same fit at every pixel
 abbrev pub SameFits : Image → Image → List Float → List Float → ℕ → Type 0
@@ -245,3 +248,38 @@ module _ (img : Image) (cfg : SaddlePointConfig) (seed : Seed) where
         unread (Some w) =
             no wanted (covariance_of overlap w.tx w.ty (saddle_jacobian w.fit) w.moves) None e
             ∙ sym (no wanted (covariance_of (Operator.overlap_after [] way) w.tx w.ty (saddle_jacobian w.fit) w.moves) None e)
+
+-- ---- the two calls
+module _ (img : Image) (cfg : SaddlePointConfig) (x y : Float) (wanted : Bool) where
+  pub own_refused : (r : Refusal) → Err r ≡ passing img → refine_of img cfg x y wanted ≡ Err (Refused r)
+  own_refused r h = sym (own_answer img cfg x y wanted (Err (Refused r)) (not_passing img cfg x y r (sym h)))
+
+  pub own_unadmitted : (e : Unrefined) → Err e ≡ admit_of img cfg x y → refine_of img cfg x y wanted ≡ Err e
+  own_unadmitted e h = sym (own_answer img cfg x y wanted (Err e) h)
+
+  module _ (seed : Seed) (h : Ok seed ≡ admit_of img cfg x y) where
+    pub own_unopened : (e : Unrefined) → Err e ≡ open_with img cfg seed (Operator.way_of cfg.radius) → refine_of img cfg x y wanted ≡ Err e
+    own_unopened e k = sym (fresh_err img cfg seed wanted e (sym k) ∙ own_answer img cfg x y wanted (Ok seed) h)
+
+    pub own_closed : (o : Opened) (r : Refined) → Ok o ≡ open_with img cfg seed (Operator.way_of cfg.radius) → ClosesFresh cfg wanted o r → r ≡ refine_of img cfg x y wanted
+    own_closed o r k c = c.is img seed (sym k) ∙ own_answer img cfg x y wanted (Ok seed) h
+
+  module _ (columns overlap : List Float) where
+    pub lent_refused : (r : Refusal) → Err r ≡ passing img → refine_lent img cfg x y wanted columns overlap ≡ Err (Refused r)
+    lent_refused r h = sym (lent_answer img cfg x y wanted columns overlap (Err (Refused r)) (not_passing img cfg x y r (sym h)))
+
+    pub lent_unadmitted : (e : Unrefined) → Err e ≡ admit_of img cfg x y → refine_lent img cfg x y wanted columns overlap ≡ Err e
+    lent_unadmitted e h = sym (lent_answer img cfg x y wanted columns overlap (Err e) h)
+
+    module _ (seed : Seed) (h : Ok seed ≡ admit_of img cfg x y) where
+      pub lent_none : cfg.radius ≡ 0 → Err (unmoved IllConditioned) ≡ refine_lent img cfg x y wanted columns overlap
+      lent_none z = lent_zero cfg (refine_with img cfg seed wanted columns overlap) z ∙ lent_answer img cfg x y wanted columns overlap (Ok seed) h
+
+      lent_opened : (cfg.radius ≡ 0 → ⊥) → answer_with overlap wanted (open_of img cfg seed columns) ≡ refine_lent img cfg x y wanted columns overlap
+      lent_opened z = sym (refined-opened img columns cfg seed overlap wanted) ∙ lent_other cfg (refine_with img cfg seed wanted columns overlap) z ∙ lent_answer img cfg x y wanted columns overlap (Ok seed) h
+
+      pub lent_unopened : (cfg.radius ≡ 0 → ⊥) → (e : Unrefined) → Err e ≡ open_of img cfg seed columns → refine_lent img cfg x y wanted columns overlap ≡ Err e
+      lent_unopened z e k = sym (ap (answer_with overlap wanted) k ∙ lent_opened z)
+
+      pub lent_closed : (cfg.radius ≡ 0 → ⊥) → (o : Opened) (r : Estimate) → Ok o ≡ open_of img cfg seed columns → r ≡ closed_with overlap wanted o → Ok r ≡ refine_lent img cfg x y wanted columns overlap
+      lent_closed z o r k e = ap Ok e ∙ ap (answer_with overlap wanted) k ∙ lent_opened z

@@ -8,8 +8,11 @@ use lib.IntN.{ℤ, pos, negsuc, nat_abs}
 use lib.Ieee.{Float}
 use borrow.Author.Tests.{leb-true, ltb-true, le-leb, eq-eqb, ne_eqb}
 use Rattle.std.specs.Prelude.{Option, Some, None, Result, Ok, Err}
+use Rattle.std.specs.Result.{IsErrAnd}
+use Rattle.std.proofs.lemmas.Result.{err_from_is_err_and}
 use Rattle.imageview.specs.Image.{Image, is_image, in_range}
 use Rattle.imageview.specs.Patch.{inside, supports_patch}
+use Rattle.imageview.specs.View.{passing}
 use Rattle.imageview.proofs.ImageLaws as images
 use Rattle.refine_operator.specs.Call as Operator
 use Rattle.refine_formulas.specs.declared.SaddlePointConfig.{SaddlePointConfig}
@@ -18,10 +21,15 @@ use Rattle.refine_fits.specs.StepsAdding.{Sound, PatchWithin}
 use Rattle.refine_seed.specs.declared.Unrefined.{Unrefined}
 use Rattle.refine_seed.specs.declared.Unrefined.TheVariants.{Refused}
 use Rattle.refine_seed.specs.declared.Why.TheVariants.{OutOfBounds, IllConditioned, BadSeed}
+use Rattle.refusals.specs.declared.Refusal.{Refusal}
 use Rattle.refusals.specs.declared.Refusal.TheVariants.{BadImage, BadSample, BadRadius, BadLimit}
 use Rattle.refine_seed.specs.Refine.{Refined, unmoved, good_limits, is_place, centre_of, seed_of, admit_of, answered, refine_with, lent_with, refine_lent, with_operator, refine_of}
 use Rattle.refine_seed.specs.StepsSpot.{Ready, seed_alone}
 use Rattle.refine_seed.proofs.StepLaws.{no, yes}
+
+-- what a `?` answers
+pub err_is : {A E : Type 0} (r : Result A E) (e : E) → IsErrAnd r (λ y. y ≡ e) → r ≡ Err e
+err_is r e h = let w = err_from_is_err_and r h in w.1 ∙ ap Err w.2
 
 -- ---- a centre inside
 inside-low : (radius n : ℕ) (z : ℤ) → inside radius n z ≡ true → radius ≤ nat_abs z
@@ -92,6 +100,18 @@ module _ (img : Image) (cfg : SaddlePointConfig) (x y : Float) where
   pub alone : Ready img cfg → seed_alone img.width img.height cfg.radius x y ≡ admit_of img cfg x y
   unfolding supports_patch
   alone r = to true true true true (is_place x y) supports r.image r.range r.small r.limits refl refl
+
+  pub alone_is : is_image img ≡ true → in_range img ≡ true → cfg.radius ≤ 7 → good_limits cfg ≡ true → seed_alone img.width img.height cfg.radius x y ≡ admit_of img cfg x y
+  alone_is i r s l = alone (record { image = i; range = r; small = le-leb cfg.radius 7 s; limits = l })
+
+  -- an image that did not pass its tests is refused
+  pub not_passing : (r : Refusal) → passing img ≡ Err r → Err (Refused r) ≡ admit_of img cfg x y
+  not_passing r h = by (is_image img) (in_range img) refl refl h
+    where
+      by : (i g : Bool) → is_image img ≡ i → in_range img ≡ g → cond i (cond g (Ok img) (Err BadSample)) (Err BadImage) ≡ Err r → Err (Refused r) ≡ admit_of img cfg x y
+      by false g p q e = let k : r ≡ BadImage = cc in ap (λ (v : Refusal). Err (Refused v)) k ∙ to false (in_range img) _ _ _ _ p refl refl refl refl refl
+      by true false p q e = let k : r ≡ BadSample = cc in ap (λ (v : Refusal). Err (Refused v)) k ∙ to true false _ _ _ _ p q refl refl refl refl
+      by true true p q e = cc
 
   pub good-within : (seed : Seed) → admit_of img cfg x y ≡ Ok seed → PatchWithin img cfg.radius seed.centre_x seed.centre_y
   good-within seed h =

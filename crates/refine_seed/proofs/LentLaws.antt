@@ -27,7 +27,9 @@ module _ (img : Image) (cfg : SaddlePointConfig) (x y : Float) (wanted : Bool) (
   -- an operator that was built is not that of radius 0
   not-zero : r ≡ Ok tt → (a : Refined) (z : Bool) → eqb cfg.radius 0 ≡ z → cond z (Err (unmoved IllConditioned)) a ≡ a
   not-zero e a false h = refl
-  not-zero e a true h = absurd (subst is_singular (sym (ap Operator.answer_of radius-0) ∙ sym (ap (λ (k : ℕ). Operator.answer_of (Operator.way_of k)) (eqb-true cfg.radius 0 h)) ∙ sym done.answers ∙ e) tt)
+  not-zero e a true h =
+      let q : Operator.answer_of Operator.none ≡ Ok tt = sym (ap Operator.answer_of radius-0) ∙ sym (ap (λ (k : ℕ). Operator.answer_of (Operator.way_of k)) (eqb-true cfg.radius 0 h)) ∙ sym done.answers ∙ e in
+      cc
 
   by_tests : r ≡ Ok tt → (d : Result Seed Unrefined) → answered d (λ seed. lent_with cfg (refine_with img cfg seed wanted columns' overlap')) ≡ answered d (λ seed. with_operator img cfg seed wanted (Operator.way_of cfg.radius))
   by_tests e (Ok seed) =

@@ -3,7 +3,8 @@ use mathlib.Core.Path.{◌≡◌, refl, sym, ap, ◌∙◌}
 use mathlib.Core.Bool.{Bool}
 use mathlib.Core.List.{List}
 use lib.Ieee.{Float}
-use Rattle.std.specs.Prelude.{Option, None, Result, Ok, Err}
+use Rattle.std.specs.Prelude.{Option, Some, None, Result, Ok, Err}
+use Rattle.std.specs.Result.{result_ok}
 use Rattle.imageview.specs.Image.{Image}
 use Rattle.refine_formulas.specs.declared.SaddlePointConfig.{SaddlePointConfig}
 use Rattle.refine_fits.specs.declared.Seed.{Seed}
@@ -44,3 +45,12 @@ module _ (img : Image) (columns : List Float) (cfg : SaddlePointConfig) (x y : F
               ∙ lent_other cfg (refine_with img cfg seed wanted columns overlap) z
               ∙ lent_answer img cfg x y wanted columns overlap (Ok seed) h);
         }
+
+  -- by what the code keeps of the tests
+  pub lands_unplaced : (d : Result Seed Unrefined) → d ≡ admit_of img cfg x y → None ≡ result_ok d → Lands whole None
+  lands_unplaced (Ok s) h k = cc
+  lands_unplaced (Err e) h k = lands_nowhere e h
+
+pub placed : (d : Result Seed Unrefined) (seed : Seed) → Some seed ≡ result_ok d → d ≡ Ok seed
+placed (Ok s) seed h = let k : s ≡ seed = cc in ap Ok k
+placed (Err e) seed h = cc

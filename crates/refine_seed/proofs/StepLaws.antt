@@ -6,12 +6,16 @@ use Prim.Native.Nat.{ℕ, zero, suc, ◌+◌, ◌-◌, ◌*◌, ◌≤◌, ◌<�
 use native.Mathlib.Nat.{zero-add, add-zero}
 use native.Mathlib.Omega.{arith}
 use lib.Ieee.{Float}
-use Rattle.std.specs.Prelude.{Some, None}
+use Rattle.std.specs.Prelude.{Option, Some, None}
 use Rattle.shapes.specs.Numbers.{plus_zero, one}
 use Rattle.refine_formulas.specs.declared.PatchSaddle.{PatchSaddle}
 use Rattle.refine_formulas.specs.declared.Move.{Move}
+use Rattle.refine_formulas.specs.declared.Corners.{Corners}
 use Rattle.refine_formulas.specs.Numbers.{◌⊕◌, ◌⊗◌, half}
 use Rattle.refine_formulas.specs.Solve.{settled}
+use Rattle.refine_fits.specs.declared.Window.{Window}
+use Rattle.refine_fits.specs.Windows.{window_place}
+use Rattle.refine_fits.specs.StepsTries.{window_of, Tries}
 use Rattle.refine_fits.specs.Candidate.{Task, Stand, Tried, passed, taken, candidate}
 use Rattle.refine_seed.specs.declared.Ended.{Ended}
 use Rattle.refine_seed.specs.declared.Taken.{Taken}
@@ -147,3 +151,14 @@ module _ (t : Task) (run : Ended) (left k n : ℕ) (f : PatchSaddle) (ox oy : Fl
 
 pub ends-unsettled : (t : Task) (run : Ended) (left k n : ℕ) (f : PatchSaddle) (ox oy : Float) (m : Move) (scale : Float) → run ≡ from_candidate t left (4 - k) f ox oy m scale n → 4 ≤ k → record { tries = n; settled = None } ≡ run
 ends-unsettled t run left k n f ox oy m scale is h = sym (is ∙ ap (λ (j : ℕ). from_candidate t left j f ox oy m scale n) (let e : 4 - k ≡ 0 = omega arith in e) ∙ no_more t left 0 n f ox oy m scale)
+
+-- ---- a candidate, from how it was weighed
+module _ (t : Task) (f : PatchSaddle) (ox oy : Float) (c : Corners) (w : Window) (placed : w ≡ window_of (window_place t.centre_x t.centre_y ox oy)) where
+  pub weighed_none : Tries t f ox oy c None → None ≡ taken_of (candidate t f ox oy)
+  weighed_none h = sym (ap taken_of h.is)
+
+  pub weighed_some : (g : PatchSaddle) → Tries t f ox oy c (Some g) → Some (record { ox = ox; oy = oy; tx = w.tx; ty = w.ty; fit = g; corners = c }) ≡ taken_of (candidate t f ox oy)
+  weighed_some g h = ap made placed ∙ sym (ap taken_of h.is)
+    where
+      made : Window → Option Taken
+      made v = Some (record { ox = ox; oy = oy; tx = v.tx; ty = v.ty; fit = g; corners = c })

@@ -78,6 +78,10 @@ pub record Holds (img : Image) (columns : List Float) (radius : ℕ) (n : Nearby
   pub kept : Kept img columns radius n.kept
   pub held : Held img columns radius n.bases n.flat
 
+-- fits of none serve every image and operator
+pub record HoldsNone (n : Nearby) : Type 0 where
+  pub is : (img : Image) (columns : List Float) (radius : ℕ) → Holds img columns radius n
+
 -- ---- the estimate
 -- the middle of a seed's centre pixel, and a place moved on
 abbrev pub middle_of : Seed → Spot

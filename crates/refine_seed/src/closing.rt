@@ -1,7 +1,6 @@
 // The end of a run, in two halves: all that the columns decide, and then the covariance where it is wanted. Only the second asks for overlaps, so that
 // columns and overlaps need not stand in one stack.
 ghost use Rattle.std.specs.Prelude.{◌≡◌, List, true, false, ◌+◌, ◌-◌, ◌≤◌, ◌<◌, pos, Float, Some, None};
-ghost use Rattle.imageview.specs.Image.{image_of};
 ghost use Rattle.refine_fits.specs.Fit.{coefficients};
 ghost use Rattle.refine_fits.specs.Candidate.{task_at};
 ghost use Rattle.refine_fits.specs.StepsAdding.{PatchWithin};
@@ -13,9 +12,10 @@ ghost use Rattle.refine_seed.specs.StepsEnding as Ending;
 
 use super::{Estimate, Noise, Opened, Spot};
 use crate::steps;
-use imageview::Sizes;
+use imageview::{Image, Sample};
 use refine_fits::{Seed, fits};
 use refine_formulas::{PatchSaddle, SaddlePointConfig, Slope, noise, sensitivity};
+use refine_patch::Columns;
 
 // The estimate, with the covariance where it is wanted and the run converged.
 pub fn closed(opened: Opened, overlap: &[f32; 225], wanted: bool) -> Estimate
@@ -35,23 +35,20 @@ pub fn closed(opened: Opened, overlap: &[f32; 225], wanted: bool) -> Estimate
 }
 
 // Where the first fit is settled: the slope is that of the centre pixel.
-pub fn at_centre(
-    bytes: &[u8],
-    words: &[u16],
-    sizes: Sizes,
-    columns: &[f32; 1125],
-    cfg: SaddlePointConfig,
+pub fn at_centre<S: Sample>(
+    image: &Image<S>,
+    columns: &Columns,
     seed: Seed,
     here: [f32; 5],
     first: PatchSaddle,
 ) -> Opened
-    requires within { PatchWithin (image_of bytes.now words.now sizes) cfg.radius seed.centre_x seed.centre_y }
-    requires fitted { here ≡ coefficients (image_of bytes.now words.now sizes) columns.now cfg.radius seed.centre_x seed.centre_y }
-    ensures { result ≡ Ending.opened_there seed first (slope_at (image_of bytes.now words.now sizes) columns.now cfg.radius (pos seed.centre_x) (pos seed.centre_y)) }
+    requires within { PatchWithin image.now columns.now.radius seed.centre_x seed.centre_y }
+    requires fitted { here ≡ coefficients image.now columns.now.numbers.now columns.now.radius seed.centre_x seed.centre_y }
+    ensures { result ≡ Ending.opened_there seed first (slope_at image.now columns.now.numbers.now columns.now.radius (pos seed.centre_x) (pos seed.centre_y)) }
 {
     // a window that is moved by nothing
     let middle = Spot::middle_of(seed).moved(0.0, 0.0);
-    let slope = slope_at(bytes, words, sizes, columns, cfg.radius, seed, here);
+    let slope = slope_at(image, columns, seed, here);
     match slope {
         Some(slope) => {
             let noise = Noise {
@@ -67,20 +64,19 @@ pub fn at_centre(
 }
 
 // Where the first fit, whose saddle is `first`, is not settled: from there by steps.
-pub fn stepped(
-    bytes: &[u8],
-    words: &[u16],
-    sizes: Sizes,
-    columns: &[f32; 1125],
+pub fn stepped<S: Sample>(
+    image: &Image<S>,
+    columns: &Columns,
     cfg: SaddlePointConfig,
     seed: Seed,
     first: PatchSaddle,
 ) -> Opened
-    requires within { PatchWithin (image_of bytes.now words.now sizes) cfg.radius seed.centre_x seed.centre_y }
+    requires within { PatchWithin image.now cfg.radius seed.centre_x seed.centre_y }
+    requires radius { columns.now.radius ≡ cfg.radius }
     requires unsettled { Solve.settled first ≡ false }
-    ensures { result ≡ (let e = Ending.ended_of (run_of (task_at (image_of bytes.now words.now sizes) columns.now cfg seed) first) in Ending.opened_on seed first e.tries e.settled) }
+    ensures { result ≡ (let e = Ending.ended_of (run_of (task_at image.now columns.now.numbers.now cfg seed) first) in Ending.opened_on seed first e.tries e.settled) }
 {
-    let ended = steps::run(bytes, words, sizes, columns, false, cfg, seed, first);
+    let ended = steps::run(image, columns, cfg, seed, first);
     let middle = Spot::middle_of(seed);
     match ended.settled {
         Some(w) => {
@@ -133,35 +129,32 @@ fn estimate_in(middle: Spot, fit: PatchSaddle, converged: bool, tries: u32) -> E
 }
 
 // The slope at a seed's centre pixel, whose fit is `here`: where there is one along both axes.
-fn slope_at(
-    bytes: &[u8],
-    words: &[u16],
-    sizes: Sizes,
-    columns: &[f32; 1125],
-    radius: usize,
+fn slope_at<S: Sample>(
+    image: &Image<S>,
+    columns: &Columns,
     seed: Seed,
     here: [f32; 5],
 ) -> Option<Slope>
-    requires within { PatchWithin (image_of bytes.now words.now sizes) radius seed.centre_x seed.centre_y }
-    requires fitted { here ≡ coefficients (image_of bytes.now words.now sizes) columns.now radius seed.centre_x seed.centre_y }
-    ensures { result ≡ slope_at (image_of bytes.now words.now sizes) columns.now radius (pos seed.centre_x) (pos seed.centre_y) }
+    requires within { PatchWithin image.now columns.now.radius seed.centre_x seed.centre_y }
+    requires fitted { here ≡ coefficients image.now columns.now.numbers.now columns.now.radius seed.centre_x seed.centre_y }
+    ensures { result ≡ slope_at image.now columns.now.numbers.now columns.now.radius (pos seed.centre_x) (pos seed.centre_y) }
 {
-    let cx = seed.centre_x;
-    let cy = seed.centre_y;
+    let cx = seed.centre_x as usize;
+    let cy = seed.centre_y as usize;
     let in_row = |k: usize|
-        requires { PatchWithin (image_of bytes.now words.now sizes) radius k cy }
-        ensures { result ≡ coefficients (image_of bytes.entry.now words.entry.now sizes) columns.entry.now radius k cy }
+        requires { PatchWithin image.now columns.now.radius k cy }
+        ensures { result ≡ coefficients image.entry.now columns.entry.now.numbers.now columns.entry.now.radius k cy }
     {
-        fits::fit_patch(bytes, words, sizes, k, cy, radius, columns)
+        fits::fit_patch(image, k, cy, columns)
     };
     let in_column = |k: usize|
-        requires { PatchWithin (image_of bytes.now words.now sizes) radius cx k }
-        ensures { result ≡ coefficients (image_of bytes.entry.now words.entry.now sizes) columns.entry.now radius cx k }
+        requires { PatchWithin image.now columns.now.radius cx k }
+        ensures { result ≡ coefficients image.entry.now columns.entry.now.numbers.now columns.entry.now.radius cx k }
     {
-        fits::fit_patch(bytes, words, sizes, cx, k, radius, columns)
+        fits::fit_patch(image, cx, k, columns)
     };
-    let x = along(cx, sizes.width, radius, here, in_row)?;
-    let y = along(cy, sizes.height, radius, here, in_column)?;
+    let x = along(cx, image.width(), columns.radius, here, in_row)?;
+    let y = along(cy, image.height(), columns.radius, here, in_column)?;
     Some(Slope { x, y })
 }
 

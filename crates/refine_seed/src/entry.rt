@@ -1,6 +1,7 @@
 // One seed: its tests in their order, the first fit, and what follows from it.
 ghost use Rattle.std.specs.Prelude.{◌≡◌, ◌≤◌};
-ghost use Rattle.imageview.specs.Image.{image_of};
+ghost use Rattle.imageview.specs.View.{shown};
+ghost use Rattle.imageview.specs.Steps.{IsTested};
 ghost use Rattle.refine_fits.specs.Fit.{coefficients};
 ghost use Rattle.refine_formulas.specs.Solve.{good_limit};
 ghost use Rattle.refine_seed.specs.Refine.{good_limits, is_place, old_number, admit_of, refine_lent, refine_of};
@@ -11,16 +12,15 @@ ghost use Rattle.refine_operator.specs.Call.{way_of};
 
 use super::{Estimate, Opened, Unrefined, Why};
 use crate::closing;
-use imageview::Sizes;
+use imageview::{Image, ImageView, Sample};
 use refine_fits::{Seed, fits, tries};
 use refine_formulas::{SaddlePointConfig, solve};
+use refine_patch::Columns;
 use refusals::Refusal;
 
 // The refiner of one seed with an operator that is lent.
-pub fn refine_with(
-    bytes: &[u8],
-    words: &[u16],
-    sizes: Sizes,
+pub fn refine_with<S: Sample>(
+    view: ImageView<S>,
     cfg: SaddlePointConfig,
     x: f32,
     y: f32,
@@ -28,48 +28,46 @@ pub fn refine_with(
     columns: &[f32; 1125],
     overlap: &[f32; 225],
 ) -> Result<Estimate, Unrefined>
-    ensures { result ≡ refine_lent (image_of bytes.now words.now sizes) cfg x y wanted columns.now overlap.now }
+    ensures { result ≡ refine_lent (shown S.levels S.deep view.entry) cfg x y wanted columns.now overlap.now }
 {
-    let seed = admit(bytes, words, sizes, cfg, x, y)?;
+    let image = Image::new(view)?;
+    let seed = admit(&image, cfg, x, y)?;
     // at radius 0 there is no operator, whatever is lent
     if cfg.radius == 0 {
         return Err(Unrefined::Unmoved(Why::IllConditioned, 0.0));
     }
-    let opened = open_seed(bytes, words, sizes, cfg, seed, columns)?;
+    let opened = open_seed(&image, columns, cfg, seed)?;
     Ok(closing::closed(opened, overlap, wanted))
 }
 
 // The refiner of one seed; it builds its own operator, after the tests.
-pub fn refine(
-    bytes: &[u8],
-    words: &[u16],
-    sizes: Sizes,
+pub fn refine<S: Sample>(
+    view: ImageView<S>,
     cfg: SaddlePointConfig,
     x: f32,
     y: f32,
     wanted: bool,
 ) -> Result<Estimate, Unrefined>
-    ensures { result ≡ refine_of (image_of bytes.now words.now sizes) cfg x y wanted }
+    ensures { result ≡ refine_of (shown S.levels S.deep view.entry) cfg x y wanted }
 {
-    let seed = admit(bytes, words, sizes, cfg, x, y)?;
-    let opened = open_fresh(bytes, words, sizes, cfg, seed)?;
+    let image = Image::new(view)?;
+    let seed = admit(&image, cfg, x, y)?;
+    let opened = open_fresh(&image, cfg, seed)?;
     close_fresh(opened, cfg, wanted)
 }
 
 // A seed that passed the tests, as far as the columns of the settings' radius go; at radius 0 there is no operator.
-fn open_fresh(
-    bytes: &[u8],
-    words: &[u16],
-    sizes: Sizes,
+fn open_fresh<S: Sample>(
+    image: &Image<S>,
     cfg: SaddlePointConfig,
     seed: Seed,
 ) -> Result<Opened, Unrefined>
-    requires { PatchWithin (image_of bytes.now words.now sizes) cfg.radius seed.centre_x seed.centre_y }
-    ensures { result ≡ open_with (image_of bytes.now words.now sizes) cfg seed (way_of cfg.radius) }
+    requires { PatchWithin image.now cfg.radius seed.centre_x seed.centre_y }
+    ensures { result ≡ open_with image.now cfg seed (way_of cfg.radius) }
 {
     let mut columns = [0.0f32; 1125];
     refine_operator::fit_columns(cfg.radius, &mut columns)?;
-    open_seed(bytes, words, sizes, cfg, seed, &columns)
+    open_seed(image, &columns, cfg, seed)
 }
 
 // The estimate, with the overlaps of the settings' radius where a covariance is wanted.
@@ -118,99 +116,86 @@ fn is_place(x: f32, y: f32) -> bool
     floats::is_finite_f32(x) & floats::is_finite_f32(y)
 }
 
-// The tests before the first fit.
-fn admit(
-    bytes: &[u8],
-    words: &[u16],
-    sizes: Sizes,
+// The tests that are left of a tested image: its settings', and then the seed's own.
+fn admit<S: Sample>(
+    image: &Image<S>,
     cfg: SaddlePointConfig,
     x: f32,
     y: f32,
 ) -> Result<Seed, Unrefined>
-    ensures { result ≡ admit_of (image_of bytes.now words.now sizes) cfg x y }
+    requires tested { IsTested image.now }
+    ensures { result ≡ admit_of image.now cfg x y }
 {
-    if !imageview::is_image(bytes, words, sizes) {
-        return Err(Unrefined::Refused(Refusal::BadImage));
-    }
-    if !imageview::in_range(bytes, words, sizes) {
-        return Err(Unrefined::Refused(Refusal::BadSample));
-    }
     if 7 < cfg.radius {
         return Err(Unrefined::Refused(Refusal::BadRadius));
     }
     if !good_limits(cfg) {
         return Err(Unrefined::Refused(Refusal::BadLimit));
     }
-    place_seed(sizes, cfg.radius, x, y)
+    place_seed(image, cfg.radius, x, y)
 }
 
 // The tests of a seed alone, where the image and the settings passed theirs: a list asks those once.
-pub fn place_seed(sizes: Sizes, radius: usize, x: f32, y: f32) -> Result<Seed, Unrefined>
-    requires { (sizes.width ≤ 4096) × (sizes.height ≤ 4096) }
-    ensures { result ≡ seed_alone sizes.width sizes.height radius x y }
+#[tactic(auto, unfolding(imageview::specs::Patch::supports_patch))]
+pub fn place_seed<S: Sample>(
+    image: &Image<S>,
+    radius: usize,
+    x: f32,
+    y: f32,
+) -> Result<Seed, Unrefined>
+    requires { (image.now.width ≤ 4096) × (image.now.height ≤ 4096) }
+    ensures { result ≡ seed_alone image.now.width image.now.height radius x y }
 {
     if !is_place(x, y) {
         return Err(Unrefined::Unmoved(Why::BadSeed, 0.0));
     }
     let cx = floats::round_to_i32(x);
     let cy = floats::round_to_i32(y);
-    if !imageview::supports_patch(sizes, cx, cy, radius) {
+    if !image.supports_patch(cx, cy, radius) {
         return Err(Unrefined::Unmoved(Why::OutOfBounds, 0.0));
     }
     Ok(Seed {
         x,
         y,
-        centre_x: cx as usize,
-        centre_y: cy as usize,
+        centre_x: cx as u16,
+        centre_y: cy as u16,
     })
 }
 
-// A seed that passed the tests: the first fit decides acceptance.
-fn open_seed(
-    bytes: &[u8],
-    words: &[u16],
-    sizes: Sizes,
+// A seed that passed the tests, with these columns: the first fit decides acceptance.
+#[tactic(auto, unfolding(refine_fits::specs::Candidate::near_seed))]
+fn open_seed<S: Sample>(
+    image: &Image<S>,
+    numbers: &[f32; 1125],
     cfg: SaddlePointConfig,
     seed: Seed,
-    columns: &[f32; 1125],
 ) -> Result<Opened, Unrefined>
-    requires { PatchWithin (image_of bytes.now words.now sizes) cfg.radius seed.centre_x seed.centre_y }
-    ensures { result ≡ open_of (image_of bytes.now words.now sizes) cfg seed columns.now }
+    requires { PatchWithin image.now cfg.radius seed.centre_x seed.centre_y }
+    ensures { result ≡ open_of image.now cfg seed numbers.now }
 {
-    let here = first_fit(bytes, words, sizes, cfg, seed, columns);
+    // only for a list it pays to have them fourfold
+    let columns = Columns {
+        numbers,
+        fourfold: false,
+        radius: cfg.radius,
+    };
+    let here = first_fit(image, &columns, seed);
     let first = solve::solve(cfg, here)?;
     if !tries::near_seed(cfg, seed, first.ux, first.uy) {
         return Err(Unrefined::Unmoved(Why::Rejected, first.det_h));
     }
     if solve::settled(first) {
-        return Ok(closing::at_centre(
-            bytes, words, sizes, columns, cfg, seed, here, first,
-        ));
+        return Ok(closing::at_centre(image, &columns, seed, here, first));
     }
-    Ok(closing::stepped(
-        bytes, words, sizes, columns, cfg, seed, first,
-    ))
+    Ok(closing::stepped(image, &columns, cfg, seed, first))
 }
 
 // The fit about a seed's centre pixel. By itself, so that the stack holds what is handed to it only while it lasts.
-fn first_fit(
-    bytes: &[u8],
-    words: &[u16],
-    sizes: Sizes,
-    cfg: SaddlePointConfig,
-    seed: Seed,
-    columns: &[f32; 1125],
-) -> [f32; 5]
-    requires { PatchWithin (image_of bytes.now words.now sizes) cfg.radius seed.centre_x seed.centre_y }
-    ensures { result ≡ coefficients (image_of bytes.now words.now sizes) columns.now cfg.radius seed.centre_x seed.centre_y }
+fn first_fit<S: Sample>(image: &Image<S>, columns: &Columns, seed: Seed) -> [f32; 5]
+    requires { PatchWithin image.now columns.now.radius seed.centre_x seed.centre_y }
+    ensures { result ≡ coefficients image.now columns.now.numbers.now columns.now.radius seed.centre_x seed.centre_y }
 {
-    fits::fit_patch(
-        bytes,
-        words,
-        sizes,
-        seed.centre_x,
-        seed.centre_y,
-        cfg.radius,
-        columns,
-    )
+    let x = usize::from(seed.centre_x);
+    let y = usize::from(seed.centre_y);
+    fits::fit_patch(image, x, y, columns)
 }

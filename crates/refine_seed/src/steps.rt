@@ -1,38 +1,33 @@
 // The steps toward the window at whose middle the saddle lies.
-ghost use Rattle.std.specs.Prelude.{◌≡◌, List, ℕ, false, ◌<◌, Float};
-ghost use Rattle.imageview.specs.Image.{Image, image_of};
+ghost use Rattle.std.specs.Prelude.{◌≡◌, false};
 ghost use Rattle.refine_formulas.specs.Sensitivity as Sensitivity;
 ghost use Rattle.refine_formulas.specs.Solve as Solve;
-ghost use Rattle.refine_patch.specs.StepsFrom.{Repeats};
 ghost use Rattle.refine_fits.specs.StepsAdding.{Sound};
 ghost use Rattle.refine_fits.specs.StepsCache.{Fresh};
 ghost use Rattle.refine_fits.specs.Candidate.{task_at, candidate};
 ghost use Rattle.refine_seed.specs.Run.{run_of};
-ghost use Rattle.refine_seed.specs.StepsEnding.{Holds, ended_of, taken_of, moves_of, next_move};
+ghost use Rattle.refine_seed.specs.StepsEnding.{Holds, HoldsNone, ended_of, taken_of, moves_of, next_move};
 
 use super::{Ended, Nearby, Taken};
-use imageview::Sizes;
-use refine_fits::{IntegerFits, Seed, laid, place, tries};
+use imageview::{Image, Sample};
+use refine_fits::{Bases, IntegerFits, Seed, laid, place, tries};
 use refine_formulas::{
     Matrix, Move, PatchSaddle, SaddlePointConfig, Slope, between, sensitivity, solve,
 };
+use refine_patch::Columns;
 
 // From the first fit's saddle, which is not settled: at most 16 steps, each of at most four candidates, one half as far on as the one before it.
-pub fn run(
-    bytes: &[u8],
-    words: &[u16],
-    sizes: Sizes,
-    columns: &[f32; 1125],
-    fourfold: bool,
+pub fn run<S: Sample>(
+    image: &Image<S>,
+    columns: &Columns,
     cfg: SaddlePointConfig,
     seed: Seed,
     first: PatchSaddle,
 ) -> Ended
-    requires sound { Sound (image_of bytes.now words.now sizes) cfg.radius }
-    requires centre { (seed.centre_x < 4096) × (seed.centre_y < 4096) }
+    requires sound { Sound image.now cfg.radius }
+    requires radius { columns.now.radius ≡ cfg.radius }
     requires unsettled { Solve.settled first ≡ false }
-    requires repeats { Repeats fourfold cfg.radius columns.now }
-    ensures { result ≡ ended_of (run_of (task_at (image_of bytes.now words.now sizes) columns.now cfg seed) first) }
+    ensures { result ≡ ended_of (run_of (task_at image.now columns.now.numbers.now cfg seed) first) }
 {
     let mut nearby = Nearby::new();
     let mut fit = first;
@@ -49,9 +44,7 @@ pub fn run(
             tries += 1;
             let nx = ox + scale * by.x;
             let ny = oy + scale * by.y;
-            let Some(taken) = nearby.candidate(
-                bytes, words, sizes, columns, fourfold, cfg, seed, fit, nx, ny,
-            ) else {
+            let Some(taken) = nearby.candidate(image, columns, cfg, seed, fit, nx, ny) else {
                 scale *= 0.5;
                 continue;
             };
@@ -78,70 +71,44 @@ pub fn run(
 impl Nearby {
     // With no fit in it.
     fn new() -> Nearby
-        ensures { (img : Image) (columns : List Float) (radius : ℕ) → Holds img columns radius result }
+        ensures { HoldsNone result }
     {
         Nearby {
             kept: no_fits(),
-            bases: laid::no_bases(),
+            bases: Bases::new(),
             flat: [0.0; 40],
         }
     }
 
     // The candidate window at (ox, oy), where it is taken in place of that of the saddle `fit`.
-    fn candidate(
+    fn candidate<S: Sample>(
         &mut self,
-        bytes: &[u8],
-        words: &[u16],
-        sizes: Sizes,
-        columns: &[f32; 1125],
-        fourfold: bool,
+        image: &Image<S>,
+        columns: &Columns,
         cfg: SaddlePointConfig,
         seed: Seed,
         fit: PatchSaddle,
         ox: f32,
         oy: f32,
     ) -> Option<Taken>
-        requires sound { Sound (image_of bytes.now words.now sizes) cfg.radius }
-        requires centre { (seed.centre_x < 4096) × (seed.centre_y < 4096) }
-        requires repeats { Repeats fourfold cfg.radius columns.now }
-        requires holds { Holds (image_of bytes.now words.now sizes) columns.now cfg.radius self.old }
-        ensures holds { Holds (image_of bytes.now words.now sizes) columns.now cfg.radius self.new }
-        ensures taken { result ≡ taken_of (candidate (task_at (image_of bytes.now words.now sizes) columns.now cfg seed) fit ox oy) }
+        requires sound { Sound image.now cfg.radius }
+        requires radius { columns.now.radius ≡ cfg.radius }
+        requires holds { Holds image.now columns.now.numbers.now cfg.radius self.old }
+        ensures holds { Holds image.now columns.now.numbers.now cfg.radius self.new }
+        ensures taken { result ≡ taken_of (candidate (task_at image.now columns.now.numbers.now cfg seed) fit ox oy) }
     {
         let w = place::window_at(seed.centre_x, seed.centre_y, ox, oy);
-        let r = self.bases.ready(
-            bytes,
-            words,
-            sizes,
-            w,
-            cfg.radius,
-            columns,
-            fourfold,
-            &mut self.flat,
-        );
-        self.bases = r.bases;
-        if r.further {
-            self.kept.lay(
-                bytes,
-                words,
-                sizes,
-                w,
-                cfg.radius,
-                columns,
-                &mut self.flat,
-            );
-        }
-        let corners = laid::corners_at(&self.flat, r.to);
-        let c = tries::candidate(cfg, seed, fit, ox, oy, r.room, corners, w.tx, w.ty);
-        if !c.taken {
-            return None;
-        }
+        let to = self
+            .bases
+            .ready(&mut self.kept, image, w.base, columns, &mut self.flat)?;
+        let corners = laid::corners_at(&self.flat, to);
+        let fit = tries::candidate(cfg, seed, fit, ox, oy, corners, w.tx, w.ty)?;
         Some(Taken {
             ox,
             oy,
             tx: w.tx,
             ty: w.ty,
-            fit: c.fit,
+            fit,
             corners,
         })
     }

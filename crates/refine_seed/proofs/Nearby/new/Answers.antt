@@ -3,4 +3,4 @@ use Rattle.std.proofs.Common.{refl}
 use Rattle.refine_seed.proofs.Nearby.new.Goals as goal
 
 pub returns : goal.returns
-returns c = λ img columns radius. record { kept = c.no_fits.ensures.kept img columns radius; held = c.no_bases.ensures.held img columns radius _ refl }
+returns c = record { is = λ img columns radius. record { kept = c.no_fits.ensures.kept img columns radius; held = c.new.ensures.held img columns radius _ refl } }

@@ -2,24 +2,23 @@
 use Rattle.std.proofs.Common.{◌≡◌, ◌+◌, ◌-◌, ◌*◌, ◌≤◌, sym, ap, arith}
 use lib.Ieee.{of_bits}
 use mathlib.Core.Path.{◌∙◌}
-use Rattle.imageview.specs.Image.{image_of}
 use Rattle.refine_fits.specs.Candidate.{task_at}
 use Rattle.refine_seed.proofs.StepLaws.{first_step, goes_half, goes_on, ends_there, ends-unsettled}
 use Rattle.refine_seed.proofs.steps.run.Goals as goal
 
 pub steps-init : goal.steps-init
 unfolding of_bits
-steps-init c =
+steps-init g c =
     let a = c.args in
     record {
-      holds = c.new-nearby.ensures (image_of a.bytes.now a.words.now a.sizes) a.columns.now a.cfg.radius;
+      holds = c.new-nearby.ensures.is a.image.now a.columns.now.numbers.now a.cfg.radius;
       few = omega arith;
-      is = first_step (task_at (image_of a.bytes.now a.words.now a.sizes) a.columns.now a.cfg a.seed) a.first c.requires.unsettled;
+      is = first_step (task_at a.image.now a.columns.now.numbers.now a.cfg a.seed) a.first c.requires.unsettled;
     }
 
 pub loop-half-preserved : goal.loop-half-preserved
 unfolding of_bits
-loop-half-preserved c =
+loop-half-preserved g c =
     let i = c.loop-half.invariant in
     record {
       holds = c.candidate.ensures.holds;
@@ -28,10 +27,10 @@ loop-half-preserved c =
     }
 
 pub returns-then-settled : goal.returns-then-settled
-returns-then-settled c = ends_there _ _ _ _ _ _ _ _ _ _ c.loop-half.invariant.is c.loop-half-test.true c.in-Some.taken (sym c.in-Some.is ∙ c.candidate.ensures.taken) (sym c.settled.ensures ∙ c.if-settled.true)
+returns-then-settled g c = ends_there _ _ _ _ _ _ _ _ _ _ c.loop-half.invariant.is c.loop-half-test.true c.in-Some.taken (sym c.in-Some.is ∙ c.candidate.ensures.taken) (sym c.settled.ensures ∙ c.if-settled.true)
 
 pub steps-preserved : goal.steps-preserved
-steps-preserved c =
+steps-preserved g c =
     let i = c.loop-half.invariant in
     record {
       holds = c.candidate.ensures.holds;
@@ -40,4 +39,4 @@ steps-preserved c =
     }
 
 pub returns-after-loop-half : goal.returns-after-loop-half
-returns-after-loop-half c = ends-unsettled _ _ _ _ _ _ _ _ _ _ c.loop-half.invariant.is c.loop-half-test.false
+returns-after-loop-half g c = ends-unsettled _ _ _ _ _ _ _ _ _ _ c.loop-half.invariant.is c.loop-half-test.false

@@ -1,21 +1,20 @@
 -- The loops of `refine_seed::steps::run` go on where the whole run would: before a step with the steps that are left, and within one before a candidate.
 use Rattle.std.proofs.Common.{◌≡◌, ℕ, ◌+◌, ◌-◌, ◌*◌, ◌≤◌}
-use Rattle.imageview.specs.Image.{image_of}
 use Rattle.refine_fits.specs.Candidate.{task_at}
 use Rattle.refine_seed.specs.Run.{run_of}
 use Rattle.refine_seed.specs.StepsEnding.{Holds, ended_of, from_candidate, from_step}
 use Rattle.refine_seed.proofs.steps.run.Given as goal
 
 abbrev pub invariant-steps : goal.invariant-steps
-invariant-steps l = record {
-  holds : Holds (image_of l.bytes l.words l.sizes) l.columns l.cfg.radius l.nearby;
+invariant-steps g l = record {
+  holds : Holds l.image l.columns.numbers.now l.cfg.radius l.nearby;
   few : l.tries ≤ 4 * l.step;
-  is : ended_of (run_of (task_at (image_of l.bytes l.words l.sizes) l.columns l.cfg l.seed) l.fn.first) ≡ from_step (task_at (image_of l.bytes l.words l.sizes) l.columns l.cfg l.seed) (16 - l.step) l.fit l.ox l.oy l.by l.tries
+  is : ended_of (run_of (task_at l.image l.columns.numbers.now l.cfg l.seed) l.fn.first) ≡ from_step (task_at l.image l.columns.numbers.now l.cfg l.seed) (16 - l.step) l.fit l.ox l.oy l.by l.tries
 }
 
 abbrev pub invariant-loop-half : goal.invariant-loop-half
-invariant-loop-half l = record {
-  holds : Holds (image_of l.bytes l.words l.sizes) l.columns l.cfg.radius l.nearby;
+invariant-loop-half g l = record {
+  holds : Holds l.image l.columns.numbers.now l.cfg.radius l.nearby;
   few : l.tries ≤ 4 * l.step + l.half;
-  is : ended_of (run_of (task_at (image_of l.bytes l.words l.sizes) l.columns l.cfg l.seed) l.fn.first) ≡ from_candidate (task_at (image_of l.bytes l.words l.sizes) l.columns l.cfg l.seed) (15 - l.step) (4 - l.half) l.fit l.ox l.oy l.by l.scale l.tries
+  is : ended_of (run_of (task_at l.image l.columns.numbers.now l.cfg l.seed) l.fn.first) ≡ from_candidate (task_at l.image l.columns.numbers.now l.cfg l.seed) (15 - l.step) (4 - l.half) l.fit l.ox l.oy l.by l.scale l.tries
 }
