@@ -1,9 +1,9 @@
 -- `refine_operator::inverse::cleared_row` meets its contract. After j turns the first j entries of the row are written.
-use Rattle.std.proofs.Common.{◌≡◌, ℕ, ◌+◌, ◌*◌, refl, ap, ◌∙◌, arith, length-set}
+use Rattle.std.proofs.Common.{◌*◌}
 use lib.Ieee.{of_bits}
 use Rattle.refine_operator.specs.Steps.{reduced_at}
 use Rattle.refine_operator.proofs.InverseLaws.{other-entry}
-use Rattle.refine_operator.proofs.WrittenLaws.{continued-begin, continued-next, continued-to}
+use Rattle.refine_operator.proofs.WrittenLaws.{continued-next}
 use Rattle.refine_operator.proofs.inverse.cleared_row.Goals as goal
 
 pub loop-j-preserved : goal.loop-j-preserved

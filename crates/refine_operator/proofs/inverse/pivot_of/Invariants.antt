@@ -1,5 +1,5 @@
 -- `refine_operator::inverse::pivot_of` meets its contract. The rows that are left lead from the best so far to the pivot.
-use Rattle.std.proofs.Common.{◌≡◌, ◌-◌, ◌<◌, ◌≤◌}
+use Rattle.std.proofs.Common.{◌≡◌, ◌-◌, ◌<◌}
 use Rattle.refine_operator.specs.Inverse.{pivot_from, pivot_of}
 use Rattle.refine_operator.proofs.inverse.pivot_of.Given as goal
 

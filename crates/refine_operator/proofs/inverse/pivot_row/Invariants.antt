@@ -1,5 +1,5 @@
 -- `refine_operator::inverse::pivot_row` meets its contract. After j turns the first j entries of the row are written.
-use Rattle.std.proofs.Common.{◌≡◌, ◌+◌, ◌-◌, ◌*◌, ◌≤◌, length}
+use Rattle.std.proofs.Common.{◌+◌, ◌*◌}
 use Rattle.refine_operator.specs.Steps.{Continued, reduced_at}
 use Rattle.refine_operator.proofs.inverse.pivot_row.Given as goal
 

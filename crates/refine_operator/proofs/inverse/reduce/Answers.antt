@@ -1,5 +1,5 @@
 -- `refine_operator::inverse::reduce` meets its contract. The columns that are left lead from the matrix so far to the answer.
-use Rattle.std.proofs.Common.{sym, refl, ap, ◌∙◌, arith}
+use Rattle.std.proofs.Common.{sym, ap, ◌∙◌}
 use lib.Ieee.{Float, lt}
 use Rattle.floats.specs.Magnitude.{magnitude}
 use Rattle.refine_operator.specs.Inverse.{least_pivot}

@@ -1,5 +1,5 @@
 -- `refine_operator::inverse::reduce` meets its contract. The columns that are left lead from the matrix so far to the answer.
-use Rattle.std.proofs.Common.{◌≡◌, ◌-◌, ◌≤◌, length}
+use Rattle.std.proofs.Common.{◌≡◌, ◌-◌}
 use Rattle.refine_operator.specs.Inverse.{reduce_from}
 use Rattle.refine_operator.proofs.inverse.reduce.Given as goal
 

@@ -1,8 +1,8 @@
 -- `refine_operator::inverse::reduced_column` meets its contract. After some rows these are written.
-use Rattle.std.proofs.Common.{◌≡◌, ℕ, ◌*◌, refl, ap, ◌∙◌, arith}
+use Rattle.std.proofs.Common.{◌≡◌, ℕ, ◌*◌, ap, arith}
 use Rattle.refine_operator.specs.Steps.{reduced_at}
 use Rattle.refine_operator.proofs.InverseLaws.{column-done}
-use Rattle.refine_operator.proofs.WrittenLaws.{continued-none, continued-to, continued-block}
+use Rattle.refine_operator.proofs.WrittenLaws.{continued-to}
 use Rattle.refine_operator.proofs.inverse.reduced_column.Goals as goal
 
 pub returns : goal.returns

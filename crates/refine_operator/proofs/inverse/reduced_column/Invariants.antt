@@ -1,5 +1,5 @@
 -- `refine_operator::inverse::reduced_column` meets its contract. After some rows these are written.
-use Rattle.std.proofs.Common.{◌≡◌, ◌-◌, ◌*◌, ◌≤◌, length}
+use Rattle.std.proofs.Common.{◌*◌}
 use Rattle.refine_operator.specs.Steps.{Continued, reduced_at}
 use Rattle.refine_operator.proofs.inverse.reduced_column.Given as goal
 

@@ -1,5 +1,5 @@
 -- `refine_operator::normal::sums_of` meets its contract. After y turns the sums have y rows.
-use Rattle.std.proofs.Common.{◌≡◌, ◌+◌, ◌-◌, ◌*◌, ◌≤◌}
+use Rattle.std.proofs.Common.{◌≡◌, ◌*◌}
 use Rattle.refine_operator.specs.Basis.{side}
 use Rattle.refine_operator.specs.Steps.{upper_at}
 use Rattle.refine_operator.proofs.normal.sums_of.Given as goal

@@ -1,8 +1,8 @@
 -- `refine_operator::overlap::add_block` meets its contract. After r turns the products of the first r rows are added.
-use Rattle.std.proofs.Common.{refl, ◌∙◌, arith}
+use Rattle.std.proofs.Common.{arith}
 use Rattle.shapes.proofs.ListLaws.{overwritten-none}
 use Rattle.refine_operator.specs.Steps.{product_added}
-use Rattle.refine_operator.proofs.OverlapLaws.{block_more, block-all}
+use Rattle.refine_operator.proofs.OverlapLaws.{block-all}
 use Rattle.refine_operator.proofs.overlap.add_block.Goals as goal
 
 pub loop-r-init : goal.loop-r-init

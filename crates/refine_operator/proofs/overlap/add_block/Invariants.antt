@@ -1,5 +1,5 @@
 -- `refine_operator::overlap::add_block` meets its contract. After r turns the products of the first r rows are added.
-use Rattle.std.proofs.Common.{◌≡◌, ◌-◌, ◌*◌, ◌≤◌, length}
+use Rattle.std.proofs.Common.{◌≡◌, ◌*◌}
 use Rattle.shapes.specs.Lists.{overwritten}
 use Rattle.refine_operator.specs.Steps.{product_added}
 use Rattle.refine_operator.proofs.overlap.add_block.Given as goal

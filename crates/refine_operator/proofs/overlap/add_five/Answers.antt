@@ -1,6 +1,6 @@
 -- `refine_operator::overlap::add_five` meets its contract. After s turns the first s products are added.
-use Rattle.std.proofs.Common.{◌+◌, ◌*◌, refl, ◌∙◌, arith, length-set}
-use Rattle.refine_operator.proofs.OverlapLaws.{five-none, five-more, five-all}
+use Rattle.std.proofs.Common.{refl}
+use Rattle.refine_operator.proofs.OverlapLaws.{five-more}
 use Rattle.refine_operator.proofs.overlap.add_five.Goals as goal
 
 pub loop-s-preserved : goal.loop-s-preserved

@@ -1,5 +1,4 @@
 -- `refine_operator::overlap::add_five` meets its contract. After s turns the first s products are added.
-use Rattle.std.proofs.Common.{◌≡◌, ◌-◌, ◌≤◌, length}
 use Rattle.refine_operator.specs.Steps.{FiveAdded}
 use Rattle.refine_operator.proofs.overlap.add_five.Given as goal
 

@@ -1,8 +1,6 @@
 -- `refine_operator::overlap::add_line` meets its contract. After x turns the sums have x samples of the row.
-use Rattle.std.proofs.Common.{◌≡◌, ℕ, ◌+◌, ◌*◌, length, sym, ap, ◌∙◌, add-zero, arith}
-use Rattle.refine_operator.specs.Basis.{side}
-use Rattle.refine_operator.proofs.OverlapLaws.{sums-length, sums-more, sums-to}
-use Rattle.refine_operator.proofs.WrittenLaws.{more_rows}
+use Rattle.std.proofs.Common.{length, ap, ◌∙◌, arith}
+use Rattle.refine_operator.proofs.OverlapLaws.{sums-length, sums-more}
 use Rattle.refine_operator.proofs.overlap.add_line.Goals as goal
 
 pub add_sample-requires : goal.add_sample-requires

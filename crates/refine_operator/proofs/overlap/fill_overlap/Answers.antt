@@ -1,8 +1,6 @@
 -- `refine_operator::overlap::fill_overlap` meets its contract. After d turns the overlaps of d shifts are written; the others are copies.
-use Rattle.std.proofs.Common.{refl, ◌∙◌, arith}
-use Rattle.refine_operator.specs.Steps.{overlap_at}
+use Rattle.std.proofs.Common.{arith}
 use Rattle.refine_operator.proofs.OverlapLaws.{overlaps-all}
-use Rattle.refine_operator.proofs.WrittenLaws.{continued-none, continued-block}
 use Rattle.refine_operator.proofs.overlap.fill_overlap.Goals as goal
 
 pub returns : goal.returns

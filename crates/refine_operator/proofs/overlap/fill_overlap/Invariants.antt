@@ -1,5 +1,5 @@
 -- `refine_operator::overlap::fill_overlap` meets its contract. After d turns the overlaps of d shifts are written; the others are copies.
-use Rattle.std.proofs.Common.{◌≡◌, ◌-◌, ◌*◌, ◌≤◌, length}
+use Rattle.std.proofs.Common.{◌*◌}
 use Rattle.refine_operator.specs.Steps.{Continued, overlap_at}
 use Rattle.refine_operator.proofs.overlap.fill_overlap.Given as goal
 

@@ -1,5 +1,5 @@
 -- `refine_operator::overlap::fill_shift` meets its contract. After y turns the sums have y rows.
-use Rattle.std.proofs.Common.{refl, ◌∙◌, arith}
+use Rattle.std.proofs.Common.{arith}
 use lib.Ieee.{of_bits}
 use Rattle.shapes.specs.Lists.{tabulated}
 use Rattle.shapes.specs.Turns.{turns}

@@ -1,5 +1,5 @@
 -- `refine_operator::overlap::fill_shift` meets its contract. After y turns the sums have y rows.
-use Rattle.std.proofs.Common.{◌≡◌, ◌+◌, ◌-◌, ◌*◌, ◌≤◌, length}
+use Rattle.std.proofs.Common.{◌≡◌, ◌*◌}
 use Rattle.refine_operator.specs.Basis.{side}
 use Rattle.refine_operator.specs.Steps.{sums_at}
 use Rattle.refine_operator.proofs.overlap.fill_shift.Given as goal

@@ -1,6 +1,6 @@
 -- `refine_operator::overlap::mirror` meets its contract. Up to i the overlaps are copied.
-use Rattle.std.proofs.Common.{refl, ◌∙◌, arith, length-set}
-use Rattle.refine_operator.proofs.MirrorLaws.{mirror-none, mirror-more, mirror-all}
+use Rattle.std.proofs.Common.{refl, arith}
+use Rattle.refine_operator.proofs.MirrorLaws.{mirror-more, mirror-all}
 use Rattle.refine_operator.proofs.overlap.mirror.Goals as goal
 
 pub loop-i-preserved : goal.loop-i-preserved

@@ -1,5 +1,4 @@
 -- `refine_operator::overlap::mirror` meets its contract. Up to i the overlaps are copied.
-use Rattle.std.proofs.Common.{◌≡◌, ◌-◌, ◌≤◌, length}
 use Rattle.refine_operator.specs.Steps.{Mirrored}
 use Rattle.refine_operator.proofs.overlap.mirror.Given as goal
 

@@ -1,6 +1,5 @@
 -- `refine_operator::overlap::put` meets its contract. After i turns the first i sums are written.
-use Rattle.std.proofs.Common.{◌+◌, ◌*◌, refl, ◌∙◌, arith, length-set}
-use Rattle.refine_operator.proofs.OverlapLaws.{put-none, put-more, put_all}
+use Rattle.refine_operator.proofs.OverlapLaws.{put-more}
 use Rattle.refine_operator.proofs.overlap.put.Goals as goal
 
 pub loop-i-preserved : goal.loop-i-preserved

@@ -1,5 +1,4 @@
 -- `refine_operator::overlap::put` meets its contract. After i turns the first i sums are written.
-use Rattle.std.proofs.Common.{◌≡◌, ◌-◌, ◌≤◌, length}
 use Rattle.refine_operator.specs.Steps.{BlockPut}
 use Rattle.refine_operator.proofs.overlap.put.Given as goal
 

@@ -1,10 +1,9 @@
 -- `refine_operator::rows::fill_columns` meets its contract. After y turns the columns of y rows are written.
-use Rattle.std.proofs.Common.{◌≡◌, ℕ, ◌+◌, ◌*◌, refl, ap, ◌∙◌, arith}
+use Rattle.std.proofs.Common.{◌≡◌, ℕ, ◌+◌, ◌*◌, ap, arith}
 use Rattle.refine_operator.specs.Basis.{side, samples}
 use Rattle.refine_operator.specs.Steps.{column_at}
 use Rattle.refine_operator.proofs.BasisLaws.{samples-most}
-use Rattle.refine_operator.proofs.RowLaws.{line-inside}
-use Rattle.refine_operator.proofs.WrittenLaws.{continued-zero, continued-row, continued-to, continued-all}
+use Rattle.refine_operator.proofs.WrittenLaws.{continued-to, continued-all}
 use Rattle.refine_operator.proofs.rows.fill_columns.Goals as goal
 
 pub returns : goal.returns

@@ -1,5 +1,5 @@
 -- `refine_operator::rows::fill_columns` meets its contract. After y turns the columns of y rows are written.
-use Rattle.std.proofs.Common.{◌≡◌, ◌+◌, ◌-◌, ◌*◌, ◌≤◌, length}
+use Rattle.std.proofs.Common.{◌*◌}
 use Rattle.refine_operator.specs.Basis.{side}
 use Rattle.refine_operator.specs.Steps.{Continued, column_at}
 use Rattle.refine_operator.proofs.rows.fill_columns.Given as goal

@@ -1,5 +1,5 @@
 -- `refine_operator::rows::fill_line` meets its contract. After x turns the columns of x samples of the row are written.
-use Rattle.std.proofs.Common.{◌≡◌, ◌+◌, ◌-◌, ◌*◌, ◌≤◌, length}
+use Rattle.std.proofs.Common.{◌+◌, ◌*◌}
 use Rattle.refine_operator.specs.Steps.{Continued, column_at}
 use Rattle.refine_operator.proofs.rows.fill_line.Given as goal
 

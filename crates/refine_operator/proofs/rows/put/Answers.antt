@@ -1,8 +1,8 @@
 -- `refine_operator::rows::put` meets its contract. After c turns the first c entries of the column are written.
-use Rattle.std.proofs.Common.{◌≡◌, ℕ, ◌+◌, ◌*◌, refl, ap, ◌∙◌, arith, length-set}
+use Rattle.std.proofs.Common.{◌*◌}
 use Rattle.refine_operator.specs.Steps.{column_at}
 use Rattle.refine_operator.proofs.RowLaws.{column-entry}
-use Rattle.refine_operator.proofs.WrittenLaws.{continued-begin, continued-next, continued-to}
+use Rattle.refine_operator.proofs.WrittenLaws.{continued-next}
 use Rattle.refine_operator.proofs.rows.put.Goals as goal
 
 pub loop-c-preserved : goal.loop-c-preserved

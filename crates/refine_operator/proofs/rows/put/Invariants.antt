@@ -1,5 +1,5 @@
 -- `refine_operator::rows::put` meets its contract. After c turns the first c entries of the column are written.
-use Rattle.std.proofs.Common.{◌≡◌, ◌+◌, ◌-◌, ◌*◌, ◌≤◌, length}
+use Rattle.std.proofs.Common.{◌+◌, ◌*◌}
 use Rattle.refine_operator.specs.Steps.{Continued, column_at}
 use Rattle.refine_operator.proofs.rows.put.Given as goal
 
