@@ -7,27 +7,11 @@ use native.Mathlib.Omega.{arith}
 use Rattle.pixel_response.specs.Samples.{total, apart, square_sum, edge_sum, ring_sum, cross_sum, gain, loss, value_of, response_of}
 use Rattle.pixel_response.specs.Steps.{Bounded, square_of, edges_of, sum_of, cross_of, quarter_of}
 
-pub apart_below : (a b : ℕ) → a < b → b - a ≡ apart a b
-unfolding apart
-apart_below a b h = omega arith
-
-pub apart_above : (a b : ℕ) → b ≤ a → a - b ≡ apart a b
-unfolding apart
-apart_above a b h = omega arith
-
 pub apart-most : (a b m : ℕ) → a ≤ m → b ≤ m → apart a b ≤ m
 unfolding apart
 apart-most a b m p q = omega arith
 
--- a quarter's square from its two sums, and its edges from its two distances, with their bounds
-pub square-from : (m a b c d x y r : ℕ) → Bounded (a + c) m x → Bounded (b + d) m y → r ≡ apart x y → Bounded (square_of a b c d) m r
-unfolding square_of
-square-from m a b c d x y r p q e =
-    record {
-      is = e ∙ ap (λ (z : ℕ). apart z y) p.is ∙ ap (λ (z : ℕ). apart (a + c) z) q.is;
-      most = subst (λ (z : ℕ). z ≤ m) (sym e) (apart-most x y m p.most q.most);
-    }
-
+-- a quarter's edges from its two distances, with their bound
 pub edges-from : (a b c d x y : ℕ) → x ≡ apart a c → y ≡ apart b d → x + y ≡ edges_of a b c d
 unfolding edges_of
 edges-from a b c d x y p q = ap (λ (z : ℕ). z + y) p ∙ ap (λ (z : ℕ). apart a c + z) q

@@ -1,5 +1,5 @@
 -- The steps of the work: what one quarter of the ring gives, and what a pass over pixels that lie side by side leaves, element by element.
-use Rattle.std.specs.Prelude.{◌≡◌, Bool, true, false, List, ℕ, ◌+◌, ◌-◌, ◌*◌, ◌≤◌, ◌<◌, length, get_or}
+use Rattle.std.specs.Prelude.{◌≡◌, List, ℕ, ◌+◌, ◌-◌, ◌*◌, ◌≤◌, ◌<◌, length, get_or}
 use Rattle.pixel_response.specs.Samples.{apart}
 
 -- a result with an upper bound
@@ -74,8 +74,3 @@ pub record Abreast {A : Type 0} (a b c d : List A) : Type 0 where
   pub second : length b ≡ length a
   pub third : length c ≡ length a
   pub fourth : length d ≡ length a
-
--- a test that decides a fact
-pub record Decides (A : Type 0) (r : Bool) : Type 0 where
-  pub yes : r ≡ true → A
-  pub no : r ≡ false → A → ⊥

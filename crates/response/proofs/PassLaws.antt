@@ -34,15 +34,6 @@ added_more n b f before after v l a q =
       most = last_or (λ i. f i ≤ b) n (subst (λ (z : ℕ). z ≤ b) q.is q.most) a.most;
     }
 
-pub added-cong : (n b : ℕ) (f g : ℕ → ℕ) (before after : List ℕ) → ((i : ℕ) → i < n → f i ≡ g i) → Added n b f before after → Added n b g before after
-added-cong n b f g before after e a =
-    record {
-      same = a.same;
-      here = λ i h. a.here i h ∙ ap (λ (z : ℕ). get_or before i 0 + z) (e i h);
-      past = a.past;
-      most = λ i h. subst (λ (z : ℕ). z ≤ b) (e i h) (a.most i h);
-    }
-
 pub quarter-none : (P : ℕ) (a b c d : ℕ → ℕ) (square edge sum : List ℕ) → AddedQuarter P 0 a b c d square edge sum square edge sum
 quarter-none P a b c d square edge sum =
     record {
@@ -66,18 +57,6 @@ quarter-more P n a b c d square edge sum square' edge' sum' x y z h k l q u v w 
 module _ {A : Type 0} (d : A) where
   pub wrote_none : (x : ℕ) (f : ℕ → A) (l : List A) → Wrote d 0 x f l l
   wrote_none x f l = record { same = refl; ahead = λ i h. refl; here = λ i h. absurd (let z : ⊥ = omega arith in z); past = λ i h. refl }
-
-  pub wrote-more : (n : ℕ) (f : ℕ → A) (before after : List A) (v : A) → n < length before → Wrote d n 0 f before after → v ≡ f n → Wrote d (n + 1) 0 f before (set after n v)
-  wrote-more n f before after v l a q =
-      record {
-        same = length-set after n v ∙ a.same;
-        ahead = λ i h. absurd (let z : ⊥ = omega arith in z);
-        here =
-            last_or (λ i. get_or (set after n v) (0 + i) d ≡ f i) n
-            (ap (λ (k : ℕ). get_or (set after n v) k d) (zero-add n) ∙ get_or-set_same after n v d (subst (λ (k : ℕ). n < k) (sym a.same) l) ∙ q)
-            (λ i h. get_or-set_other after n (0 + i) v d (λ e. omega arith) ∙ a.here i h);
-        past = λ i h. get_or-set_other after n i v d (λ e. omega arith) ∙ a.past i (omega arith);
-      }
 
   pub wrote-cong : (n x : ℕ) (f g : ℕ → A) (before after : List A) → ((i : ℕ) → i < n → f i ≡ g i) → Wrote d n x f before after → Wrote d n x g before after
   wrote-cong n x f g before after e a = record { same = a.same; ahead = a.ahead; here = λ i h. a.here i h ∙ e i h; past = a.past }

@@ -16,11 +16,12 @@ use Rattle.std.proofs.lemmas.List.{get_or_past, get_or-replicate, length-replica
 use Rattle.shapes.proofs.TestLaws.{either, first-not, second-not}
 use Rattle.shapes.specs.Numbers.{plus_zero}
 use Rattle.imageview.specs.Image.{Image, pixel}
+use Rattle.imageview.specs.Steps.{IsTested}
 use Rattle.imageview.proofs.ImageLaws.{index}
 use Rattle.response.specs.Region.{ring_fits}
 use Rattle.pixel_response.specs.Steps.{listed, Wrote}
-use Rattle.response.specs.StepsStarts.{sample_of, value_at, Reach, Below, start_of, Startable, started_at, Started}
-use Rattle.response.specs.StepsFrame.{inside_at, shifted_at, From, To, Framed}
+use Rattle.response.specs.StepsStarts.{sample_of, value_at, Reach, Around, Below, start_of, Startable, started_at, Started}
+use Rattle.response.specs.StepsFrame.{inside_at, shifted_at, From, To}
 use Rattle.pixel_response.proofs.PixelLaws.{response-cong}
 use Rattle.response.proofs.PassLaws.{lt-or-le, wrote_none, wrote-cong, wrote-next, part_count}
 
@@ -182,30 +183,30 @@ module _ (img : Image) (offsets : List ℕ) (radius x0 y : ℕ) where
         (λ q. sym (inside_past img.samples offsets img.pitch x0 y from to i q) ∙ column-past i (t.past i q l)) (lt-or-le i to))
         (lt-or-le i from)
 
-    module _ (g : Framed img offsets radius x0 w) (c : radius ≤ y) (d : y + radius < img.height) (some : from < to) where
+    module _ (image : IsTested img) (around : Around radius offsets) (fits : x0 + w ≤ img.width) (c : radius ≤ y) (d : y + radius < img.height) (some : from < to) where
       pub startable : Startable offsets (x0 + from) y
       startable =
           record {
-            x-most = omega (arith, g.right, f.most, g.image.stands.sized.width-most);
-            y-most = omega (arith, g.image.stands.sized.height-most);
+            x-most = omega (arith, fits, f.most, image.stands.sized.width-most);
+            y-most = omega (arith, image.stands.sized.height-most);
             clear = λ k h.
-                let a = (g.around k h).0 in
+                let a = (around k h).0 in
                 let b = f.on from (omega arith) (omega (arith, t.most)) in
                 (omega arith, omega arith);
           }
 
       columns : (k : ℕ) → k < 21 → x0 + from + get_or offsets (2 * k) 0 - 10 + (to - from) ≤ img.width
       columns k h =
-          let a = (g.around (2 * k) (omega arith)).1 in
+          let a = (around (2 * k) (omega arith)).1 in
           let b = t.inside (to - 1) (omega arith) (omega arith) in
           omega arith
 
       lines : (k : ℕ) → k < 21 → y + get_or offsets (2 * k + 1) 0 - 10 < img.height
-      lines k h = let a = (g.around (2 * k + 1) (omega arith)).1 in omega arith
+      lines k h = let a = (around (2 * k + 1) (omega arith)).1 in omega arith
 
       pub started-all : Started img.samples offsets img.pitch (x0 + from) y (to - from)
       started-all k h =
-          index img g.image.stands (x0 + from + get_or offsets (2 * k) 0 - 10) (y + get_or offsets (2 * k + 1) 0 - 10) (to - from) (columns k h) (lines k h)
+          index img image.stands (x0 + from + get_or offsets (2 * k) 0 - 10) (y + get_or offsets (2 * k + 1) 0 - 10) (to - from) (columns k h) (lines k h)
 
       pub started_below : Below img.samples (start_of offsets img.pitch (x0 + from) y) (to - from)
       unfolding pixel
@@ -213,7 +214,7 @@ module _ (img : Image) (offsets : List ℕ) (radius x0 y : ℕ) where
           let u = x0 + from + get_or offsets (2 * k) 0 - 10 in
           let v = y + get_or offsets (2 * k + 1) 0 - 10 in
           subst (λ (z : ℕ). get_or img.samples z 0 < 4096) (sym (add_assoc (v * img.pitch) u i))
-          (suc-le-suc (g.image.low (u + i) v (omega (arith, columns k h)) (lines k h)))
+          (suc-le-suc (image.low (u + i) v (omega (arith, columns k h)) (lines k h)))
 
 -- ---- row after row
 grid : (f : ℕ → ℕ → Float) (r w i : ℕ) → i < w → f i r ≡ f ((r * w + i) % w) ((r * w + i) / w)

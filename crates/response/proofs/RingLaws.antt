@@ -9,12 +9,11 @@ use native.Mathlib.Omega.{arith}
 use lib.Dec.{T, leb, leb→le}
 use lib.Ieee.Fits.{and_l, and_r}
 use lib.IntN.{ℤ, pos, negsuc, nat_abs, ◌+ℤ◌}
-use lib.Signed.{lt_z}
 use lib.ListN.{length, get_or, take}
 use mir.Syntax.{w32}
 use mir.Val.{SFits, to_z, of_z}
 use mir.ValLaws.{to_z-of_z}
-use borrow.Author.Tests.{ltb-true, ltb-false, le-leb, lt-leb, le-ltb, leb-true, leb-false}
+use borrow.Author.Tests.{le-leb, le-ltb, leb-true}
 use Rattle.std.proofs.lemmas.List.{take_more}
 use Rattle.response.specs.Region.{moved, ring_within}
 use Rattle.response.specs.StepsStarts.{Offsets, Around, cross_pairs}

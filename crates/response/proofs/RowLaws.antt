@@ -2,34 +2,17 @@
 use mathlib.Core.Path.{◌≡◌, refl, sym, ap, ◌∙◌, subst}
 use mathlib.Core.List.{List}
 use Prim.Native.Nat.{ℕ, ◌+◌, ◌-◌, ◌*◌, ◌≤◌, ◌<◌}
-use native.Mathlib.Nat.{zero-add, add_assoc, le_trans, mul-le-mul_right, le_of_suc-le-suc}
+use native.Mathlib.Nat.{zero-add, le_trans, mul-le-mul_right, le_of_suc-le-suc}
 use native.Mathlib.Omega.{arith}
-use lib.ListN.{length, get_or, take, drop, replicate, get_or-replicate}
-use Rattle.imageview.proofs.ImageLaws.{cut, run-count, run_at}
+use lib.ListN.{length, get_or, replicate, get_or-replicate}
 use Rattle.pixel_response.specs.Samples.{value_of}
-use Rattle.pixel_response.specs.Steps.{listed, Bounded, Levels, square_of, edges_of, sum_of, cross_of, Added, AddedQuarter, Spare, Wrote}
-use Rattle.response.specs.StepsStarts.{Below, Low, Part, SampledQuarter, SampledCross, sample_of, value_at}
+use Rattle.pixel_response.specs.Steps.{listed, Bounded, Levels, square_of, edges_of, sum_of, Spare}
+use Rattle.response.specs.StepsStarts.{Low, SampledQuarter, SampledCross, sample_of, value_at}
 use Rattle.pixel_response.proofs.PixelLaws.{four, Quarters, none, more, all}
-use Rattle.response.proofs.PassLaws.{added-cong, wrote-cong}
-
-pub part_of : (img starts : List ℕ) (k at n : ℕ) → get_or starts k 0 + (at + n) ≤ length img
-    → Part img starts k at n (take (get_or starts k 0 + at + n - (get_or starts k 0 + at)) (drop (get_or starts k 0 + at) img))
-part_of img starts k at n h =
-    let s = get_or starts k 0 in
-    record {
-      count = run-count img (s + at) n (s + at + n - (s + at)) (cut (s + at) n) (omega arith);
-      each = λ i l. run_at img (s + at) i (s + at + n - (s + at)) (s + (at + i)) (subst (λ (z : ℕ). i < z) (sym (cut (s + at) n)) l) (add_assoc s at i);
-    }
 
 -- an element of a low list, and a part of low samples
--- a level of four low rows
 pub low-at : (l : List ℕ) (n i : ℕ) → Low l → length l ≡ n → i < n → listed l i ≤ 4095
 low-at l n i b e h = le_of_suc-le-suc (b i (subst (λ (z : ℕ). i < z) (sym e) h))
-
-pub part_low : (img starts : List ℕ) (k at n : ℕ) (part : List ℕ) → k < 21 → Below img (listed starts) (at + n) → Part img starts k at n part → Low part
-part_low img starts k at n part h b p i l =
-    let m : i < n = subst (λ (z : ℕ). i < z) p.count l in
-    subst (λ (v : ℕ). v < 4096) (sym (p.each i m)) (b k h (at + i) (omega arith))
 
 -- element i of four rows that lie abreast
 pub levels-low : (a b c d : List ℕ) (n i : ℕ) → Low a × Low b × Low c × Low d → length a ≡ n → length b ≡ n → length c ≡ n → length d ≡ n → i < n → Levels (listed a i) (listed b i) (listed c i) (listed d i)
@@ -38,32 +21,6 @@ levels-low a b c d n i l p q r s h = record { first = low-at a n i l.0 p h; seco
 -- what is bounded of four levels is of the samples that they were read from
 pub same-four : (m : ℕ) (f : ℕ → ℕ → ℕ → ℕ → ℕ) (a b c d a' b' c' d' r : ℕ) → a ≡ a' → b ≡ b' → c ≡ c' → d ≡ d' → Bounded (f a b c d) m r → Bounded (f a' b' c' d') m r
 same-four m f a b c d a' b' c' d' r p q s t w = record { is = w.is ∙ four f a b c d a' b' c' d' p q s t; most = w.most }
-
-five : (f : ℕ → ℕ → ℕ → ℕ → ℕ → ℕ) (a b c d e a' b' c' d' e' : ℕ) → a ≡ a' → b ≡ b' → c ≡ c' → d ≡ d' → e ≡ e' → f a b c d e ≡ f a' b' c' d' e'
-five f a b c d e a' b' c' d' e' p q r s t = cc
-
--- a quarter of the parts is a quarter of the samples
-module _ (img starts : List ℕ) (k at n : ℕ) (a b c d : List ℕ) (p : Part img starts k at n a) (q : Part img starts (k + 4) at n b) (r : Part img starts (k + 8) at n c) (s : Part img starts (k + 12) at n d) where
-  sampled : (f : ℕ → ℕ → ℕ → ℕ → ℕ) (m : ℕ) (before after : List ℕ) → Added (length a) m (λ i. f (listed a i) (listed b i) (listed c i) (listed d i)) before after
-      → Added n m (λ i. f (sample_of img starts (at + i) k) (sample_of img starts (at + i) (k + 4)) (sample_of img starts (at + i) (k + 8)) (sample_of img starts (at + i) (k + 12))) before after
-  sampled f m before after w =
-      added-cong n m (λ i. f (listed a i) (listed b i) (listed c i) (listed d i))
-      (λ i. f (sample_of img starts (at + i) k) (sample_of img starts (at + i) (k + 4)) (sample_of img starts (at + i) (k + 8)) (sample_of img starts (at + i) (k + 12))) before after
-      (λ i h. four f (listed a i) (listed b i) (listed c i) (listed d i) (sample_of img starts (at + i) k) (sample_of img starts (at + i) (k + 4)) (sample_of img starts (at + i) (k + 8)) (sample_of img starts (at + i) (k + 12)) (p.each i h) (q.each i h) (r.each i h) (s.each i h))
-      (subst (λ (z : ℕ). Added z m (λ i. f (listed a i) (listed b i) (listed c i) (listed d i)) before after) p.count w)
-
-  pub sampled-quarter : (P : ℕ) (square edge sum square' edge' sum' : List ℕ) → AddedQuarter P (length a) (listed a) (listed b) (listed c) (listed d) square edge sum square' edge' sum'
-      → SampledQuarter P img starts k at n square edge sum square' edge' sum'
-  sampled-quarter P square edge sum square' edge' sum' w =
-      record { squares = sampled square_of (2 * (P - 1)) square square' w.squares; edges = sampled edges_of (2 * (P - 1)) edge edge' w.edges; sums = sampled sum_of (4 * (P - 1)) sum sum' w.sums }
-
-pub sampled-cross : (img starts : List ℕ) (at n : ℕ) (a b c d e before after : List ℕ) → Part img starts 16 at n a → Part img starts 17 at n b → Part img starts 18 at n c → Part img starts 19 at n d → Part img starts 20 at n e
-    → Wrote 0 (length a) 0 (λ i. cross_of (listed a i) (listed b i) (listed c i) (listed d i) (listed e i)) before after → SampledCross img starts at n before after
-sampled-cross img starts at n a b c d e before after p q r s t w =
-    wrote-cong 0 n 0 (λ i. cross_of (listed a i) (listed b i) (listed c i) (listed d i) (listed e i))
-    (λ i. cross_of (sample_of img starts (at + i) 16) (sample_of img starts (at + i) 17) (sample_of img starts (at + i) 18) (sample_of img starts (at + i) 19) (sample_of img starts (at + i) 20)) before after
-    (λ i h. five cross_of (listed a i) (listed b i) (listed c i) (listed d i) (listed e i) (sample_of img starts (at + i) 16) (sample_of img starts (at + i) 17) (sample_of img starts (at + i) 18) (sample_of img starts (at + i) 19) (sample_of img starts (at + i) 20) (p.each i h) (q.each i h) (r.each i h) (s.each i h) (t.each i h))
-    (subst (λ (z : ℕ). Wrote 0 z 0 (λ i. cross_of (listed a i) (listed b i) (listed c i) (listed d i) (listed e i)) before after) p.count w)
 
 -- ---- the sums of a block after k quarters
 pub record Sums (P : ℕ) (img starts : List ℕ) (at n k : ℕ) (square edge sum : List ℕ) : Type 0 where

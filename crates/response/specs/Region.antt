@@ -57,7 +57,10 @@ unfoldable pub written : Image → List ℤ → ℕ → Region → List Float
 unfolding tabulated written_at
 written img ring radius r = tabulated (width_of r * height_of r) (λ i. written_at img ring radius (r.x0 + i % width_of r) (r.y0 + i / width_of r))
 
--- ---- every component within the radius
+-- ---- a radius in 1..=10, and every component within it
+abbrev pub radius_fits : ℕ → Bool
+radius_fits radius = leb 1 radius && leb radius 10
+
 unfoldable pub ring_within : ℕ → List ℤ → Bool
 ring_within radius [] = true
 ring_within radius (z ∷ l) = leb (nat_abs z) radius && ring_within radius l

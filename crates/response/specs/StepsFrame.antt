@@ -2,14 +2,13 @@
 use Rattle.std.specs.Prelude.{◌≡◌, Bool, true, false, ◌&&◌, cond, List, ℕ, ◌+◌, ◌*◌, ◌/◌, ◌%◌, ◌≤◌, ◌<◌, leb, ltb, eqb, length, Float, Result, Ok, Err}
 use Rattle.shapes.specs.Numbers.{plus_zero}
 use Rattle.imageview.specs.Image.{Image}
-use Rattle.imageview.specs.Steps.{IsTested}
 use Rattle.refusals.specs.declared.Refusal.{Refusal}
 use Rattle.refusals.specs.declared.Refusal.TheVariants.{BadOut}
 use Rattle.response.specs.declared.Extent.{Extent}
 use Rattle.response.specs.Region.{Region, ring_fits, clamped, width_of, height_of}
 use Rattle.response.specs.Call.{extent_of}
 use Rattle.pixel_response.specs.Steps.{Wrote}
-use Rattle.response.specs.StepsStarts.{Around, started_at}
+use Rattle.response.specs.StepsStarts.{started_at}
 
 -- a row in which the ring fits from column `from` on, up to `to`
 abbrev pub inside_at : List ℕ → List ℕ → ℕ → ℕ → ℕ → ℕ → ℕ → ℕ → Float
@@ -29,13 +28,6 @@ pub record To (x0 w width radius from to : ℕ) : Type 0 where
   pub most : to ≤ w
   pub inside : (i : ℕ) → i < to → from ≤ i → x0 + i + radius < width
   pub past : (i : ℕ) → to ≤ i → i < w → width ≤ x0 + i + radius
-
--- a region's columns lie in a tested image, and its ring within the radius
-pub record Framed (img : Image) (offsets : List ℕ) (radius x0 w : ℕ) : Type 0 where
-  pub image : IsTested img
-  pub radius-most : radius ≤ 10
-  pub around : Around radius offsets
-  pub right : x0 + w ≤ img.width
 
 -- the buffer has the clamped region's size
 abbrev pub size_fits : Image → Region → ℕ → Bool

@@ -1,8 +1,10 @@
 -- Where the 21 samples of a pixel stand in an image: the ring's sixteen, and the cross's five. Components are unsigned here, 10 added to each.
-use Rattle.std.specs.Prelude.{◌≡◌, Bool, true, cond, List, [], ◌∷◌, ℕ, ◌+◌, ◌-◌, ◌*◌, ◌≤◌, ◌<◌, leb, ℤ, pos, nat_abs, length, get_or, Float}
+use Rattle.std.specs.Prelude.{◌≡◌, ◌⊎◌, true, false, List, [], ◌∷◌, ℕ, ◌+◌, ◌-◌, ◌*◌, ◌≤◌, ◌<◌, ℤ, pos, length, get_or, Float}
 use Rattle.pixel_response.specs.Near.{Under}
 use Rattle.pixel_response.specs.Samples.{response_of}
-use Rattle.response.specs.Region.{moved}
+use Rattle.refusals.specs.declared.Refusal.{Refusal}
+use Rattle.refusals.specs.declared.Refusal.TheVariants.{BadRadius, BadRing}
+use Rattle.response.specs.Region.{moved, radius_fits, ring_within}
 use Rattle.pixel_response.specs.Steps.{listed, cross_of, AddedQuarter, Wrote}
 
 -- the pairs of the pixel and of those above, below, right and left of it, plus 10
@@ -18,6 +20,10 @@ pub record Offsets (ring : List ℤ) (offsets : List ℕ) : Type 0 where
 -- every offset within the radius of 10
 abbrev pub Around : ℕ → List ℕ → Type 0
 Around radius offsets = (k : ℕ) → k < 42 → (10 ≤ get_or offsets k 0 + radius) × (get_or offsets k 0 ≤ 10 + radius)
+
+-- the refusal of the first test that a radius and a ring fail
+abbrev pub IsRingRefusedBy : ℕ → List ℤ → Refusal → Type 0
+IsRingRefusedBy radius ring refusal = ((radius_fits radius ≡ false) × (refusal ≡ BadRadius)) ⊎ ((radius_fits radius ≡ true) × (ring_within radius ring ≡ false) × (refusal ≡ BadRing))
 
 -- where sample k of the pixel (x, y) stands in an image of that pitch
 abbrev pub start_of : List ℕ → ℕ → ℕ → ℕ → ℕ → ℕ

@@ -1,7 +1,7 @@
 // The ChESS response of an image over a region, after `response.rs`.
 #![tactic(auto)]
 
-ghost use Rattle.std.specs.Prelude.{◌≡◌};
+ghost use Rattle.std.specs.Prelude.{◌≡◌, ◌≤◌};
 ghost use Rattle.imageview.specs.View.{shown};
 ghost use Rattle.response.specs.Region.{clamped, is_empty, width_of, height_of};
 ghost use Rattle.response.specs.Call.{Done, region_of};
@@ -12,6 +12,7 @@ mod row;
 
 use imageview::{Image, ImageView, Sample};
 use refusals::Refusal;
+use ring::Ring;
 
 // A region from (x0, y0) up to but without (x1, y1).
 #[derive(Clone, Copy, Debug, PartialEq, Eq)]
@@ -38,7 +39,8 @@ impl Roi {
 
     // What of the region lies within the image.
     fn clamped<S: Sample>(self, image: &Image<S>) -> Roi
-        ensures { region_of result ≡ clamped image.now (region_of self) }
+        ensures clamped { region_of result ≡ clamped image.now (region_of self) }
+        ensures few { (result.x1 ≤ 4096) × (result.y1 ≤ 4096) }
     {
         let width = image.width();
         let height = image.height();
@@ -54,6 +56,7 @@ impl Roi {
     fn extent(self) -> Extent
         ensures width { result.width ≡ width_of (region_of self) }
         ensures height { result.height ≡ height_of (region_of self) }
+        ensures within { (result.width ≤ self.x1) × (result.height ≤ self.y1) }
     {
         if self.is_empty() {
             return Extent {
@@ -81,14 +84,9 @@ pub fn chess_response_patch<S: Sample>(
     ensures { Done (shown S.levels S.deep view.entry) ring.now radius (region_of roi) out.old result out.new }
 {
     let image = Image::new(view)?;
-    if (radius < 1) | (10 < radius) {
-        return Err(Refusal::BadRadius);
-    }
-    if !ring::is_within(ring, radius) {
-        return Err(Refusal::BadRing);
-    }
+    let ring = Ring::new(ring, radius)?;
     if roi.is_empty() {
         return Err(Refusal::EmptyRoi);
     }
-    region::write_clamped(&image, &ring::offsets_of(ring), radius, roi, out)
+    region::write_clamped(&image, &ring, roi, out)
 }

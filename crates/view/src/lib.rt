@@ -1,29 +1,28 @@
-// An image as bytes that are borrowed, with width, height and pitch, after `imageview.rs`. The functions are thin: each takes the view apart and
-// calls the one on a plain slice and numbers, which does the work.
+// The view of an image after `imageview.rs`: samples of either width that are borrowed, with width, height and pitch. The functions are thin: each hands the view on to
+// what does the work.
 #![tactic(auto)]
-
-mod plain;
 
 ghost use Rattle.std.specs.Prelude.{◌≡◌, ◌+◌, ◌*◌, ◌≤◌, length, take, drop};
 ghost use Rattle.imageview.specs.Image.{byte_image, is_image};
 ghost use Rattle.response.specs.Call.{Done, region_of};
 ghost use Rattle.refine_seed.specs.Refine.{refine_of};
-ghost use Rattle.view.specs.Seen.{image_in};
+ghost use Rattle.view.specs.Seen.{image_in, image_of_slice};
 
+pub use imageview::ImageView;
+
+use imageview::Sample;
 use refine_formulas::SaddlePointConfig;
-use refine_seed::Refined;
-use response::{Response, Roi};
-
-#[derive(Clone, Copy)]
-pub struct ImageView<'a> {
-    pub data: &'a [u8],
-    pub width: usize,
-    pub height: usize,
-    pub pitch: usize,
-}
+use refine_seed::{Estimate, Unrefined};
+use refusals::Refusal;
+use response::{Extent, Roi};
 
 // The view as it is given; `is_image` tests it.
-pub fn from_u8_slice<'a>(data: &'a [u8], width: usize, height: usize, pitch: usize) -> ImageView<'a>
+pub fn from_slice<'a, S: Sample>(
+    data: &'a [S],
+    width: usize,
+    height: usize,
+    pitch: usize,
+) -> ImageView<'a, S>
     ensures { result ≡ record { «data» = «data».entry; width = width; height = height; pitch = pitch } }
 {
     ImageView {
@@ -34,85 +33,95 @@ pub fn from_u8_slice<'a>(data: &'a [u8], width: usize, height: usize, pitch: usi
     }
 }
 
-// The test of an image: where it fails the calls answer refusal 10.
-pub fn is_image<'a>(view: ImageView<'a>) -> bool
-    ensures { result ≡ is_image (image_in view.entry) }
+// The same of bytes, under the name that document 01 has.
+pub fn from_u8_slice<'a>(
+    data: &'a [u8],
+    width: usize,
+    height: usize,
+    pitch: usize,
+) -> ImageView<'a, u8>
+    ensures { result ≡ record { «data» = «data».entry; width = width; height = height; pitch = pitch } }
 {
-    plain::is_image(view.data, view.width, view.height, view.pitch)
+    from_slice(data, width, height, pitch)
 }
 
-pub fn width<'a>(view: ImageView<'a>) -> usize
+// The test of an image: where it fails the calls answer refusal 10.
+pub fn is_image<S: Sample>(view: ImageView<S>) -> bool
+    ensures { result ≡ is_image (image_in S.levels S.deep view.entry) }
+{
+    view.is_image()
+}
+
+pub fn width<S: Sample>(view: ImageView<S>) -> usize
     ensures { result ≡ view.entry.width }
 {
     view.width
 }
 
-pub fn height<'a>(view: ImageView<'a>) -> usize
+pub fn height<S: Sample>(view: ImageView<S>) -> usize
     ensures { result ≡ view.entry.height }
 {
     view.height
 }
 
 // How far a row begins from the one before it.
-pub fn pitch<'a>(view: ImageView<'a>) -> usize
+pub fn pitch<S: Sample>(view: ImageView<S>) -> usize
     ensures { result ≡ view.entry.pitch }
 {
     view.pitch
 }
 
 // One row of a patch, as a part of the image: side samples from column x0 of row y.
-pub fn patch_row<'a>(view: ImageView<'a>, x0: usize, y: usize, side: usize) -> &'a [u8]
+pub fn patch_row<'a, S: Sample>(view: ImageView<'a, S>, x0: usize, y: usize, side: usize) -> &'a [S]
     requires { y * view.pitch + x0 + side ≤ length view.data.now }
     ensures { result.now ≡ take side (drop (y * view.entry.pitch + x0) view.entry.data.now) }
 {
-    imageview::patch_row(view.data, view.pitch, x0, y, side)
+    view.patch_row(x0, y, side)
 }
 
 // The ChESS response of the view's image over a region.
-pub fn response<'a>(
-    view: ImageView<'a>,
+pub fn response<S: Sample>(
+    view: ImageView<S>,
     ring: &[i32; 32],
     radius: usize,
     roi: Roi,
     out: &mut [f32],
-) -> Response
-    ensures { Done (image_in view.entry) ring.now radius (region_of roi) out.old result out.new }
+) -> Result<Extent, Refusal>
+    ensures { Done (image_in S.levels S.deep view.entry) ring.now radius (region_of roi) out.old result out.new }
 {
-    plain::response(
-        view.data,
-        view.width,
-        view.height,
-        view.pitch,
-        ring,
-        radius,
-        roi,
-        out,
-    )
+    response::chess_response_patch(view, ring, radius, roi, out)
 }
 
 // The refiner of one seed on the view's image.
-pub fn refine<'a>(
-    view: ImageView<'a>,
+pub fn refine<S: Sample>(
+    view: ImageView<S>,
     cfg: SaddlePointConfig,
     x: f32,
     y: f32,
     wanted: bool,
-) -> Refined
-    ensures { result ≡ refine_of (image_in view.entry) cfg x y wanted }
+) -> Result<Estimate, Unrefined>
+    ensures { result ≡ refine_of (image_in S.levels S.deep view.entry) cfg x y wanted }
 {
-    plain::refine(
-        view.data,
-        view.width,
-        view.height,
-        view.pitch,
-        cfg,
-        x,
-        y,
-        wanted,
-    )
+    refine_seed::refine(view, cfg, x, y, wanted)
 }
 
-// The same from plain bytes: the view is a local.
+// The same from plain samples: the view is a local.
+pub fn refine_slice<S: Sample>(
+    data: &[S],
+    width: usize,
+    height: usize,
+    pitch: usize,
+    cfg: SaddlePointConfig,
+    x: f32,
+    y: f32,
+    wanted: bool,
+) -> Result<Estimate, Unrefined>
+    ensures { result ≡ refine_of (image_of_slice S.levels S.deep «data».now width height pitch) cfg x y wanted }
+{
+    refine(from_slice(data, width, height, pitch), cfg, x, y, wanted)
+}
+
+// And from plain bytes.
 pub fn refine_bytes(
     data: &[u8],
     width: usize,
@@ -122,8 +131,8 @@ pub fn refine_bytes(
     x: f32,
     y: f32,
     wanted: bool,
-) -> Refined
+) -> Result<Estimate, Unrefined>
     ensures { result ≡ refine_of (byte_image «data».now width height pitch) cfg x y wanted }
 {
-    refine(from_u8_slice(data, width, height, pitch), cfg, x, y, wanted)
+    refine_slice(data, width, height, pitch, cfg, x, y, wanted)
 }

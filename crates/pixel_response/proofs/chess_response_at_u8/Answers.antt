@@ -19,7 +19,7 @@ overflow_add-sum c = omega (arith, c.loop-k.invariant.sum-most, c.sum_of-sum.ens
 pub loop-k-preserved : goal.loop-k-preserved
 loop-k-preserved c =
     more 4096 (listed c.args.ring.now) c.loop-k.k c.loop-k.square c.loop-k.edge c.loop-k.sum c.square_of-square.result c.edges_of-edge.result c.sum_of-sum.result
-        c.loop-k.invariant c.square_of-square.ensures c.edges_of-edge.ensures c.sum_of-sum.ensures
+    c.loop-k.invariant c.square_of-square.ensures c.edges_of-edge.ensures c.sum_of-sum.ensures
 
 pub returns : goal.returns
 returns c =

@@ -6,11 +6,11 @@ use Rattle.response.proofs.PassLaws.{wrote-cong}
 use Rattle.response.proofs.RegionLaws.{row-in, row-out, row_is, startable, started-all, started_below}
 use Rattle.response.proofs.region.region_row.Goals as goal
 
-pub returns-then-y-radius : goal.returns-then-y-radius
-returns-then-y-radius g c =
+pub returns-then-y-ring : goal.returns-then-y-ring
+returns-then-y-ring g c =
     let a = c.args in
-    wrote-cong plus_zero (length a.out.now) 0 _ (λ i. shifted_at a.image.now a.offsets.now a.radius (a.x0 + i) a.y) a.out.now c.write_zeros.new.out
-    (row-out a.image.now a.offsets.now a.radius a.x0 a.y (length a.out.now) a.from a.to c.requires.from c.requires.to c.height.result c.height.ensures.height c.if-y-radius.true) c.write_zeros.ensures
+    wrote-cong plus_zero (length a.out.now) 0 _ (λ i. shifted_at a.image.now a.ring.now.offsets a.ring.now.radius (a.x0 + i) a.y) a.out.now c.write_zeros.new.out
+    (row-out a.image.now a.ring.now.offsets a.ring.now.radius a.x0 a.y (length a.out.now) a.columns.from a.columns.to c.requires.from c.requires.to c.height.result c.height.ensures.height c.if-y-ring.true) c.write_zeros.ensures
 
 pub row_inside-requires : goal.row_inside-requires
 row_inside-requires g c =
@@ -19,19 +19,20 @@ row_inside-requires g c =
     let t = c.requires.to in
     let v = a.image.now in
     let n = length a.out.now in
-    let r = row-in a.radius c.height.result a.y a.from a.to c.if-y-radius.false in
-    let below = subst (λ (h : ℕ). a.y + a.radius < h) c.height.ensures.height r.below in
-    let s = startable v a.offsets.now a.radius a.x0 a.y n a.from a.to f t c.requires.framed r.above below r.some in
+    let r = row-in a.ring.now.radius c.height.result a.y a.columns.from a.columns.to c.if-y-ring.false in
+    let below = subst (λ (h : ℕ). a.y + a.ring.now.radius < h) c.height.ensures.height r.below in
+    let s = startable v a.ring.now.offsets a.ring.now.radius a.x0 a.y n a.columns.from a.columns.to f t c.height.ensures.tested a.ring.now.around c.requires.right r.above below r.some in
     record {
-      columns = (r.some, t.most, s.x-most);
+      some = r.some;
+      room = t.most;
       startable = s;
-      started = started-all v a.offsets.now a.radius a.x0 a.y n a.from a.to f t c.requires.framed r.above below r.some;
-      below = started_below v a.offsets.now a.radius a.x0 a.y n a.from a.to f t c.requires.framed r.above below r.some;
+      started = started-all v a.ring.now.offsets a.ring.now.radius a.x0 a.y n a.columns.from a.columns.to f t c.height.ensures.tested a.ring.now.around c.requires.right r.above below r.some;
+      below = started_below v a.ring.now.offsets a.ring.now.radius a.x0 a.y n a.columns.from a.columns.to f t c.height.ensures.tested a.ring.now.around c.requires.right r.above below r.some;
     }
 
 pub returns : goal.returns
 returns g c =
     let a = c.args in
-    let r = row-in a.radius c.height.result a.y a.from a.to c.if-y-radius.false in
-    wrote-cong plus_zero (length a.out.now) 0 _ (λ i. shifted_at a.image.now a.offsets.now a.radius (a.x0 + i) a.y) a.out.now c.row_inside.new.out
-    (row_is a.image.now a.offsets.now a.radius a.x0 a.y (length a.out.now) a.from a.to c.requires.from c.requires.to r.above (subst (λ (h : ℕ). a.y + a.radius < h) c.height.ensures.height r.below)) c.row_inside.ensures
+    let r = row-in a.ring.now.radius c.height.result a.y a.columns.from a.columns.to c.if-y-ring.false in
+    wrote-cong plus_zero (length a.out.now) 0 _ (λ i. shifted_at a.image.now a.ring.now.offsets a.ring.now.radius (a.x0 + i) a.y) a.out.now c.row_inside.new.out
+    (row_is a.image.now a.ring.now.offsets a.ring.now.radius a.x0 a.y (length a.out.now) a.columns.from a.columns.to c.requires.from c.requires.to r.above (subst (λ (h : ℕ). a.y + a.ring.now.radius < h) c.height.ensures.height r.below)) c.row_inside.ensures

@@ -9,13 +9,13 @@ use Rattle.response.proofs.region.row_inside.Goals as goal
 pub write_row-requires : goal.write_row-requires
 write_row-requires g c =
     let a = c.args in
-    let s = c.starts_of-starts in
+    let s = c.starts-starts in
     let l = a.image.now.samples in
     let pitch = a.image.now.pitch in
-    let one = row-left l a.offsets.now pitch a.x0 a.y a.from a.to a.out.now c.write_zeros.new.out (omega arith) c.write_zeros.ensures in
-    let count = part_count plus_zero a.from a.to _ (omega arith) (omega (arith, one.same)) in
-    let reach = reaches l a.offsets.now pitch (a.x0 + a.from) a.y s.result s.ensures _ (subst (Started l a.offsets.now pitch (a.x0 + a.from) a.y) (sym count) c.requires.started) in
-    let below = stays-below l a.offsets.now pitch (a.x0 + a.from) a.y s.result s.ensures _ (subst (Below l (start_of a.offsets.now pitch (a.x0 + a.from) a.y)) (sym count) c.requires.below) in
+    let one = row-left l a.ring.now.offsets pitch a.x0 a.y a.columns.from a.columns.to a.out.now c.write_zeros.new.out (omega arith) c.write_zeros.ensures in
+    let count = part_count plus_zero a.columns.from a.columns.to _ (omega arith) (omega (arith, one.same)) in
+    let reach = reaches l a.ring.now.offsets pitch (a.x0 + a.columns.from) a.y s.result s.ensures _ (subst (Started l a.ring.now.offsets pitch (a.x0 + a.columns.from) a.y) (sym count) c.requires.started) in
+    let below = stays-below l a.ring.now.offsets pitch (a.x0 + a.columns.from) a.y s.result s.ensures _ (subst (Below l (start_of a.ring.now.offsets pitch (a.x0 + a.columns.from) a.y)) (sym count) c.requires.below) in
     rw c.samples.ensures.samples (record { reach = reach; below = below })
 
 pub returns : goal.returns
@@ -23,9 +23,9 @@ returns g c =
     let a = c.args in
     let l = a.image.now.samples in
     let pitch = a.image.now.pitch in
-    let s = c.starts_of-starts in
-    row-right l a.offsets.now pitch a.x0 a.y a.from a.to a.out.now _ c.write_zeros-2.new.out c.requires.columns.1
-    (row-middle l a.offsets.now pitch a.x0 a.y a.from a.to a.out.now _ c.write_row.new.out s.result c.requires.startable.clear (omega arith) c.requires.columns.1 s.ensures
-    (row-left l a.offsets.now pitch a.x0 a.y a.from a.to a.out.now c.write_zeros.new.out (omega arith) c.write_zeros.ensures)
+    let s = c.starts-starts in
+    row-right l a.ring.now.offsets pitch a.x0 a.y a.columns.from a.columns.to a.out.now _ c.write_zeros-2.new.out c.requires.room
+    (row-middle l a.ring.now.offsets pitch a.x0 a.y a.columns.from a.columns.to a.out.now _ c.write_row.new.out s.result c.requires.startable.clear (omega arith) c.requires.room s.ensures
+    (row-left l a.ring.now.offsets pitch a.x0 a.y a.columns.from a.columns.to a.out.now c.write_zeros.new.out (omega arith) c.write_zeros.ensures)
     (rw c.samples.ensures.samples at c.write_row.ensures))
     c.write_zeros-2.ensures

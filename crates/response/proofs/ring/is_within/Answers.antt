@@ -1,5 +1,5 @@
 -- One component more.
-use Rattle.std.proofs.Common.{◌≡◌, ℤ, pos, Bool, ◌&&◌, ◌≤◌, leb, get_or, nat_abs, take, ap, ◌∙◌, arith, rules}
+use Rattle.std.proofs.Common.{◌≡◌, pos, Bool, ◌&&◌, leb, get_or, nat_abs, take, ap, ◌∙◌, arith, rules}
 use Rattle.std.proofs.lemmas.List.{get_or_default}
 use mir.Syntax.{w32}
 use mir.Val.{to_z, of_z}

@@ -1,6 +1,6 @@
 -- `response::row::add_quarter` meets its contract. After i turns the first i pixels have it.
-use Rattle.std.proofs.Common.{◌≡◌, ℕ, ◌<◌, length, sym, refl, ◌∙◌, subst, arith}
-use Rattle.pixel_response.specs.Steps.{listed, Levels, square_of, sum_of, Bounded, AddedQuarter}
+use Rattle.std.proofs.Common.{◌≡◌, ℕ, length, ◌∙◌, subst, arith}
+use Rattle.pixel_response.specs.Steps.{listed, square_of, sum_of, AddedQuarter}
 use Rattle.response.proofs.PassLaws.{quarter-none, quarter-more}
 use Rattle.response.proofs.RowLaws.{levels-low, same-four}
 use Rattle.response.proofs.row.add_quarter.Goals as goal
@@ -42,10 +42,10 @@ loop-i-preserved g c =
     let i = c.loop-i.i in
     let levels = g.S.Sample.levels in
     quarter-more 4096 i (listed (levels a.a.now)) (listed (levels a.b.now)) (listed (levels a.c.now)) (listed (levels a.d.now)) a.square.now a.edge.now a.sum.now c.loop-i.square c.loop-i.edge c.loop-i.sum
-        c.square_of.result c.edges_at.result c.sum_of.result (omega arith) (omega arith) (omega arith) c.loop-i.invariant
-        (same-four 8190 square_of _ _ _ _ _ _ _ _ _ c.level_at-p.ensures c.level_at-q.ensures c.level_at-r.ensures c.level_at-s.ensures c.square_of.ensures)
-        c.edges_at.ensures
-        (same-four 16380 sum_of _ _ _ _ _ _ _ _ _ c.level_at-p.ensures c.level_at-q.ensures c.level_at-r.ensures c.level_at-s.ensures c.sum_of.ensures)
+    c.square_of.result c.edges_at.result c.sum_of.result (omega arith) (omega arith) (omega arith) c.loop-i.invariant
+    (same-four 8190 square_of _ _ _ _ _ _ _ _ _ c.level_at-p.ensures c.level_at-q.ensures c.level_at-r.ensures c.level_at-s.ensures c.square_of.ensures)
+    c.edges_at.ensures
+    (same-four 16380 sum_of _ _ _ _ _ _ _ _ _ c.level_at-p.ensures c.level_at-q.ensures c.level_at-r.ensures c.level_at-s.ensures c.sum_of.ensures)
 
 pub returns : goal.returns
 returns g c =

@@ -1,6 +1,5 @@
 -- Both distances are at most the greatest sample.
 use Rattle.std.proofs.Common.{◌≤◌, ◌+◌, length, ◌∙◌, arith}
-use Rattle.pixel_response.specs.Steps.{listed}
 use Rattle.pixel_response.specs.Samples.{apart}
 use Rattle.pixel_response.proofs.PixelLaws.{edges-from, edges_most}
 use Rattle.response.proofs.RowLaws.{levels-low}

@@ -3,7 +3,7 @@ use Rattle.std.proofs.Common.{◌≡◌, ℕ, length, refl, subst, arith}
 use Rattle.shapes.specs.Numbers.{plus_zero}
 use Rattle.pixel_response.specs.Steps.{Wrote}
 use Rattle.response.specs.StepsStarts.{value_at}
-use Rattle.response.proofs.PassLaws.{wrote_none, wrote-next, part_count}
+use Rattle.response.proofs.PassLaws.{wrote-next, part_count}
 use Rattle.response.proofs.row.write_row.Goals as goal
 
 pub block-requires : goal.block-requires

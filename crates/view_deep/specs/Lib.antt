@@ -1,2 +1,0 @@
--- What a view of borrowed words stands for.
-pub mod Seen
