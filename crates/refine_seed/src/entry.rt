@@ -71,11 +71,7 @@ fn open_fresh<S: Sample>(
 }
 
 // The estimate, with the overlaps of the settings' radius where a covariance is wanted.
-fn close_fresh(
-    opened: Opened,
-    cfg: SaddlePointConfig,
-    wanted: bool,
-) -> Result<Estimate, Unrefined>
+fn close_fresh(opened: Opened, cfg: SaddlePointConfig, wanted: bool) -> Result<Estimate, Unrefined>
     ensures { ClosesFresh cfg wanted opened result }
 {
     let mut overlap = [0.0f32; 225];
