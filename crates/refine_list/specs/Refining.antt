@@ -10,7 +10,7 @@ use Rattle.imageview.specs.Image.{Image, is_image, in_range}
 use Rattle.refine_formulas.specs.declared.SaddlePointConfig.{SaddlePointConfig}
 use Rattle.refine_seed.specs.declared.Spot.{Spot}
 use Rattle.refine_seed.specs.declared.Spot.TheVariants.{At, Nowhere}
-use Rattle.refine_seed.specs.Refine.{good_limits, refine_of}
+use Rattle.refine_seed.specs.Refine.{good_limits, refine_of, refine_lent}
 use Rattle.refine_seed.specs.Spot.{spot_of}
 
 -- the number of each case; 0 is done
@@ -27,6 +27,11 @@ record_of Nowhere strength = []
 unfoldable pub spot_for : Image → SaddlePointConfig → List Float → ℕ → Spot
 unfolding refine_of
 spot_for img cfg corners i = spot_of (refine_of img cfg (entry corners (3 * i)) (entry corners (3 * i + 1)) false)
+
+-- and with columns that are lent, whatever they hold; no covariance is wanted, so no overlap is asked for
+unfoldable pub lent_for : Image → SaddlePointConfig → List Float → List Float → ℕ → Spot
+unfolding refine_lent
+lent_for img cfg columns corners i = spot_of (refine_lent img cfg (entry corners (3 * i)) (entry corners (3 * i + 1)) false columns [])
 
 -- the records of the first n seeds, in input order, where seed i is refined to `spots i`
 unfoldable pub records_by : (ℕ → Spot) → List Float → ℕ → List Float

@@ -2,6 +2,7 @@
 #![tactic(auto)]
 
 pub mod list;
+pub mod seeds;
 
 ghost use Rattle.std.specs.Prelude.{◌≡◌};
 ghost use Rattle.imageview.specs.Image.{image_of};
@@ -11,6 +12,7 @@ use imageview::Sizes;
 use refine_formulas::SaddlePointConfig;
 use refusals::Refusal;
 
+#[tactic(auto, unfolding(crate::specs::Refining::way_of))]
 // Refines the corners, x, y and strength of each, and writes those that are accepted, in input order with their own strength.
 pub fn refine_corners_on_image(
     bytes: &[u8],
