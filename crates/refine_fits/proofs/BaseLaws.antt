@@ -14,13 +14,13 @@ use Rattle.imageview.proofs.ImageLaws.{index}
 use Rattle.refine_formulas.specs.declared.Corners.{Corners}
 use Rattle.refine_patch.specs.StepsFrom.{coefficient_from, four_written}
 use Rattle.refine_patch.specs.declared.Firsts.{Firsts}
-use Rattle.refine_patch.specs.StepsFour.{lane_of, sum_in, PatchesInside}
+use Rattle.refine_patch.specs.StepsFour.{lane_of, sum_in, PatchesInside, side_by_side}
 use Rattle.refine_patch.proofs.FourLaws.{written-length, written-before, written-here}
 use Rattle.refine_patch.proofs.PatchLaws.{coefficient-about}
 use Rattle.refine_fits.specs.Fit.{sample_of, coefficient, coefficients}
 use Rattle.refine_fits.specs.Windows.{Fits, lacking, four, corners_at}
 use Rattle.refine_fits.specs.StepsAdding.{PatchWithin, FourWithin}
-use Rattle.refine_fits.specs.StepsBases.{coefs_in, side_by_side, first_place, firsts_about, Laid}
+use Rattle.refine_fits.specs.StepsBases.{coefs_in, first_place, firsts_about, Laid}
 use Rattle.refine_fits.proofs.CacheLaws.{five, five_of, all-five, room00, room10, room01, room11, has-four}
 
 -- ---- four fits that are written

@@ -25,23 +25,6 @@ use Rattle.refine_fits.specs.StepsAdding.{Sound, PatchWithin, FourWithin, has_ro
 use Rattle.refine_formulas.proofs.Choice.{and_both}
 use Rattle.refine_fits.specs.StepsCache.{fit_in, centre_x, centre_y, named, slotted, Shaped, Kept, Slot, Counted}
 
--- ---- the count
-pub count-again : (len : ℕ) → len ≡ 17 → Counted len 9
-count-again len h = record { small = omega arith; used = λ slot a b. inl (omega arith) }
-
-pub count-on : (len : ℕ) → len < 18 → (len ≡ 17 → ⊥) → Counted len (len + 1)
-count-on len h g = record { small = below (eq-or-lt_of_le (le_of_suc-le-suc h)); used = split }
-  where
-    below : (len ≡ 17) ⊎ (len < 17) → len + 1 < 18
-    below (inl e) = absurd (g e)
-    below (inr l) = omega arith
-
-    last : (slot : ℕ) → slot < 9 → slot ≡ len → slot ≡ len % 9
-    last slot a e = omega arith
-
-    split : (slot : ℕ) → slot < 9 → slot < len + 1 → (slot < len) ⊎ (slot ≡ len % 9)
-    split slot a b = ⊎_elim (λ (e : slot ≡ len). inr (last slot a e)) (λ (l : slot < len). inl l) (eq-or-lt_of_le (let k : slot ≤ len = omega arith in k))
-
 -- ---- five stores in a row
 pub five : {a b c d e a' b' c' d' e' : Float} → a ≡ a' → b ≡ b' → c ≡ c' → d ≡ d' → e ≡ e' → a ∷ b ∷ c ∷ d ∷ e ∷ [] ≡ a' ∷ b' ∷ c' ∷ d' ∷ e' ∷ []
 five {a} {b} {c} {d} {e} {a'} {b'} {c'} {d'} {e'} p q r s t =
@@ -256,10 +239,6 @@ room01 w = record { sound = w.sound; left = w.left; right = omega (arith, w.righ
 
 pub room11 : {img : Image} {radius x y : ℕ} → FourWithin img radius x y → PatchWithin img radius (x + 1) (y + 1)
 room11 w = record { sound = w.sound; left = omega (arith, w.left); right = w.right; above = omega (arith, w.above); below = w.below }
-
--- the four in their order, two in each row
-pub room_of : {img : Image} {radius x y : ℕ} (k : ℕ) → FourWithin img radius x y → k < 4 → PatchWithin img radius (x + k % 2) (y + k / 2)
-room_of k w h = record { sound = w.sound; left = omega (arith, w.left); right = omega (arith, w.right); above = omega (arith, w.above); below = omega (arith, w.below) }
 
 -- the four, by one of them
 module _ (img : Image) (columns : List Float) (radius x y : ℕ) where

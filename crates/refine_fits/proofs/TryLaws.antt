@@ -45,9 +45,6 @@ module _ (cfg : SaddlePointConfig) (seed : Seed) (f : PatchSaddle) (ox oy : Floa
   unfolding near_seed
   by-saddle g e img columns w p q = by-solved img columns w p q ∙ ap (λ (v : Result PatchSaddle Unsolved). judged (task_at img columns cfg seed) f ox oy w c v) e
 
-  pub refused : (e : Unsolved) → s ≡ Err e → Weighs cfg seed f ox oy c tx ty None
-  refused e h = record { is = λ img columns w p q. by-solved img columns w p q ∙ ap (λ (v : Result PatchSaddle Unsolved). judged (task_at img columns cfg seed) f ox oy w c v) h }
-
   module _ (g : PatchSaddle) (n m : Float) (new : n ≡ norm2 g) (old : m ≡ norm2 f) (is : s ≡ Ok g) where
     less : lt n m ≡ lt (norm2 g) (norm2 f)
     less = ap (λ (v : Float). lt v m) new ∙ ap (λ (v : Float). lt (norm2 g) v) old
@@ -57,9 +54,6 @@ module _ (cfg : SaddlePointConfig) (seed : Seed) (f : PatchSaddle) (ox oy : Floa
 
     pub strays : (r : Bool) → lt n m ≡ true → r ≡ near g → r ≡ false → Weighs cfg seed f ox oy c tx ty None
     strays r h e k = record { is = λ img columns w p q. by-saddle g is img columns w p q ∙ sym (and_second (lt (norm2 g) (norm2 f)) (near g) (stands w g) passed (sym less ∙ h) (sym e ∙ k)) }
-
-    pub no_better : lt n m ≡ false → Weighs cfg seed f ox oy c tx ty None
-    no_better h = record { is = λ img columns w p q. by-saddle g is img columns w p q ∙ sym (and_first (lt (norm2 g) (norm2 f)) (near g) (stands w g) passed (sym less ∙ h)) }
 
 -- what `ok` leaves of a result
 pub ok_is : (s : Result PatchSaddle Unsolved) (o : Option PatchSaddle) (g : PatchSaddle) → o ≡ result_ok s → o ≡ Some g → s ≡ Ok g

@@ -4,8 +4,6 @@ use Rattle.shapes.specs.Numbers.{entry}
 use Rattle.imageview.specs.Image.{Image}
 use Rattle.refine_formulas.specs.declared.Corners.{Corners}
 use Rattle.refine_patch.specs.declared.Firsts.{Firsts}
-use Rattle.refine_patch.specs.declared.Quad.{Quad}
-use Rattle.refine_patch.specs.declared.Sums.{Sums}
 use Rattle.refine_fits.specs.declared.Bases.{Bases}
 use Rattle.refine_fits.specs.declared.Base.{Base}
 use Rattle.refine_fits.specs.Windows.{Fits, lacking, four, corners_at}
@@ -17,13 +15,6 @@ coefs_in flat i = entry flat i ∷ entry flat (i + 4) ∷ entry flat (i + 8) ∷
 -- the four fits that stand at `to`
 abbrev pub corners_in : List Float → ℕ → Corners
 corners_in flat to = record { c00 = coefs_in flat to; c10 = coefs_in flat (to + 1); c01 = coefs_in flat (to + 2); c11 = coefs_in flat (to + 3) }
-
--- four fits side by side, coefficient by coefficient
-abbrev pub quad_of : Corners → ℕ → Quad
-quad_of c i = record { p = entry c.c00 i; q = entry c.c10 i; r = entry c.c01 i; s = entry c.c11 i }
-
-abbrev pub side_by_side : Corners → Sums
-side_by_side c = record { a = quad_of c 0; b = quad_of c 1; c = quad_of c 2; d = quad_of c 3; e = quad_of c 4 }
 
 -- where the patch about (x, y) begins
 abbrev pub first_place : ℕ → ℕ → ℕ → ℕ → ℕ

@@ -5,13 +5,13 @@ ghost use Rattle.imageview.specs.Steps.{IsTested};
 ghost use Rattle.refine_fits.specs.Windows.{four, corners_at};
 ghost use Rattle.refine_fits.specs.StepsAdding.{FourWithin, has_room};
 ghost use Rattle.refine_fits.specs.StepsCache.{Kept};
-ghost use Rattle.refine_fits.specs.StepsBases.{coefs_in, corners_in, quad_of, side_by_side, NoBases, Held, Laid, Stands};
+ghost use Rattle.refine_fits.specs.StepsBases.{coefs_in, corners_in, NoBases, Held, Laid, Stands};
 
 use super::{Base, Bases, IntegerFits};
 use crate::fits;
 use imageview::{Image, Sample};
 use refine_formulas::Corners;
-use refine_patch::{Columns, Quad, Sums};
+use refine_patch::Columns;
 
 impl Bases {
     // No base.
@@ -99,7 +99,7 @@ impl IntegerFits {
         ensures kept { Kept image.now columns.now.numbers.now columns.now.radius self.new }
     {
         let corners = self.look(image, usize::from(base.x), usize::from(base.y), columns);
-        refine_patch::lay_four(flat, 20, side_by_side(corners));
+        refine_patch::lay_four(flat, 20, corners);
     }
 }
 
@@ -115,32 +115,6 @@ fn has_room<S: Sample>(image: &Image<S>, base: Base, radius: usize) -> bool
         & (x + 1 + radius < image.width())
         & (radius <= y)
         & (y + 1 + radius < image.height())
-}
-
-// Coefficient i of the four fits.
-fn quad(corners: Corners, i: usize) -> Quad
-    requires { i < 5 }
-    ensures { result ≡ quad_of corners i }
-{
-    Quad {
-        p: corners.c00[i],
-        q: corners.c10[i],
-        r: corners.c01[i],
-        s: corners.c11[i],
-    }
-}
-
-// The four fits, coefficient by coefficient.
-fn side_by_side(corners: Corners) -> Sums
-    ensures { result ≡ side_by_side corners }
-{
-    Sums {
-        a: quad(corners, 0),
-        b: quad(corners, 1),
-        c: quad(corners, 2),
-        d: quad(corners, 3),
-        e: quad(corners, 4),
-    }
 }
 
 // The four fits that stand at `to`.

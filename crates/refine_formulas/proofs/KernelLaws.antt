@@ -15,8 +15,7 @@ use Rattle.refine_formulas.specs.Numbers.{◌⊕◌, ◌⊗◌}
 use Rattle.refine_formulas.specs.declared.Jacobian.{Jacobian}
 use Rattle.refine_formulas.specs.declared.Matrix.{Matrix}
 use Rattle.refine_formulas.specs.declared.Covariance.{Covariance}
-use Rattle.refine_formulas.specs.Sensitivity.{dot}
-use Rattle.refine_formulas.specs.Covariance.{pair_weight, kernel_entry, kernel, inverse_of, gain_first, gain_second, times_kernel, known, covariance_of}
+use Rattle.refine_formulas.specs.Covariance.{pair_weight, kernel_entry, kernel, inverse_of, gain_first, gain_second, covariance_of}
 use Rattle.refine_formulas.specs.Steps.{entry_after, combined, spread_of}
 
 abbrev pub after : List Float → List Float → ℕ → List Float

@@ -2,7 +2,7 @@
 #![tactic(auto)]
 
 ghost use Rattle.std.specs.Prelude.{◌≡◌};
-ghost use Rattle.refine_operator.specs.declared.OperatorError.TheVariants.{Refused};
+ghost use Rattle.refine_operator.specs.declared.OperatorError.TheVariants.{Singular, Refused};
 ghost use Rattle.refine_operator.specs.Call.{Done, ColumnsDone, OverlapDone};
 
 mod basis;
@@ -25,6 +25,18 @@ impl From<Refusal> for OperatorError {
 
     fn from(refusal: Refusal) -> OperatorError {
         OperatorError::Refused(refusal)
+    }
+}
+
+// The normal matrix has no inverse, since a pivot is too small.
+#[derive(Clone, Copy, Debug, PartialEq, Eq)]
+struct NoInverse;
+
+impl From<NoInverse> for OperatorError {
+    ghost from_gives = { λ _ error. error ≡ Singular };
+
+    fn from(_error: NoInverse) -> OperatorError {
+        OperatorError::Singular
     }
 }
 
@@ -86,9 +98,7 @@ pub fn fit_columns(radius: usize, columns: &mut [f32; 1125]) -> Result<(), Opera
         return Err(OperatorError::Refused(Refusal::BadRadius));
     }
     let mut m = [0.0f64; 72];
-    if !inverse::inverse_of(radius, &mut m) {
-        return Err(OperatorError::Singular);
-    }
+    inverse::inverse_of(radius, &mut m)?;
     rows::fill_columns(radius, &m, columns);
     Ok(())
 }
@@ -101,9 +111,7 @@ pub fn fit_overlap(radius: usize, overlap: &mut [f32; 225]) -> Result<(), Operat
         return Err(OperatorError::Refused(Refusal::BadRadius));
     }
     let mut m = [0.0f64; 72];
-    if !inverse::inverse_of(radius, &mut m) {
-        return Err(OperatorError::Singular);
-    }
+    inverse::inverse_of(radius, &mut m)?;
     overlap::fill_overlap(radius, &m, overlap);
     Ok(())
 }

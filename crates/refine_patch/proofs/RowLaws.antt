@@ -1,6 +1,6 @@
 -- Sample by sample, row by row, the sums of four patches become their coefficients; and where the rows and the centres lie.
 use mathlib.Core.Path.{◌≡◌, refl, sym, ap, ◌∙◌, subst}
-use mathlib.Core.Bool.{Bool, true, false, ◌&&◌, cond, and-eq-true_iff}
+use mathlib.Core.Bool.{Bool, true, ◌&&◌, cond, and-eq-true_iff}
 use mathlib.Core.Logic.{⊎_elim}
 use mathlib.Core.List.{List}
 use Prim.Native.Nat.{ℕ, zero, suc, ◌+◌, ◌-◌, ◌*◌, ◌/◌, ◌%◌, ◌≤◌, ◌<◌, ◌^◌}
@@ -22,26 +22,20 @@ use Rattle.imageview.proofs.ImageLaws.{samples-most as image-most}
 use Rattle.refine_operator.specs.Basis.{side, samples}
 use Rattle.refine_formulas.specs.Numbers.{◌⊕◌, ◌⊖◌, ◌⊗◌}
 use Rattle.refine_patch.specs.declared.Firsts.{Firsts}
-use Rattle.refine_patch.specs.declared.Quad.{Quad}
 use Rattle.refine_patch.specs.declared.Sums.{Sums}
 use Rattle.refine_patch.specs.StepsFrom.{sample_from, coefficient_from}
-use Rattle.refine_patch.specs.StepsFour.{lane_of, lane_in, sum_in, quad_in, quad_by, sums_by, moved_by, float_of, level_of, added, row_added, blocks, wide_of, rows_of, FourReach, PatchesInside, Reaches, RowsReach, Gathered, Rows}
+use Rattle.refine_patch.specs.StepsFour.{lane_of, lane_in, sum_in, quad_by, sums_by, moved_by, float_of, level_of, added, row_added, blocks, wide_of, rows_of, FourReach, PatchesInside, Reaches, RowsReach, Gathered, Rows}
 use Rattle.refine_patch.specs.StepsRows.{centres_of, term, sums_after}
 use Rattle.refine_patch.proofs.FourLaws.{lt-or-le}
 
 -- ---- by the lane
 quad-same : (f g : ℕ → Float) → ((l : ℕ) → l < 4 → f l ≡ g l) → quad_by f ≡ quad_by g
 quad-same f g e =
-    ap (λ (x : Float). record { p = x; q = f 1; r = f 2; s = f 3 }) (e 0 (omega arith))
-    ∙ ap (λ (x : Float). record { p = g 0; q = x; r = f 2; s = f 3 }) (e 1 (omega arith))
-    ∙ ap (λ (x : Float). record { p = g 0; q = g 1; r = x; s = f 3 }) (e 2 (omega arith))
-    ∙ ap (λ (x : Float). record { p = g 0; q = g 1; r = g 2; s = x }) (e 3 (omega arith))
-
--- four numbers, each that of its lane
-pub quad-of : (f : ℕ → Float) (p q r s : Float) → p ≡ f 0 → q ≡ f 1 → r ≡ f 2 → s ≡ f 3 → record { p = p; q = q; r = r; s = s } ≡ quad_by f
-quad-of f p q r s a b c d =
-    ap (λ (x : Float). record { p = x; q = q; r = r; s = s }) a ∙ ap (λ (x : Float). record { p = f 0; q = x; r = r; s = s }) b
-    ∙ ap (λ (x : Float). record { p = f 0; q = f 1; r = x; s = s }) c ∙ ap (λ (x : Float). record { p = f 0; q = f 1; r = f 2; s = x }) d
+    let a = e 0 (omega arith) in
+    let b = e 1 (omega arith) in
+    let c = e 2 (omega arith) in
+    let d = e 3 (omega arith) in
+    cc
 
 lane-quad : (f : ℕ → Float) (l : ℕ) → l < 4 → lane_in (quad_by f) l ≡ f l
 lane-quad f zero h = refl
@@ -114,15 +108,15 @@ pub lesser-of : (a b r : ℕ) → r ≡ ord_min nat_cmp a b → (r ≤ a) × (r 
 lesser-of a b r e = (grind (arith, common_steps), grind (arith, common_steps), λ p q. grind (arith, common_steps))
 
 -- ---- adding samples
-pub row_none : (columns : List Float) (row : List ℕ) (centre : Quad) (from : ℕ) (s : Sums) → s ≡ row_added columns row centre from 0 s
+pub row_none : (columns : List Float) (row : List ℕ) (centre : List Float) (from : ℕ) (s : Sums) → s ≡ row_added columns row centre from 0 s
 unfolding row_added
 row_none columns row centre from s = refl
 
-pub row_more : (columns : List Float) (row : List ℕ) (centre : Quad) (from n : ℕ) (s t u : Sums) (z : Quad) → t ≡ row_added columns row centre from n s → z ≡ level_of (λ l. get_or row (4 * n + l) 0) centre → u ≡ added columns (from + n) z t → u ≡ row_added columns row centre from (n + 1) s
+pub row_more : (columns : List Float) (row : List ℕ) (centre : List Float) (from n : ℕ) (s t u : Sums) (z : List Float) → t ≡ row_added columns row centre from n s → z ≡ level_of (λ l. get_or row (4 * n + l) 0) centre → u ≡ added columns (from + n) z t → u ≡ row_added columns row centre from (n + 1) s
 unfolding row_added
 row_more columns row centre from n s t u z p e q =
     q
-    ∙ ap (λ (v : Quad). added columns (from + n) v t) e
+    ∙ ap (λ (v : List Float). added columns (from + n) v t) e
     ∙ ap (λ (v : Sums). added columns (from + n) (level_of (λ l. get_or row (4 * n + l) 0) centre) v) p
     ∙ ap (λ (k : ℕ). row_added columns row centre from k s) (sym (add-one n))
 
@@ -133,9 +127,9 @@ module _ (list : List ℕ) (pitch : ℕ) (columns : List Float) (radius : ℕ) (
 
   sums-more : (k : ℕ) (f : ℕ → Float) → ((l : ℕ) → l < 4 → f l ≡ height k l) → added columns k (quad_by f) (sums_after list pitch columns radius at k) ≡ sums_after list pitch columns radius at (suc k)
   unfolding turns
-  sums-more k f e = ap (λ (v : Quad). added columns k v (sums_after list pitch columns radius at k)) (quad-same f (height k) e)
+  sums-more k f e = ap (λ (v : List Float). added columns k v (sums_after list pitch columns radius at k)) (quad-same f (height k) e)
 
-  rows-height : (row : List ℕ) (centre : Quad) (j rows n : ℕ) → Rows list pitch (side radius) (moved_by at (j * pitch)) rows row → centre ≡ centres_of list at (radius * pitch + radius) → n < rows * side radius → (l : ℕ) → l < 4 → float_of (get_or row (4 * n + l) 0) ⊖ lane_in centre l ≡ height (j * side radius + n) l
+  rows-height : (row : List ℕ) (centre : List Float) (j rows n : ℕ) → Rows list pitch (side radius) (moved_by at (j * pitch)) rows row → centre ≡ centres_of list at (radius * pitch + radius) → n < rows * side radius → (l : ℕ) → l < 4 → float_of (get_or row (4 * n + l) 0) ⊖ lane_in centre l ≡ height (j * side radius + n) l
   rows-height row centre j rows n g c h l q =
       let d = n / side radius in
       let m = n % side radius in
@@ -146,9 +140,9 @@ module _ (list : List ℕ) (pitch : ℕ) (columns : List Float) (radius : ℕ) (
       (g.here d m l (whole_below rows (side radius) n d m e h) p q ∙ ap (λ (k : ℕ). get_or list (k + d * pitch + m) 0) (lane-moved at (j * pitch) l) ∙ ap (λ (k : ℕ). get_or list (k + m) 0) (add_assoc (lane_of at l) (j * pitch) (d * pitch) ∙ ap (λ (k : ℕ). lane_of at l + k) (sym (add-mul j d pitch))))
       ∙ ap (λ (v : Float). v ⊖ lane_in centre l) (row-sample list pitch radius (lane_of at l) (j + d) m p ∙ ap (λ (k : ℕ). sample_from list pitch radius (lane_of at l) k) (ap (λ (k : ℕ). k + m) (add-mul j d (side radius)) ∙ add_assoc (j * side radius) (d * side radius) m ∙ ap (λ (k : ℕ). j * side radius + k) e))
       ∙ ap (λ (v : Float). sample_from list pitch radius (lane_of at l) (j * side radius + n) ⊖ v)
-      (ap (λ (v : Quad). lane_in v l) c ∙ lane-quad (λ m. float_of (get_or list (lane_of at m + (radius * pitch + radius)) 0)) l q ∙ centre-sample list pitch radius (lane_of at l))
+      (ap (λ (v : List Float). lane_in v l) c ∙ lane-quad (λ m. float_of (get_or list (lane_of at m + (radius * pitch + radius)) 0)) l q ∙ centre-sample list pitch radius (lane_of at l))
 
-  along-rows : (row : List ℕ) (centre : Quad) (j rows n : ℕ) → Rows list pitch (side radius) (moved_by at (j * pitch)) rows row → centre ≡ centres_of list at (radius * pitch + radius) → n ≤ rows * side radius → row_added columns row centre (j * side radius) n (sums_after list pitch columns radius at (j * side radius)) ≡ sums_after list pitch columns radius at (j * side radius + n)
+  along-rows : (row : List ℕ) (centre : List Float) (j rows n : ℕ) → Rows list pitch (side radius) (moved_by at (j * pitch)) rows row → centre ≡ centres_of list at (radius * pitch + radius) → n ≤ rows * side radius → row_added columns row centre (j * side radius) n (sums_after list pitch columns radius at (j * side radius)) ≡ sums_after list pitch columns radius at (j * side radius + n)
   unfolding row_added
   along-rows row centre j rows zero g c h = ap (λ (k : ℕ). sums_after list pitch columns radius at k) (sym (add-zero (j * side radius)))
   along-rows row centre j rows (suc n) g c h =
@@ -161,7 +155,7 @@ module _ (list : List ℕ) (pitch : ℕ) (columns : List Float) (radius : ℕ) (
   unfolding turns
   sums_none s e = e ∙ ap (λ (n : ℕ). sums_after list pitch columns radius at n) (sym (zero-mul (side radius)))
 
-  pub rows-done : (row : List ℕ) (centre : Quad) (j rows : ℕ) (s r : Sums) → s ≡ sums_after list pitch columns radius at (j * side radius) → Rows list pitch (side radius) (moved_by at (j * pitch)) rows row → centre ≡ centres_of list at (radius * pitch + radius) → r ≡ row_added columns row centre (j * side radius) (rows * side radius) s → r ≡ sums_after list pitch columns radius at ((j + rows) * side radius)
+  pub rows-done : (row : List ℕ) (centre : List Float) (j rows : ℕ) (s r : Sums) → s ≡ sums_after list pitch columns radius at (j * side radius) → Rows list pitch (side radius) (moved_by at (j * pitch)) rows row → centre ≡ centres_of list at (radius * pitch + radius) → r ≡ row_added columns row centre (j * side radius) (rows * side radius) s → r ≡ sums_after list pitch columns radius at ((j + rows) * side radius)
   rows-done row centre j rows s r e g c q =
       q
       ∙ ap (λ (t : Sums). row_added columns row centre (j * side radius) (rows * side radius) t) e
@@ -312,6 +306,10 @@ module _ (list : List ℕ) (pitch side : ℕ) (at : Firsts) where
             (λ (less : j < k). w.before (4 * (j * side + i) + l) (earlier side i j k l q r less) ∙ g.here j i l less q r)
             (eq-or-lt_of_le (omega arith));
       }
+
+-- ---- a number that is read four times
+pub number-four : (columns : List Float) (i : ℕ) → ((j l : ℕ) → j < 125 → l < 4 → entry columns (624 + 4 * j + l) ≡ entry columns j) → i < 125 → quad_by (λ l. entry columns (624 + 4 * i + l)) ≡ quad_by (λ l. entry columns i)
+number-four columns i each h = quad-same (λ l. entry columns (624 + 4 * i + l)) (λ l. entry columns i) (λ l q. each i l h q)
 
 -- ---- the sum of one coefficient of one patch
 module _ (list : List ℕ) (pitch : ℕ) (columns : List Float) (radius first i : ℕ) where

@@ -3,8 +3,9 @@ ghost use Rattle.std.specs.Prelude.{◌≡◌, ◌+◌, ◌*◌, ◌≤◌, ◌<
 ghost use Rattle.refine_patch.specs.StepsFrom.{coefficient_from, four_written};
 ghost use Rattle.refine_patch.specs.StepsFour.{lane_of, quad_by, PatchesInside};
 
-use super::{Columns, Firsts, Quad, stores};
+use super::{Columns, Firsts, stores};
 use imageview::{Image, Sample};
+use std::simd::prelude::*;
 
 // The coefficient c of the patch that begins at `first`.
 fn coefficient<S: Sample>(image: &Image<S>, columns: &Columns, first: usize, c: usize) -> f32
@@ -24,17 +25,17 @@ fn coefficient<S: Sample>(image: &Image<S>, columns: &Columns, first: usize, c: 
 }
 
 // The coefficient c of each patch.
-fn coefficients<S: Sample>(image: &Image<S>, columns: &Columns, at: Firsts, c: usize) -> Quad
+fn coefficients<S: Sample>(image: &Image<S>, columns: &Columns, at: Firsts, c: usize) -> f32x4
     requires patches_inside { PatchesInside (length image.now.samples) image.now.pitch columns.now.radius at }
     requires of_five { c < 5 }
     ensures { result ≡ quad_by (λ l. coefficient_from image.now.samples image.now.pitch columns.now.numbers.now columns.now.radius (lane_of at l) c) }
 {
-    Quad {
-        p: coefficient(image, columns, at.a, c),
-        q: coefficient(image, columns, at.b, c),
-        r: coefficient(image, columns, at.c, c),
-        s: coefficient(image, columns, at.d, c),
-    }
+    f32x4::from_array([
+        coefficient(image, columns, at.a, c),
+        coefficient(image, columns, at.b, c),
+        coefficient(image, columns, at.c, c),
+        coefficient(image, columns, at.d, c),
+    ])
 }
 
 pub fn fit_each<S: Sample>(

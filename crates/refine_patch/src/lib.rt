@@ -2,11 +2,12 @@
 // An index with `+ 0` is the definition's `+ c` or `+ l` at 0.
 #![tactic(auto)]
 
-ghost use Rattle.std.specs.Prelude.{◌≡◌, true, ◌+◌, ◌-◌, ◌*◌, ◌≤◌, ◌<◌, leb, length};
+ghost use Rattle.std.specs.Prelude.{◌≡◌, true, ◌+◌, ◌-◌, ◌*◌, ◌≤◌, ◌<◌, leb, length, get_or};
 ghost use Rattle.shapes.specs.Numbers.{plus_zero};
 ghost use Rattle.refine_operator.specs.Basis.{side, samples};
+ghost use Rattle.refine_formulas.specs.Numbers.{◌⊕◌, ◌⊗◌};
 ghost use Rattle.refine_patch.specs.StepsFrom.{coefficient_from, four_written, Repeats};
-ghost use Rattle.refine_patch.specs.StepsFour.{lane_of, sample_in, sum_in, four_of, four_at, four_set, quad_by, sums_by, moved_by, float_of, level_of, added, row_added, wide_of, rows_of, FourReach, PatchesInside, Reaches, RowsReach, Gathered, Rows};
+ghost use Rattle.refine_patch.specs.StepsFour.{lane_of, lane_in, sample_in, sum_in, four_at, four_set, quad_by, sums_by, side_by_side, moved_by, level_of, added, row_added, wide_of, rows_of, FourLanes, FourReach, PatchesInside, Reaches, RowsReach, Gathered, Rows};
 ghost use Rattle.refine_patch.specs.StepsRows.{centres_of, sums_after};
 
 mod each;
@@ -14,6 +15,8 @@ mod fourfold;
 mod stores;
 
 use imageview::{Image, Sample};
+use refine_formulas::Corners;
+use std::simd::prelude::*;
 
 /// An operator's columns for the patches of a radius: five numbers a sample. Where they are fourfold, each number stands four times more behind them, side by side.
 #[derive(Clone, Copy)]
@@ -33,32 +36,14 @@ pub struct Firsts {
     pub d: usize,
 }
 
-// A sample of each of the four patches.
-#[derive(Drop)]
-struct Four {
-    p: u16,
-    q: u16,
-    r: u16,
-    s: u16,
-}
-
-// A number for each of the four patches.
+// The sums of the coefficients a to e while samples are added, the four patches side by side in each.
 #[derive(Clone, Copy)]
-pub struct Quad {
-    pub p: f32,
-    pub q: f32,
-    pub r: f32,
-    pub s: f32,
-}
-
-// The sums of the coefficients a to e while samples are added.
-#[derive(Drop)]
-pub struct Sums {
-    pub a: Quad,
-    pub b: Quad,
-    pub c: Quad,
-    pub d: Quad,
-    pub e: Quad,
+struct Sums {
+    a: f32x4,
+    b: f32x4,
+    c: f32x4,
+    d: f32x4,
+    e: f32x4,
 }
 
 // Writes coefficient c of patch l to `out` at `to + 4 · c + l`.
@@ -93,12 +78,26 @@ fn fit_rows<S: Sample>(image: &Image<S>, columns: &Columns, at: Firsts, out: &mu
     stores::store(out, to, sums);
 }
 
-// Writes four fits that are known to `out`, at the same places.
-pub fn lay_four(out: &mut [f32], to: usize, fits: Sums)
+// Writes the four fits about a base that are known to `out`, at the same places.
+pub fn lay_four(out: &mut [f32], to: usize, fits: Corners)
     requires { (length out.old ≡ 40) × (to ≤ 20) }
-    ensures { out.new ≡ four_written (sum_in fits) to out.old }
+    ensures { out.new ≡ four_written (sum_in (side_by_side fits)) to out.old }
 {
-    stores::store(out, to, fits);
+    stores::store(out, to, side_by_side(fits));
+}
+
+// Coefficient by coefficient.
+fn side_by_side(fits: Corners) -> Sums
+    ensures { result ≡ side_by_side fits }
+{
+    let Corners { c00, c10, c01, c11 } = fits;
+    Sums {
+        a: f32x4::from_array([c00[0], c10[0], c01[0], c11[0]]),
+        b: f32x4::from_array([c00[1], c10[1], c01[1], c11[1]]),
+        c: f32x4::from_array([c00[2], c10[2], c01[2], c11[2]]),
+        d: f32x4::from_array([c00[3], c10[3], c01[3], c11[3]]),
+        e: f32x4::from_array([c00[4], c10[4], c01[4], c11[4]]),
+    }
 }
 
 // The places that lie `by` further on.
@@ -114,47 +113,36 @@ fn moved(at: Firsts, by: usize) -> Firsts
     }
 }
 
-fn floats(v: Four) -> Quad
-    ensures { result ≡ quad_by (λ l. float_of (sample_in v l)) }
-{
-    Quad {
-        p: v.p as f32,
-        q: v.q as f32,
-        r: v.r as f32,
-        s: v.s as f32,
-    }
-}
-
 // The levels of the centres, which lie `by` past the first samples.
-fn centres<S: Sample>(samples: &[S], at: Firsts, by: usize) -> Quad
+fn centres<S: Sample>(samples: &[S], at: Firsts, by: usize) -> f32x4
     requires { FourReach (length samples.now) by at }
     ensures { result ≡ centres_of (S.levels samples.now) at by }
 {
-    floats(read_four(samples, at, by))
+    u16x4::from_array(read_four(samples, at, by)).cast::<f32>()
 }
 
 // The samples that lie `by` past the first ones.
-fn read_four<S: Sample>(samples: &[S], at: Firsts, by: usize) -> Four
+fn read_four<S: Sample>(samples: &[S], at: Firsts, by: usize) -> [u16; 4]
     requires { FourReach (length samples.now) by at }
     ensures { result ≡ four_at (S.levels samples.now) at by }
 {
-    Four {
-        p: S::level_at(samples, at.a + by),
-        q: S::level_at(samples, at.b + by),
-        r: S::level_at(samples, at.c + by),
-        s: S::level_at(samples, at.d + by),
-    }
+    [
+        S::level_at(samples, at.a + by),
+        S::level_at(samples, at.b + by),
+        S::level_at(samples, at.c + by),
+        S::level_at(samples, at.d + by),
+    ]
 }
 
 // Four samples side by side.
-fn put_four(row: &mut [u16; 112], at: usize, v: Four)
+fn put_four(row: &mut [u16; 112], at: usize, v: [u16; 4])
     requires { (length row.old ≡ 112) × (at + 4 ≤ 112) }
     ensures { row.new ≡ four_set row.old at (sample_in v) }
 {
-    row[at + 0] = v.p;
-    row[at + 1] = v.q;
-    row[at + 2] = v.r;
-    row[at + 3] = v.s;
+    row[at + 0] = v[0];
+    row[at + 1] = v[1];
+    row[at + 2] = v[2];
+    row[at + 3] = v[3];
 }
 
 // So many samples of one row of the four patches: sample i of patch l goes to `to + 4 · i + l`. The place is counted beside i: as a product the compiler does not read eight at once.
@@ -225,60 +213,34 @@ fn reach(count: usize, pitch: usize, radius: usize, at: Firsts) -> bool
         & has_more(count, at.d, last, n)
 }
 
-// Four samples from the levels of their centres.
-fn levelled(p: u16, q: u16, r: u16, s: u16, centre: Quad) -> Quad
-    ensures { result ≡ level_of (four_of p q r s) centre }
+// The four samples that stand at n, from the levels of their centres.
+fn levelled(row: &[u16; 112], n: usize, centre: f32x4) -> f32x4
+    requires { (n + 4 ≤ 112) × (length centre ≡ 4) }
+    ensures { result ≡ level_of (λ l. get_or row.now (n + l) 0) centre }
 {
-    Quad {
-        p: p as f32 - centre.p,
-        q: q as f32 - centre.q,
-        r: r as f32 - centre.r,
-        s: s as f32 - centre.s,
-    }
+    u16x4::from_slice(&row[n..n + 4]).cast::<f32>() - centre
+}
+
+// The sum with a number times the four levels.
+fn plus(s: f32x4, number: f32x4, z: f32x4) -> f32x4
+    requires { (length s ≡ 4) × (length number ≡ 4) × (length z ≡ 4) }
+    ensures { result ≡ quad_by (λ l. lane_in s l ⊕ lane_in number l ⊗ lane_in z l) }
+{
+    s + number * z
 }
 
 // The sums with the sample k, which is z above the centres.
-fn add_sample(s: Sums, columns: &[f32; 1125], k: usize, z: Quad) -> Sums
-    requires { k < 225 }
+fn add_sample(s: Sums, columns: &[f32; 1125], k: usize, z: f32x4) -> Sums
+    requires { (k < 225) × FourLanes s × (length z ≡ 4) }
     ensures { result ≡ added columns.now k z s }
 {
     let i = 5 * k;
-    let a = columns[i + 0];
-    let b = columns[i + 1];
-    let c = columns[i + 2];
-    let d = columns[i + 3];
-    let e = columns[i + 4];
     Sums {
-        a: Quad {
-            p: s.a.p + a * z.p,
-            q: s.a.q + a * z.q,
-            r: s.a.r + a * z.r,
-            s: s.a.s + a * z.s,
-        },
-        b: Quad {
-            p: s.b.p + b * z.p,
-            q: s.b.q + b * z.q,
-            r: s.b.r + b * z.r,
-            s: s.b.s + b * z.s,
-        },
-        c: Quad {
-            p: s.c.p + c * z.p,
-            q: s.c.q + c * z.q,
-            r: s.c.r + c * z.r,
-            s: s.c.s + c * z.s,
-        },
-        d: Quad {
-            p: s.d.p + d * z.p,
-            q: s.d.q + d * z.q,
-            r: s.d.r + d * z.r,
-            s: s.d.s + d * z.s,
-        },
-        e: Quad {
-            p: s.e.p + e * z.p,
-            q: s.e.q + e * z.q,
-            r: s.e.r + e * z.r,
-            s: s.e.s + e * z.s,
-        },
+        a: plus(s.a, f32x4::splat(columns[i + 0]), z),
+        b: plus(s.b, f32x4::splat(columns[i + 1]), z),
+        c: plus(s.c, f32x4::splat(columns[i + 2]), z),
+        d: plus(s.d, f32x4::splat(columns[i + 3]), z),
+        e: plus(s.e, f32x4::splat(columns[i + 4]), z),
     }
 }
 
@@ -289,17 +251,16 @@ fn add_row(
     columns: &[f32; 1125],
     row: &[u16; 112],
     count: usize,
-    centre: Quad,
+    centre: f32x4,
     from: usize,
 ) -> Sums
-    requires { (count ≤ 25) × (from + count ≤ 225) }
+    requires in_columns { (count ≤ 25) × (from + count ≤ 225) }
+    requires four_lanes { FourLanes s × (length centre ≡ 4) }
     ensures { result ≡ row_added columns.now row.now centre from count s }
 {
     let mut sums = s;
     for i in 0..count {
-        let n = 4 * i;
-        let z = levelled(row[n + 0], row[n + 1], row[n + 2], row[n + 3], centre);
-        sums = add_sample(sums, columns, from + i, z);
+        sums = add_sample(sums, columns, from + i, levelled(row, 4 * i, centre));
     }
     sums
 }
@@ -307,12 +268,7 @@ fn add_row(
 fn no_sums() -> Sums
     ensures { result ≡ sums_by (λ c l. plus_zero) }
 {
-    let zero = Quad {
-        p: 0.0,
-        q: 0.0,
-        r: 0.0,
-        s: 0.0,
-    };
+    let zero = f32x4::splat(0.0);
     Sums {
         a: zero,
         b: zero,
@@ -328,10 +284,11 @@ fn add_rows(
     columns: &Columns,
     row: &[u16; 112],
     count: usize,
-    centre: Quad,
+    centre: f32x4,
     from: usize,
 ) -> Sums
-    requires { (count ≤ 25) × (from + count ≤ 225) × (columns.now.fourfold ≡ true → from + count ≤ 25) }
+    requires in_columns { (count ≤ 25) × (from + count ≤ 225) × (columns.now.fourfold ≡ true → from + count ≤ 25) }
+    requires four_lanes { FourLanes s × (length centre ≡ 4) }
     ensures { result ≡ row_added columns.now.numbers.now row.now centre from count s }
 {
     if columns.fourfold {
@@ -342,7 +299,7 @@ fn add_rows(
 }
 
 // The sums of all samples, some rows at a time.
-fn sum_rows<S: Sample>(image: &Image<S>, columns: &Columns, at: Firsts, centre: Quad) -> Sums
+fn sum_rows<S: Sample>(image: &Image<S>, columns: &Columns, at: Firsts, centre: f32x4) -> Sums
     requires patches_inside { PatchesInside (length image.now.samples) image.now.pitch columns.now.radius at }
     requires reaches { Reaches (length image.now.samples) image.now.pitch columns.now.radius at }
     requires of_centres { centre ≡ centres_of image.now.samples at (columns.now.radius * image.now.pitch + columns.now.radius) }

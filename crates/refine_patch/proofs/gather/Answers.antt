@@ -1,8 +1,8 @@
 -- `refine_patch::gather` meets its contract. After i turns the row has i samples of each patch.
-use mathlib.Core.Path.{◌≡◌, ap, ◌∙◌}
+use mathlib.Core.Path.{ap, ◌∙◌}
 use Prim.Native.Nat.{ℕ}
 use native.Mathlib.Omega.{arith}
-use Rattle.refine_patch.specs.declared.Four.{Four}
+use mathlib.Core.List.{List}
 use Rattle.refine_patch.specs.StepsFour.{sample_in, four_set, four_at}
 use Rattle.refine_patch.proofs.FourLaws.{gathered_none, gathered-more}
 use Rattle.refine_patch.proofs.gather.Goals as goal
@@ -21,5 +21,5 @@ loop-i-preserved g c =
     let a = c.args in
     let list = g.S.Sample.levels a.samples.now in (
       omega (arith, l.invariant.0),
-      gathered-more list a.at l.i a.to a.row.now l.row c.put_four.new.row (omega arith) l.invariant.1 (c.put_four.ensures ∙ ap (λ (v : Four). four_set l.row l.n (sample_in v)) c.read_four.ensures ∙ ap (λ (n : ℕ). four_set l.row n (sample_in (four_at list a.at l.i))) l.invariant.0),
+      gathered-more list a.at l.i a.to a.row.now l.row c.put_four.new.row (omega arith) l.invariant.1 (c.put_four.ensures ∙ ap (λ (v : List ℕ). four_set l.row l.n (sample_in v)) c.read_four.ensures ∙ ap (λ (n : ℕ). four_set l.row n (sample_in (four_at list a.at l.i))) l.invariant.0),
     )

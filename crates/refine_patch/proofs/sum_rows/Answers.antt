@@ -7,6 +7,7 @@ use Rattle.refine_operator.specs.Basis as Basis
 use Rattle.refine_patch.specs.declared.Firsts.{Firsts}
 use Rattle.refine_patch.specs.StepsFour.{moved_by, RowsReach, Rows}
 use Rattle.refine_patch.proofs.RowLaws.{sums_none, rows-done, all-rows, rows-reach, rows_few, rows-numbered, lesser-of}
+use Rattle.refine_patch.proofs.LaneLaws.{lanes-after}
 use Rattle.refine_patch.proofs.sum_rows.Goals as goal
 
 pub loop-j-init : goal.loop-j-init
@@ -32,7 +33,10 @@ add_rows-sums-requires g c =
     let j = c.loop-j.j in
     let few = lesser-of c.rows_of-most.result (Basis.side k.radius - j) n.result n.ensures in
     let within : j + n.result ≤ Basis.side k.radius = omega (arith, few, c.loop-j-test.true) in
-    (rows_few k.radius n.result c.requires.patches_inside.small (omega (arith, few, c.rows_of-most.ensures)), rows-numbered k.radius j n.result 7 c.requires.patches_inside.small within, λ e. rows-numbered k.radius j n.result 2 (k.repeats.few e) within)
+    record {
+      in_columns = (rows_few k.radius n.result c.requires.patches_inside.small (omega (arith, few, c.rows_of-most.ensures)), rows-numbered k.radius j n.result 7 c.requires.patches_inside.small within, λ e. rows-numbered k.radius j n.result 2 (k.repeats.few e) within);
+      four_lanes = (lanes-after c.args.image.now.samples c.args.image.now.pitch k.numbers.now k.radius c.args.at (j * Basis.side k.radius) c.loop-j.sums c.loop-j.invariant.2, ap length c.requires.of_centres);
+    }
 
 pub loop-j-preserved : goal.loop-j-preserved
 loop-j-preserved g c =

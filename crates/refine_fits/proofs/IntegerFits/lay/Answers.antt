@@ -2,9 +2,6 @@
 use mathlib.Core.Path.{sym, ◌∙◌, ap}
 use Prim.Native.Nat.{ℕ}
 use lib.IntN.{pos}
-use Rattle.refine_patch.specs.declared.Sums.{Sums}
-use Rattle.refine_patch.specs.StepsFrom.{four_written}
-use Rattle.refine_patch.specs.StepsFour.{sum_in}
 use Rattle.refine_fits.specs.Windows.{corners_at}
 use Rattle.refine_fits.proofs.BaseLaws.{laid_kept}
 use Rattle.refine_fits.proofs.IntegerFits.lay.Goals as goal
@@ -17,4 +14,4 @@ returns-clause-laid g c =
     (ap (λ (n : ℕ). corners_at a.image.now s.numbers.now s.radius (pos n) (pos a.base.y)) (sym c.from.ensures)
     ∙ ap (λ (n : ℕ). corners_at a.image.now s.numbers.now s.radius (pos c.from.result) (pos n)) (sym c.from-2.ensures)
     ∙ c.look-corners.ensures.corners)
-    (c.lay_four.ensures ∙ ap (λ (v : Sums). four_written (sum_in v) 20 a.flat.now) c.side_by_side.ensures)
+    c.lay_four.ensures

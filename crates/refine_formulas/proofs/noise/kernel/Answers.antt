@@ -1,5 +1,5 @@
 -- `refine_formulas::noise::kernel` meets its contract. After d shifts each entry is that of d shifts; within a shift the first i entries are those of one more.
-use mathlib.Core.Path.{◌≡◌, refl, sym, ap, ◌∙◌}
+use mathlib.Core.Path.{◌≡◌, refl, ap, ◌∙◌}
 use Prim.Native.Nat.{ℕ}
 use native.Mathlib.Omega.{arith}
 use borrow.Author.Tests.{not-true, not-false}
@@ -9,7 +9,7 @@ use Rattle.shapes.specs.Lists.{tabulated, overwritten}
 use Rattle.shapes.specs.Numbers.{entry}
 use Rattle.shapes.specs.Turns.{turns}
 use Rattle.refine_formulas.specs.Steps.{entry_after}
-use Rattle.refine_formulas.proofs.KernelLaws.{after, plus, passed_over, entry_more, added}
+use Rattle.refine_formulas.proofs.KernelLaws.{plus, passed_over, entry_more, added}
 use Rattle.refine_formulas.proofs.noise.kernel.Goals as goal
 use Rattle.refine_formulas.proofs.noise.kernel.Goals.{then-w+else-loop-i-test, else-w}
 

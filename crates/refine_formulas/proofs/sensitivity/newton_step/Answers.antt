@@ -1,6 +1,5 @@
 -- `refine_formulas::sensitivity::newton_step` meets its contract, by its test.
 use lib.Ieee.{of_bits}
-use Rattle.std.proofs.Common.{rules}
 use Rattle.refine_formulas.specs.Sensitivity.{newton_step}
 use Rattle.refine_formulas.proofs.Choice.{where-true, where-false}
 use Rattle.refine_formulas.proofs.sensitivity.newton_step.Goals as goal
