@@ -1,13 +1,13 @@
 -- The public call's tests one after the other, and what each way leaves behind.
 use mathlib.Core.Path.{◌≡◌, refl, sym, ap, ◌∙◌, subst}
-use mathlib.Core.Bool.{Bool, true, false, ◌&&◌, not, cond, and-false}
+use mathlib.Core.Bool.{Bool, true, false, ◌&&◌, not, cond}
 use mathlib.Core.List.{List}
 use Prim.Native.Nat.{ℕ, ◌/◌, ◌≤◌, ◌<◌}
 use lib.Dec.{T, leb}
 use lib.ListN.{length}
 use lib.Ieee.{Float}
 use lib.Ieee.Scale.{finite}
-use borrow.Author.Tests.{lt-leb, le-leb, leb-true, lt-ltb, le-ltb}
+use borrow.Author.Tests.{leb-true, lt-ltb, le-ltb}
 use Rattle.corners.specs.Corners.{whole}
 use Rattle.imageview.specs.Image.{sizes_fit}
 use Rattle.imageview.proofs.ImageLaws.{counted}
@@ -39,56 +39,6 @@ sound s e f =
       window-most = leb-true s.window 8 (second-of (a && b && c) d abcd);
       refine-most = leb-true s.refine 7 (second-of (a && b && c && d) (leb s.refine 7) f);
     }
-
--- ---- the ways, test by test
-module _ (s : Scan) (room : ℕ) where
-  abbrev shaped : Way
-  shaped = cond (not (whole room)) (refused BadLength) (rest_of s room)
-
-  abbrev limited : Way
-  limited = cond (not (finite s.threshold)) (refused BadLimit) shaped
-
-  abbrev ranged : Way
-  ranged = cond (not (radii_fit s)) (refused BadRadius) limited
-
-  tested : way_of s room ≡ cond (not (sizes_fit (length s.values) s.width s.height)) (refused BadImage) ranged
-  unfolding way_of
-  tested = refl
-
-  pub way-image : sizes_fit (length s.values) s.width s.height ≡ false → way_of s room ≡ refused BadImage
-  way-image e = tested ∙ ap (λ (z : Bool). cond (not z) (refused BadImage) ranged) e
-
-  module _ (image : sizes_fit (length s.values) s.width s.height ≡ true) where
-    is-image : way_of s room ≡ ranged
-    is-image = tested ∙ ap (λ (z : Bool). cond (not z) (refused BadImage) ranged) image
-
-    pub way-radius : radii_fit s ≡ false → way_of s room ≡ refused BadRadius
-    way-radius e = is-image ∙ ap (λ (z : Bool). cond (not z) (refused BadRadius) limited) e
-
-    module _ (radii : radii_fit s ≡ true) where
-      is-ranged : way_of s room ≡ limited
-      is-ranged = is-image ∙ ap (λ (z : Bool). cond (not z) (refused BadRadius) limited) radii
-
-      pub way-limit : finite s.threshold ≡ false → way_of s room ≡ refused BadLimit
-      way-limit e = is-ranged ∙ ap (λ (z : Bool). cond (not z) (refused BadLimit) shaped) e
-
-      module _ (limit : finite s.threshold ≡ true) where
-        is-limited : way_of s room ≡ shaped
-        is-limited = is-ranged ∙ ap (λ (z : Bool). cond (not z) (refused BadLimit) shaped) limit
-
-        pub way-length : whole room ≡ false → way_of s room ≡ refused BadLength
-        way-length e = is-limited ∙ ap (λ (z : Bool). cond (not z) (refused BadLength) (rest_of s room)) e
-
-        module _ (records : whole room ≡ true) where
-          pub way-rest : way_of s room ≡ rest_of s room
-          way-rest = is-limited ∙ ap (λ (z : Bool). cond (not z) (refused BadLength) (rest_of s room)) records
-
--- ---- what a way leaves behind
-pub done_refused : {s : Scan} {out : List Float} {r : Refusal} → way_of s (length out) ≡ refused r → Done s out (Err r) out
-done_refused {s} {out} e = record { answers = sym (ap answer_of e); leaves = sym (ap (out_after s out) e) }
-
-pub done-rest : {s : Scan} {out out' : List Float} {answer : Result ℕ Refusal} → way_of s (length out) ≡ rest_of s (length out) → Recorded s out answer out' → Done s out answer out'
-done-rest {s} {out} e t = record { answers = t.answers ∙ sym (ap answer_of e); leaves = t.leaves ∙ sym (ap (out_after s out) e) }
 
 -- ---- the last test, of the room for the peaks
 module _ (s : Scan) (out : List Float) where

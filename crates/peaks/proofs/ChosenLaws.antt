@@ -7,7 +7,7 @@ use native.Mathlib.Numerals.{add-one}
 use native.Mathlib.Omega.{arith}
 use lib.IntN.{pos}
 use lib.ListN.{length, get_or, drop, take, length-append, length-drop}
-use lib.Seq.{take-suc, length-take-le, get_or-take, take_at, drop-drop, drop-append-add}
+use lib.Seq.{take-suc, length-take-le, take_at, drop-drop, drop-append-add}
 use lib.Ieee.{Float, nan, binary32, of_int}
 use Rattle.corners.specs.Corners.{corner, recorded}
 use Rattle.corners.proofs.CornerLaws.{recorded-parts}

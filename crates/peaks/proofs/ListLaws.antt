@@ -7,7 +7,7 @@ use Prim.Native.Nat.{ℕ, zero, suc, ◌+◌, ◌-◌, ◌≤◌, ◌<◌}
 use native.Mathlib.Nat.{add-zero, add-suc, add_assoc, not-suc-le-zero}
 use native.Mathlib.Numerals.{add-one}
 use native.Mathlib.Omega.{arith}
-use lib.ListN.{length, get_or, set, drop, take, length-append, length-set, get_or-append}
+use lib.ListN.{length, get_or, set, drop, take, length-append, get_or-append}
 use lib.Seq.{take_all, take-suc, take-suc-set, take-set-le, drop-set-lt, take-take, drop-drop, drop-append-le, length-take-le, get_or-append-add, get_or-take, get_or-drop, take_at, drop_at}
 use Rattle.peaks.specs.Call.{chosen}
 use Rattle.std.specs.Int.{from_bool}

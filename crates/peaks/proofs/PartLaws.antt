@@ -9,7 +9,7 @@ use native.Mathlib.Nat.{mul_comm, div-add-mod', mod-lt, div-lt_iff_lt-mul}
 use native.Mathlib.Omega.{arith}
 use lib.Arith.{digits_div, digits_mod}
 use lib.ListN.{length, get_or, length-append}
-use lib.Ieee.{Float, nan, lt, le}
+use lib.Ieee.{nan, lt, le}
 use Rattle.peaks.specs.Peak.{Scan, border, floor_of, is_peak}
 use Rattle.peaks.specs.Call.{peak_at}
 use Rattle.peaks.specs.Sound.{Sound}

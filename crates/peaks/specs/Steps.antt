@@ -1,12 +1,12 @@
 -- What the steps below the public call promise each other.
-use Rattle.std.specs.Prelude.{◌≡◌, Bool, true, false, ◌&&◌, cond, List, [], ◌∷◌, ◌++◌, ℕ, zero, suc, ◌+◌, ◌-◌, ◌*◌, ◌/◌, ◌%◌, ◌≤◌, ◌<◌, ltb, length, get_or, take, drop, Float, Result}
+use Rattle.std.specs.Prelude.{◌≡◌, Bool, true, false, ◌&&◌, cond, List, [], ◌∷◌, ◌++◌, ℕ, ◌+◌, ◌-◌, ◌*◌, ◌/◌, ◌%◌, ◌≤◌, ◌<◌, ltb, length, get_or, drop, Float, Result}
 use Rattle.std.specs.Float.Ieee.{lt, le}
 use Rattle.shapes.specs.Numbers.{entry}
 use Rattle.refusals.specs.declared.Refusal.{Refusal}
 use Rattle.refusals.specs.declared.Refusal.TheVariants.{TooMany}
 use Rattle.peaks.specs.declared.Response.{Response}
 use Rattle.shapes.specs.Tests.{every, some}
-use Rattle.peaks.specs.Peak.{Scan, border, floor_of, inside, beats_at}
+use Rattle.peaks.specs.Peak.{Scan, border, inside, beats_at}
 use Rattle.peaks.specs.Sound.{scan_for, Sound}
 use Rattle.peaks.specs.Listed.{between}
 use Rattle.peaks.specs.Call.{chosen, peak_at, peaks_of, records_of, Way, refused, found, answer_of, out_after}

@@ -25,7 +25,11 @@ impl Response<'_> {
         for j in 0..groups.len() {
             list.add(from + 8 * groups.at(j), 8, |k| self.stands_out(floor, k));
         }
-        list.add(from + 8 * whole, n - 8 * whole, |k| self.stands_out(floor, k));
+        list.add(
+            from + 8 * whole,
+            n - 8 * whole,
+            |k| self.stands_out(floor, k),
+        );
     }
 
     // Whether one of the eight values from `at` on is above the floor.

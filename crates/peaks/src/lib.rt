@@ -27,6 +27,7 @@ struct Response<'a> {
 }
 
 // Writes x, y and value of every peak of the response, by row; the rest of the output stays.
+#[tactic(auto, unfolding(crate::specs::Call::way_of))]
 pub fn detect_peaks_from_response_with_refine_radius(
     response: &[f32],
     width: usize,

@@ -1,5 +1,5 @@
 -- `peaks::gather::Response::gather` meets its contract.
-use Rattle.std.proofs.Common.{rules, ◌≡◌, refl, sym, ap, ◌∙◌, append-nil, append_assoc, ℕ, List, [], ◌++◌, ◌+◌, ◌-◌, ◌*◌, ◌/◌, ◌≤◌, ◌<◌, length, get_or, take, arith}
+use Rattle.std.proofs.Common.{rules, sym, ap, ◌∙◌, append-nil, append_assoc, ℕ, List, ◌++◌, ◌+◌, ◌-◌, ◌*◌, ◌/◌, ◌≤◌, ◌<◌, length, take, arith}
 use lib.ListN.{length-append}
 use lib.Seq.{take_all, length-take-le}
 use Rattle.peaks.specs.Listed.{between}
@@ -40,10 +40,14 @@ add-requires-in-loop-j c =
     let so-far = gathered a.self.now.values.now c.floor-floor.result a.from (take l.j c.add.new.self) in
     let listed : length l.list ≤ length a.list.now + 8 * l.j =
     omega (arith, ap length l.invariant.listed, length-append a.list.now so-far, gathered-most a.self.now.values.now c.floor-floor.result a.from (take l.j c.add.new.self), length-take-le l.j c.add.new.self (omega (arith, h))) in (
-      omega arith, (
-      omega (arith, listed, h, groups-few any a.n l.invariant.groups, c.requires.room), (
-      omega (arith, g, c.at.ensures, c.requires.one_after, most),
-      λ k f u κs q r s t. (omega (arith, f, c.requires.one_before), omega (arith, u, g, c.at.ensures, c.requires.one_after)))),
+      omega arith,
+      (
+        omega (arith, listed, h, groups-few any a.n l.invariant.groups, c.requires.room),
+        (
+          omega (arith, g, c.at.ensures, c.requires.one_after, most),
+          λ k f u κs q r s t. (omega (arith, f, c.requires.one_before), omega (arith, u, g, c.at.ensures, c.requires.one_after)),
+        ),
+      ),
     )
 
 pub loop-j-preserved : goal.loop-j-preserved
@@ -73,10 +77,14 @@ add-requires-2 c =
     let few : l.j ≤ length c.add.new.self = omega (arith, l.auto.j-end, c.len-j-end.ensures) in
     let listed : length l.list ≤ length a.list.now + 8 * l.j =
     omega (arith, ap length l.invariant.listed, length-append a.list.now so-far, gathered-most a.self.now.values.now c.floor-floor.result a.from (take l.j c.add.new.self), length-take-le l.j c.add.new.self few) in (
-      omega arith, (
-      omega (arith, listed, few, groups-few any a.n l.invariant.groups, c.requires.room), (
-      omega (arith, c.requires.one_after, most),
-      λ k f u κs q r s t. (omega (arith, f, c.requires.one_before), omega (arith, u, c.requires.one_after)))),
+      omega arith,
+      (
+        omega (arith, listed, few, groups-few any a.n l.invariant.groups, c.requires.room),
+        (
+          omega (arith, c.requires.one_after, most),
+          λ k f u κs q r s t. (omega (arith, f, c.requires.one_before), omega (arith, u, c.requires.one_after)),
+        ),
+      ),
     )
 
 pub returns : goal.returns

@@ -1,5 +1,5 @@
 -- `peaks::window::Response::has_cluster` meets its contract: the pieces counted so far are positive values of the window, and all four are all of them.
-use Rattle.std.proofs.Common.{sym, ap, ℕ, ◌+◌, arith}
+use Rattle.std.proofs.Common.{sym, ap, ℕ, arith}
 use native.Mathlib.Nat.{le_trans}
 use lib.Dec.{leb}
 use borrow.Author.Tests.{le-leb}

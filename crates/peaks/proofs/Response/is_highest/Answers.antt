@@ -1,6 +1,5 @@
 -- `peaks::window::Response::is_highest` meets its contract: the pixel beats its window when it beats the four pieces.
 use Rattle.std.proofs.Common.{rules, sym, ◌∙◌, ◌+◌, ◌*◌, get_or}
-use Rattle.std.specs.Float.{Float}
 use Rattle.std.specs.Float.{nan}
 use Rattle.std.specs.Prelude.{true, false}
 use Rattle.peaks.specs.Peak.{beats_at}

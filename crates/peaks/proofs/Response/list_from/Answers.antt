@@ -1,6 +1,5 @@
 -- `peaks::scan::Response::list_from` meets its contract: the row is outside the border, or the columns from the pixel on are, or they are listed.
-use Rattle.std.proofs.Common.{◌+◌, ◌-◌, ◌/◌, ◌%◌, ◌≤◌, arith}
-use Rattle.peaks.specs.Peak.{border}
+use Rattle.std.proofs.Common.{◌-◌, ◌/◌, ◌%◌, arith}
 use Rattle.peaks.specs.Steps.{scan_of}
 use Rattle.peaks.proofs.PeakLaws.{left_out}
 use Rattle.peaks.proofs.PartLaws.{column-less, row-outside, row-inside, skipped, part-last, part-inner}

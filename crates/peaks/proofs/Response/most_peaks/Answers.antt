@@ -1,5 +1,5 @@
 -- `peaks::scan::Response::most_peaks` meets its contract: the product is the one that the laws bound the peaks by.
-use Rattle.std.proofs.Common.{ap, ◌∙◌, ℕ, ◌+◌, ◌-◌, ◌*◌, ◌/◌, ◌%◌, min}
+use Rattle.std.proofs.Common.{ap, ◌∙◌, ℕ, ◌+◌, ◌*◌, ◌/◌}
 use Rattle.peaks.specs.Peak.{border}
 use Rattle.peaks.specs.Steps.{scan_of, covers}
 use Rattle.peaks.proofs.BoundLaws.{rounded-up}

@@ -8,4 +8,4 @@ pub loop-at-init : goal.loop-at-init
 loop-at-init c = noted-first (scan_of c.args.self.now) c.requires
 
 pub loop-at-preserved : goal.loop-at-preserved
-loop-at-preserved c = noted-next (scan_of c.args.self.now) c.list_from-at.ensures c.loop-at.invariant (omega (arith, c.if-len-le768.true, c.len.ensures))
+loop-at-preserved c = noted-next (scan_of c.args.self.now) c.list_from-at.ensures c.loop-at.invariant (omega (arith, c.len.ensures))

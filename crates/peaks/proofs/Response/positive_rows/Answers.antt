@@ -1,9 +1,8 @@
 -- `peaks::window::Response::positive_rows` meets its contract.
 use Rattle.std.proofs.Common.{sym, ap, ◌∙◌, ℕ, ◌+◌, ◌*◌, arith}
-use Rattle.std.specs.Float.{Float}
 use Rattle.std.specs.Float.Ieee.{lt}
 use Rattle.shapes.specs.Numbers.{plus_zero}
-use Rattle.peaks.specs.Peak.{side, count}
+use Rattle.peaks.specs.Peak.{side}
 use Rattle.peaks.specs.Steps.{scan_of, run_at, block_at}
 use Rattle.peaks.proofs.CountLaws.{count_most}
 use Rattle.peaks.proofs.BlockLaws.{no-count, count-row, few}
@@ -17,8 +16,14 @@ overflow_add-sum c =
     let s = c.args.self.now in
     let l = c.loop-r in
     let small = s.sound.window-most in
-    omega (arith, l.invariant, count_most (l.r * side (scan_of s)) (λ j. lt plus_zero (block_at s.values.now c.args.start s.width (side (scan_of s)) j)), few l.r s.window (side (scan_of s)) (omega (arith, c.loop-r-test.true)) (omega arith) (omega arith),
-    c.positive_run-sum.ensures, count_most (side (scan_of s)) (λ i. lt plus_zero (run_at s.values.now (c.args.start + l.r * s.width) i)))
+    omega (
+      arith,
+      l.invariant,
+      count_most (l.r * side (scan_of s)) (λ j. lt plus_zero (block_at s.values.now c.args.start s.width (side (scan_of s)) j)),
+      few l.r s.window (side (scan_of s)) (omega (arith, c.loop-r-test.true)) (omega arith) (omega arith),
+      c.positive_run-sum.ensures,
+      count_most (side (scan_of s)) (λ i. lt plus_zero (run_at s.values.now (c.args.start + l.r * s.width) i)),
+    )
 
 pub loop-r-preserved : goal.loop-r-preserved
 loop-r-preserved c =

@@ -1,8 +1,7 @@
 -- `peaks::window::Response::positive_run` meets its contract.
-use Rattle.std.proofs.Common.{sym, ap, ◌∙◌, ℕ, ◌+◌, arith}
+use Rattle.std.proofs.Common.{sym, arith}
 use Rattle.std.specs.Float.Ieee.{lt, of_bits}
 use Rattle.shapes.specs.Numbers.{plus_zero}
-use Rattle.peaks.specs.Peak.{count}
 use Rattle.peaks.specs.Steps.{run_at}
 use Rattle.peaks.proofs.CountLaws.{count_none, count-more-by, count_most}
 use Rattle.peaks.proofs.ListLaws.{bit-most}

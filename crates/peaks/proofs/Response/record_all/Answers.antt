@@ -1,8 +1,7 @@
 -- `peaks::scan::Response::record_all` meets its contract: all at once where there is room for any number, else the notes and then the rest, where the count has room.
-use Rattle.std.proofs.Common.{◌≡◌, refl, sym, ap, ◌∙◌, subst, ℕ, List, ◌≤◌, length, arith}
-use Rattle.peaks.specs.Call.{peaks_of}
+use Rattle.std.proofs.Common.{refl, sym, ap, ◌∙◌, subst, ℕ, List, length, arith}
 use Rattle.peaks.specs.Steps.{scan_of, Noted, Written}
-use Rattle.peaks.proofs.CallLaws.{recorded-none, recorded-all}
+use Rattle.peaks.proofs.CallLaws.{recorded-all}
 use Rattle.peaks.proofs.BoundLaws.{most-peaks}
 use Rattle.peaks.proofs.ChosenLaws.{stands-first, stands-room, noted-stands, noted-pixels, written_none, written-noted}
 use Rattle.peaks.proofs.Response.record_all.Goals as goal

@@ -1,5 +1,5 @@
 -- `peaks::window::Response::rows_pass` meets its contract.
-use Rattle.std.proofs.Common.{◌≡◌, sym, ap, ◌∙◌, ℕ, Bool, true, ◌+◌, ◌*◌, ◌<◌, arith}
+use Rattle.std.proofs.Common.{◌≡◌, sym, ap, ◌∙◌, ℕ, ◌*◌, arith}
 use Rattle.shapes.specs.Tests.{every}
 use Rattle.peaks.specs.Peak.{side}
 use Rattle.peaks.specs.Steps.{scan_of, block_at}

@@ -1,5 +1,5 @@
 -- `peaks::window::Response::run_passes` meets its contract.
-use Rattle.std.proofs.Common.{◌≡◌, sym, ap, ◌∙◌, ℕ, Bool, true, ◌+◌, ◌*◌, ◌/◌, ◌<◌, arith}
+use Rattle.std.proofs.Common.{◌≡◌, sym, ap, ◌∙◌, ℕ, ◌+◌, ◌*◌, ◌/◌, arith}
 use Rattle.shapes.specs.Tests.{every}
 use Rattle.peaks.specs.Steps.{run_at}
 use Rattle.peaks.proofs.BlockLaws.{none-passed, four-more, run-more, run-lost}

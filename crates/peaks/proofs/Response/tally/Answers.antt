@@ -1,8 +1,8 @@
 -- `peaks::scan::Response::tally` meets its contract.
-use Rattle.std.proofs.Common.{◌≡◌, refl, sym, ap, ◌∙◌, subst, ℕ, List, ◌+◌, ◌-◌, ◌≤◌, length, take, arith}
-use Rattle.peaks.specs.Steps.{scan_of, Part, Stands}
+use Rattle.std.proofs.Common.{◌≡◌, sym, ap, ◌∙◌, subst, ℕ, ◌+◌, ◌-◌, length, take, arith}
+use Rattle.peaks.specs.Steps.{scan_of, Stands}
 use Rattle.peaks.proofs.FrameLaws.{size-most}
-use Rattle.peaks.proofs.ChosenLaws.{noted-stands, stands-next, stands-most, stands-last, part-front}
+use Rattle.peaks.proofs.ChosenLaws.{stands-next, stands-most, stands-last, part-front}
 use Rattle.peaks.proofs.Response.tally.Goals as goal
 
 pub overflow_add-count : goal.overflow_add-count

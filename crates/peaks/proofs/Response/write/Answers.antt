@@ -1,5 +1,5 @@
 -- `peaks::scan::Response::write` meets its contract.
-use Rattle.std.proofs.Common.{◌≡◌, sym, ap, ◌∙◌, subst, ℕ, List, [], ◌+◌, ◌-◌, ◌≤◌, length, arith}
+use Rattle.std.proofs.Common.{sym, ◌∙◌, subst, ℕ, List, ◌+◌, arith}
 use Rattle.peaks.specs.Steps.{scan_of, Part, Stands, Written}
 use Rattle.peaks.proofs.FrameLaws.{size-most}
 use Rattle.peaks.proofs.ChosenLaws.{stands_on, stands-most, stands-room, stands-last, part-pixels, written_next, written_last}

@@ -1,5 +1,5 @@
 -- `peaks::list::Listed::add` meets its contract.
-use Rattle.std.proofs.Common.{◌≡◌, sym, ap, ◌∙◌, ◌+◌, ◌<◌, ℕ, Bool, List, ◌++◌, append-nil, length, take, arith, length-take}
+use Rattle.std.proofs.Common.{◌≡◌, sym, ap, ◌∙◌, ◌+◌, ◌<◌, ℕ, List, ◌++◌, append-nil, length, take, arith}
 use Rattle.peaks.proofs.ListLaws.{between_none, added-more, bit-most, length-taken}
 use Rattle.peaks.proofs.list.Listed.add.Goals as goal
 

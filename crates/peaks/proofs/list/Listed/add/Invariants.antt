@@ -1,5 +1,5 @@
 -- `peaks::list::Listed::add`: of the numbers passed, those that have p were added.
-use Rattle.std.proofs.Common.{◌≡◌, Bool, List, ◌++◌, ℕ, ◌+◌, ◌≤◌, take}
+use Rattle.std.proofs.Common.{◌≡◌, Bool, ◌++◌, ℕ, ◌+◌, ◌≤◌, take}
 use Rattle.peaks.specs.Listed.{between, Tells}
 use Rattle.peaks.proofs.list.Listed.add.Given as goal
 

@@ -1,5 +1,5 @@
 -- `peaks::list::Listed::retain` meets its contract.
-use Rattle.std.proofs.Common.{◌≡◌, refl, sym, ap, ◌∙◌, ◌+◌, ◌<◌, ◌≤◌, ℕ, Bool, List, length, get_or, take, arith}
+use Rattle.std.proofs.Common.{◌≡◌, refl, sym, ap, ◌∙◌, ◌<◌, ℕ, List, length, get_or, take, arith}
 use Rattle.peaks.proofs.ListLaws.{kept-none, kept-more, kept-all, kept_at, to_come, bit-most, length-taken, taken-at, take-again}
 use Rattle.peaks.proofs.list.Listed.retain.Goals as goal
 
