@@ -1,6 +1,8 @@
 // An answer against the stored one, in the words of a seed's record: 2 the number, 5 to 7 the place and the score, 8 converged, 9 the tries,
 // 10 whether there is a covariance, 11 to 13 its entries. Who decided and why is not ours to answer.
 
+ghost use Rattle.std.specs.Prelude.{◌≤◌};
+
 use replay::{Aim, Fill, Part};
 
 // What a call answers and writes.
@@ -49,7 +51,9 @@ impl Answer {
     }
 
     // How many of the nine words an answer gives: none where it is refused, the place where the seed is not accepted, else all but an unknown covariance.
-    fn given(&self, record: Part) -> usize {
+    fn given(&self, record: Part) -> usize
+        ensures { result ≤ 9 }
+    {
         match self.number {
             0 if record.word(10) == 1 => 9,
             0 => 6,

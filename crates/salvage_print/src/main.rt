@@ -2,7 +2,7 @@
 // On standard error a line for each dropped one and a last line with both counts; or the number of a refusal, and nothing is written to standard output.
 #![tactic(auto)]
 
-use salvage::Salvage;
+use salvage::Saved;
 use salvage_text::{Counts, Dropped, Refused};
 use std::env::{Env, FillError};
 use std::io::Write;
@@ -70,12 +70,12 @@ fn run(rt: &HostRuntime, width: usize, height: usize) -> Result<(), Failure> {
     let errors = &mut rt.stderr();
     let n = input::read_input(&mut rt.reader(), &mut file).map_err(Failure::Input)?;
     match salvage::salvage_corners(&file[..n], width, height, &mut out, &mut faults) {
-        Salvage::Saved { kept, dropped } => {
+        Ok(Saved { kept, dropped }) => {
             rt.write_all(&out[..12 * kept]).map_err(Failure::Output)?;
             print_faults(errors, &faults[..2 * dropped]).map_err(Failure::Errors)?;
             write!(errors, "{}", Counts { kept, dropped }).map_err(Failure::Errors)
         }
-        Salvage::Refused(refusal) => {
+        Err(refusal) => {
             write!(errors, "{}", Refused(u32::from(refusal))).map_err(Failure::Errors)
         }
     }
