@@ -14,7 +14,7 @@ use Rattle.shapes.specs.Tests.{every}
 use Rattle.shapes.proofs.TestLaws.{every-at, every-same}
 use Rattle.imageview.specs.Image.{Image, samples_of, image_of, sizes_of, pixel, is_size, is_pitch, sizes_fit, is_image, in_range, most, most_pitch, most_sample}
 use Rattle.imageview.specs.declared.Sizes.{Sizes}
-use Rattle.imageview.specs.Steps.{Sized, Tested, Rows, LowPixels, IsTested, row_low, rows_low}
+use Rattle.imageview.specs.Steps.{Sized, Tested, Rows, LowPixels, IsMeasured, IsTested, row_low, rows_low}
 
 -- ---- the samples of the depth
 pub deep-samples : (bytes words : List ℕ) {deep : Bool} → deep ≡ true → samples_of bytes words deep ≡ words
@@ -177,6 +177,10 @@ module _ (img : Image) where
   unfolding pixel
   rows-low r x y h l =
       leb-true (pixel img x y) most_sample (every-at (λ u. leb (pixel img u y) most_sample) img.width x h (every-at (λ v. every img.width (λ u. leb (pixel img u v) most_sample)) img.height y l r))
+
+-- an image that passed the test of its sizes
+pub is_measured : (img : Image) → is_image img ≡ true → IsMeasured img
+is_measured img i = record { image = i; stands = tested img (passed i) }
 
 -- an image that passed both tests
 pub is-tested : (img : Image) → is_image img ≡ true → in_range img ≡ true → LowPixels img → IsTested img

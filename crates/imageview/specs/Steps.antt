@@ -28,11 +28,16 @@ abbrev pub rows_low : List ℕ → ℕ → ℕ → ℕ → Bool
 rows_low l width pitch height = every height (λ y. every width (λ x. leb (get_or l (y * pitch + x) 0) most_sample))
 
 -- ---- an image whose tests passed
+-- that of its sizes and the count of its samples, and what the steps below a call lean on
+pub record IsMeasured (img : Image) : Type 0 where
+  pub image : is_image img ≡ true
+  pub stands : Tested img
+
 -- no pixel is above the greatest sample, of bytes neither
 abbrev pub LowPixels : Image → Type 0
 LowPixels img = (x y : ℕ) → x < img.width → y < img.height → pixel img x y ≤ most_sample
 
--- its sizes, its samples, and what the steps below a call lean on
+-- that, and the test of its samples
 pub record IsTested (img : Image) : Type 0 where
   pub image : is_image img ≡ true
   pub range : in_range img ≡ true

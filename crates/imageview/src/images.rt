@@ -1,8 +1,8 @@
 // An image: the thin view of it, as it is given, and the one that passed its test.
-ghost use Rattle.std.specs.Prelude.{◌≡◌, true, ◌&&◌, ◌+◌, ◌*◌, ◌<◌, ◌≤◌, length, get_or, take, drop, IfOk, IfErr};
+ghost use Rattle.std.specs.Prelude.{◌≡◌, true, ◌&&◌, ◌+◌, ◌*◌, ◌<◌, ◌≤◌, length, get_or, take, drop, IfOk, IfErr, IfSome, is_some};
 ghost use Rattle.imageview.specs.Image.{pixel, is_image, in_range};
 ghost use Rattle.imageview.specs.Patch.{supports_patch};
-ghost use Rattle.imageview.specs.Steps.{LowPixels, IsTested};
+ghost use Rattle.imageview.specs.Steps.{LowPixels, IsMeasured, IsTested};
 ghost use Rattle.imageview.specs.View.{shown, passing, IsRefusedBy};
 
 use crate::samples::Sample;
@@ -43,6 +43,23 @@ impl<'a, S: Sample> ImageView<'a, S> {
         all
     }
 
+    /// The sample of a pixel.
+    #[tactic(auto, unfolding(crate::specs::Image::pixel))]
+    pub fn sample(self, x: usize, y: usize) -> u16
+        requires { y * self.pitch + x < length self.data.now }
+        ensures { result ≡ pixel (shown S.levels S.deep self.entry) x y }
+    {
+        S::level_at(self.data, y * self.pitch + x)
+    }
+
+    /// Whether the square of half-size radius about (x, y) lies in the image.
+    #[tactic(auto, unfolding(crate::specs::Patch::supports_patch))]
+    pub fn supports_patch(self, x: i32, y: i32, radius: usize) -> bool
+        ensures { result ≡ supports_patch (shown S.levels S.deep self.entry) radius x y }
+    {
+        within(self.width, x, radius) & within(self.height, y, radius)
+    }
+
     /// One row of a patch, as a part of the image: side samples from column x0 of row y.
     pub fn patch_row(self, x0: usize, y: usize, side: usize) -> &'a [S]
         requires { y * self.pitch + x0 + side ≤ length self.data.now }
@@ -53,7 +70,7 @@ impl<'a, S: Sample> ImageView<'a, S> {
     }
 }
 
-/// An image whose sizes and samples passed their tests. Clauses see it as the record of its samples and sizes.
+/// An image whose sizes passed their test. Clauses see it as the record of its samples and sizes.
 #[derive(Drop)]
 pub struct Image<'a, S: Sample> {
     view: ImageView<'a, S>,
@@ -61,14 +78,14 @@ pub struct Image<'a, S: Sample> {
 
 impl<'a, S: Sample> Model for Image<'a, S> {
     ghost use Rattle.imageview.specs.Image.{Image};
-    ghost use Rattle.imageview.specs.Steps.{IsTested};
+    ghost use Rattle.imageview.specs.Steps.{IsMeasured};
     ghost use Rattle.imageview.specs.View.{shown};
 
     ghost Value = { Image };
 
     ghost view = { λ a. shown S.levels S.deep a.view };
 
-    ghost invariant = { λ a. IsTested (shown S.levels S.deep a.view) };
+    ghost invariant = { λ a. IsMeasured (shown S.levels S.deep a.view) };
 }
 
 impl<'a, S: Sample> Image<'a, S> {
@@ -79,25 +96,38 @@ impl<'a, S: Sample> Image<'a, S> {
         ensures tested { IfOk result IsTested }
         ensures refused { IfErr result (IsRefusedBy (shown S.levels S.deep view.entry)) }
     {
-        if !view.is_image() {
+        let Some(image) = Image::measured(view) else {
             return Err(Refusal::BadImage);
-        }
+        };
         if !view.in_range() {
             return Err(Refusal::BadSample);
         }
-        Ok(Image { view })
+        Ok(image)
+    }
+
+    /// The view's image, where its sizes pass their test, whatever its samples are.
+    #[tactic(auto, using(crate::proofs::ImageLaws::is_measured))]
+    pub fn measured(view: ImageView<'a, S>) -> Option<Image<'a, S>>
+        ensures there { is_some result ≡ is_image (shown S.levels S.deep view.entry) }
+        ensures image { IfSome result (λ image. image ≡ shown S.levels S.deep view.entry) }
+        ensures measured { IfSome result IsMeasured }
+    {
+        if view.is_image() {
+            return Some(Image { view });
+        }
+        None
     }
 
     pub fn width(&self) -> usize
         ensures width { result ≡ self.now.width }
-        ensures tested { IsTested self.now }
+        ensures measured { IsMeasured self.now }
     {
         self.view.width
     }
 
     pub fn height(&self) -> usize
         ensures height { result ≡ self.now.height }
-        ensures tested { IsTested self.now }
+        ensures measured { IsMeasured self.now }
     {
         self.view.height
     }
@@ -105,7 +135,7 @@ impl<'a, S: Sample> Image<'a, S> {
     /// How far a row begins from the one before it.
     pub fn pitch(&self) -> usize
         ensures pitch { result ≡ self.now.pitch }
-        ensures tested { IsTested self.now }
+        ensures measured { IsMeasured self.now }
     {
         self.view.pitch
     }
@@ -114,7 +144,7 @@ impl<'a, S: Sample> Image<'a, S> {
     pub fn samples(&self) -> &'a [S]
         ensures samples { S.levels result.now ≡ self.now.samples }
         ensures count { length result.now ≡ length self.now.samples }
-        ensures tested { IsTested self.now }
+        ensures measured { IsMeasured self.now }
     {
         self.view.data
     }
@@ -122,7 +152,7 @@ impl<'a, S: Sample> Image<'a, S> {
     /// How many samples there are, those of the padding too.
     pub fn count(&self) -> usize
         ensures count { result ≡ length self.now.samples }
-        ensures tested { IsTested self.now }
+        ensures measured { IsMeasured self.now }
     {
         self.samples().len()
     }
@@ -141,7 +171,7 @@ impl<'a, S: Sample> Image<'a, S> {
         requires { y * self.now.pitch + x < length self.now.samples }
         ensures { result ≡ pixel self.now x y }
     {
-        self.level(y * self.pitch() + x)
+        self.view.sample(x, y)
     }
 
     /// One row of a patch, as a part of the image: side samples from column x0 of row y.
@@ -159,6 +189,6 @@ impl<'a, S: Sample> Image<'a, S> {
     pub fn supports_patch(&self, x: i32, y: i32, radius: usize) -> bool
         ensures { result ≡ supports_patch self.now radius x y }
     {
-        within(self.width(), x, radius) & within(self.height(), y, radius)
+        self.view.supports_patch(x, y, radius)
     }
 }

@@ -16,7 +16,7 @@ use Rattle.std.proofs.lemmas.List.{get_or_past, get_or-replicate, length-replica
 use Rattle.shapes.proofs.TestLaws.{either, first-not, second-not}
 use Rattle.shapes.specs.Numbers.{plus_zero}
 use Rattle.imageview.specs.Image.{Image, pixel}
-use Rattle.imageview.specs.Steps.{IsTested}
+use Rattle.imageview.specs.Steps.{IsMeasured, LowPixels}
 use Rattle.imageview.proofs.ImageLaws.{index}
 use Rattle.response.specs.Region.{ring_fits}
 use Rattle.pixel_response.specs.Steps.{listed, Wrote}
@@ -183,7 +183,7 @@ module _ (img : Image) (offsets : List ℕ) (radius x0 y : ℕ) where
         (λ q. sym (inside_past img.samples offsets img.pitch x0 y from to i q) ∙ column-past i (t.past i q l)) (lt-or-le i to))
         (lt-or-le i from)
 
-    module _ (image : IsTested img) (around : Around radius offsets) (fits : x0 + w ≤ img.width) (c : radius ≤ y) (d : y + radius < img.height) (some : from < to) where
+    module _ (image : IsMeasured img) (around : Around radius offsets) (fits : x0 + w ≤ img.width) (c : radius ≤ y) (d : y + radius < img.height) (some : from < to) where
       pub startable : Startable offsets (x0 + from) y
       startable =
           record {
@@ -208,13 +208,13 @@ module _ (img : Image) (offsets : List ℕ) (radius x0 y : ℕ) where
       started-all k h =
           index img image.stands (x0 + from + get_or offsets (2 * k) 0 - 10) (y + get_or offsets (2 * k + 1) 0 - 10) (to - from) (columns k h) (lines k h)
 
-      pub started_below : Below img.samples (start_of offsets img.pitch (x0 + from) y) (to - from)
+      pub started_below : LowPixels img → Below img.samples (start_of offsets img.pitch (x0 + from) y) (to - from)
       unfolding pixel
-      started_below k h i l =
+      started_below low k h i l =
           let u = x0 + from + get_or offsets (2 * k) 0 - 10 in
           let v = y + get_or offsets (2 * k + 1) 0 - 10 in
           subst (λ (z : ℕ). get_or img.samples z 0 < 4096) (sym (add_assoc (v * img.pitch) u i))
-          (suc-le-suc (image.low (u + i) v (omega (arith, columns k h)) (lines k h)))
+          (suc-le-suc (low (u + i) v (omega (arith, columns k h)) (lines k h)))
 
 -- ---- row after row
 grid : (f : ℕ → ℕ → Float) (r w i : ℕ) → i < w → f i r ≡ f ((r * w + i) % w) ((r * w + i) / w)

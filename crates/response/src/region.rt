@@ -1,6 +1,7 @@
 // The region, row by row: +0.0 where the ring does not fit, and the row kernel on the part where it does.
 ghost use Rattle.std.specs.Prelude.{◌≡◌, ◌+◌, ◌-◌, ◌*◌, ◌/◌, ◌%◌, ◌≤◌, ◌<◌, length};
 ghost use Rattle.shapes.specs.Numbers.{plus_zero};
+ghost use Rattle.imageview.specs.Steps.{LowPixels};
 ghost use Rattle.response.specs.Call.{region_of};
 ghost use Rattle.pixel_response.specs.Steps.{Wrote};
 ghost use Rattle.response.specs.StepsStarts.{Below, start_of, Started, Startable};
@@ -69,6 +70,7 @@ fn region_row<S: Sample>(
     columns: Columns,
     out: &mut [f32],
 )
+    requires low { LowPixels image.now }
     requires right { x0 + length out.old ≤ image.now.width }
     requires from { From x0 (length out.old) ring.now.radius columns.from }
     requires to { To x0 (length out.old) image.now.width ring.now.radius columns.from columns.to }
@@ -91,6 +93,7 @@ fn write_region<S: Sample>(
     extent: Extent,
     out: &mut [f32],
 )
+    requires low { LowPixels image.now }
     requires right { x0 + extent.width ≤ image.now.width }
     requires bottom { y0 + extent.height ≤ image.now.height }
     requires room { length out.old ≡ extent.width * extent.height }
@@ -112,6 +115,7 @@ pub fn write_clamped<S: Sample>(
     roi: Roi,
     out: &mut [f32],
 ) -> Result<Extent, Refusal>
+    requires { LowPixels image.now }
     ensures { Clamped image.now ring.now.offsets ring.now.radius (region_of roi) out.old result out.new }
 {
     let left = roi.clamped(image);

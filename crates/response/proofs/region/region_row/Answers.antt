@@ -21,13 +21,13 @@ row_inside-requires g c =
     let n = length a.out.now in
     let r = row-in a.ring.now.radius c.height.result a.y a.columns.from a.columns.to c.if-y-ring.false in
     let below = subst (λ (h : ℕ). a.y + a.ring.now.radius < h) c.height.ensures.height r.below in
-    let s = startable v a.ring.now.offsets a.ring.now.radius a.x0 a.y n a.columns.from a.columns.to f t c.height.ensures.tested a.ring.now.around c.requires.right r.above below r.some in
+    let s = startable v a.ring.now.offsets a.ring.now.radius a.x0 a.y n a.columns.from a.columns.to f t c.height.ensures.measured a.ring.now.around c.requires.right r.above below r.some in
     record {
       some = r.some;
       room = t.most;
       startable = s;
-      started = started-all v a.ring.now.offsets a.ring.now.radius a.x0 a.y n a.columns.from a.columns.to f t c.height.ensures.tested a.ring.now.around c.requires.right r.above below r.some;
-      below = started_below v a.ring.now.offsets a.ring.now.radius a.x0 a.y n a.columns.from a.columns.to f t c.height.ensures.tested a.ring.now.around c.requires.right r.above below r.some;
+      started = started-all v a.ring.now.offsets a.ring.now.radius a.x0 a.y n a.columns.from a.columns.to f t c.height.ensures.measured a.ring.now.around c.requires.right r.above below r.some;
+      below = started_below v a.ring.now.offsets a.ring.now.radius a.x0 a.y n a.columns.from a.columns.to f t c.height.ensures.measured a.ring.now.around c.requires.right r.above below r.some c.requires.low;
     }
 
 pub returns : goal.returns
