@@ -3,7 +3,7 @@
 #![tactic(auto)]
 
 ghost use Rattle.std.specs.Prelude.{◌≡◌, true, ◌+◌, ◌-◌, ◌*◌, ◌≤◌, ◌<◌, leb, length, get_or};
-ghost use Rattle.shapes.specs.Numbers.{plus_zero};
+ghost use Rattle.shapes.specs.Numbers.{plus_zero, entry};
 ghost use Rattle.refine_operator.specs.Basis.{side, samples};
 ghost use Rattle.refine_formulas.specs.Numbers.{◌⊕◌, ◌⊗◌};
 ghost use Rattle.refine_patch.specs.StepsFrom.{coefficient_from, four_written, Repeats};
@@ -11,7 +11,6 @@ ghost use Rattle.refine_patch.specs.StepsFour.{lane_of, lane_in, sample_in, sum_
 ghost use Rattle.refine_patch.specs.StepsRows.{centres_of, sums_after};
 
 mod each;
-mod fourfold;
 mod stores;
 
 use imageview::{Image, Sample};
@@ -229,34 +228,54 @@ fn plus(s: f32x4, number: f32x4, z: f32x4) -> f32x4
     s + number * z
 }
 
+// The number i of the columns for each of the four patches: read as it stands four times, or once and spread.
+fn number(columns: &Columns, i: usize) -> f32x4
+    requires { (i < 1125) × (columns.now.fourfold ≡ true → i < 125) }
+    ensures { result ≡ quad_by (λ l. entry columns.now.numbers.now i) }
+{
+    if columns.fourfold {
+        four_from(columns.numbers, 624 + 4 * i)
+    } else {
+        f32x4::splat(columns.numbers[i])
+    }
+}
+
+fn four_from(numbers: &[f32; 1125], at: usize) -> f32x4
+    requires { at + 4 ≤ 1125 }
+    ensures { result ≡ quad_by (λ l. entry numbers.now (at + l)) }
+{
+    f32x4::from_slice(&numbers[at..at + 4])
+}
+
 // The sums with the sample k, which is z above the centres.
-fn add_sample(s: Sums, columns: &[f32; 1125], k: usize, z: f32x4) -> Sums
-    requires { (k < 225) × FourLanes s × (length z ≡ 4) }
-    ensures { result ≡ added columns.now k z s }
+fn add_sample(s: Sums, columns: &Columns, k: usize, z: f32x4) -> Sums
+    requires in_columns { (k < 225) × (columns.now.fourfold ≡ true → k < 25) }
+    requires four_lanes { FourLanes s × (length z ≡ 4) }
+    ensures { result ≡ added columns.now.numbers.now k z s }
 {
     let i = 5 * k;
     Sums {
-        a: plus(s.a, f32x4::splat(columns[i + 0]), z),
-        b: plus(s.b, f32x4::splat(columns[i + 1]), z),
-        c: plus(s.c, f32x4::splat(columns[i + 2]), z),
-        d: plus(s.d, f32x4::splat(columns[i + 3]), z),
-        e: plus(s.e, f32x4::splat(columns[i + 4]), z),
+        a: plus(s.a, number(columns, i + 0), z),
+        b: plus(s.b, number(columns, i + 1), z),
+        c: plus(s.c, number(columns, i + 2), z),
+        d: plus(s.d, number(columns, i + 3), z),
+        e: plus(s.e, number(columns, i + 4), z),
     }
 }
 
 // The sums with so many samples, the first of which is the sample `from`.
 #[tactic(auto, using(crate::proofs::RowLaws::row_none, crate::proofs::RowLaws::row_more))]
-fn add_row(
+fn add_rows(
     s: Sums,
-    columns: &[f32; 1125],
+    columns: &Columns,
     row: &[u16; 112],
     count: usize,
     centre: f32x4,
     from: usize,
 ) -> Sums
-    requires in_columns { (count ≤ 25) × (from + count ≤ 225) }
+    requires in_columns { (count ≤ 25) × (from + count ≤ 225) × (columns.now.fourfold ≡ true → from + count ≤ 25) }
     requires four_lanes { FourLanes s × (length centre ≡ 4) }
-    ensures { result ≡ row_added columns.now row.now centre from count s }
+    ensures { result ≡ row_added columns.now.numbers.now row.now centre from count s }
 {
     let mut sums = s;
     for i in 0..count {
@@ -275,26 +294,6 @@ fn no_sums() -> Sums
         c: zero,
         d: zero,
         e: zero,
-    }
-}
-
-// The same with the numbers of the columns as they are lent.
-fn add_rows(
-    s: Sums,
-    columns: &Columns,
-    row: &[u16; 112],
-    count: usize,
-    centre: f32x4,
-    from: usize,
-) -> Sums
-    requires in_columns { (count ≤ 25) × (from + count ≤ 225) × (columns.now.fourfold ≡ true → from + count ≤ 25) }
-    requires four_lanes { FourLanes s × (length centre ≡ 4) }
-    ensures { result ≡ row_added columns.now.numbers.now row.now centre from count s }
-{
-    if columns.fourfold {
-        fourfold::add_row(s, columns, row, count, centre, from)
-    } else {
-        add_row(s, columns.numbers, row, count, centre, from)
     }
 }
 

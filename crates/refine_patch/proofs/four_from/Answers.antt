@@ -1,9 +1,9 @@
--- `refine_patch::fourfold::four_from` meets its contract: lane by lane.
+-- `refine_patch::four_from` meets its contract: lane by lane.
 use Prim.Native.Nat.{◌+◌, ◌-◌}
 use native.Mathlib.Omega.{arith}
 use lib.Ieee.{nan}
 use Rattle.refine_patch.proofs.LaneLaws.{lanes-at}
-use Rattle.refine_patch.proofs.fourfold.four_from.Goals as goal
+use Rattle.refine_patch.proofs.four_from.Goals as goal
 
 pub returns : goal.returns
 returns c =
