@@ -1,43 +1,36 @@
 -- One place after the other: the known corners as the front of an array, what each test of a place says of the way, and the call's way by its tests.
-use mathlib.Core.Path.{◌≡◌, refl, sym, ap, ◌∙◌, subst}
-use mathlib.Core.Bool.{Bool, true, false, not, cond, false≢true}
+use mathlib.Core.Path.{◌≡◌, refl, sym, ap, ◌∙◌}
+use mathlib.Core.Bool.{Bool, true, false, not, cond, ◌&&◌}
 use mathlib.Core.List.{List, [], ◌∷◌, ◌++◌}
-use Prim.Native.Nat.{ℕ, suc, ◌+◌, ◌-◌, ◌*◌, ◌/◌, ◌≤◌, ◌<◌}
-use native.Mathlib.Nat.{le_of_lt, sub-zero}
+use Prim.Native.Nat.{ℕ, zero, suc, ◌+◌, ◌-◌, ◌*◌, ◌/◌, ◌≤◌, ◌<◌}
+use native.Mathlib.Nat.{le_of_lt}
 use native.Mathlib.Numerals.{add-one}
 use native.Mathlib.Omega.{arith}
-use lib.Dec.{eqb}
 use lib.ListN.{length, get_or, set, take}
-use lib.Seq.{ext_get_or, get_or-take, length-take-le, take-suc-set}
+use lib.Seq.{take-length, length-take-le, take-suc-set}
 use lib.Ieee.{Float, le}
+use Rattle.std.specs.List.{list_all}
+use Rattle.std.specs.Prelude.{Err}
+use Rattle.std.proofs.lemmas.List.Folds.{list_all_more}
 use Rattle.shapes.specs.Numbers.{entry}
-use Rattle.shapes.specs.Lists.{tabulated, overwritten}
-use Rattle.shapes.proofs.ListLaws.{length-tabulated, get_d-tabulated, overwritten-whole}
-use Rattle.shapes.proofs.TurnLaws.{ended}
-use Rattle.shapes.specs.Tests.{some}
-use Rattle.shapes.proofs.TestLaws.{some_same}
+use Rattle.shapes.specs.Tests.{every}
 use Rattle.board.specs.declared.Nearest.{Nearest}
-use Rattle.board.specs.declared.Tie.{Tie}
-use Rattle.board.specs.declared.Tie.TheVariants.{Tied, NoCorner, UsedTwice, Refused}
+use Rattle.board.specs.declared.Untied.{Untied}
 use Rattle.board.specs.Nearest.{nearest_of}
 use Rattle.board.specs.Call.{Way, refused, unmet, shared, tied, nearest_at, is_among, tie_from, answer_of, answers_after}
-use Rattle.board.specs.Steps.{is_tied, Sought, Tying}
 
--- answers that are all written are as many of the known corners
-pub first-written : (known answers : List ℕ) → length answers ≤ length known → overwritten (length answers) (λ k. get_or known k 0) answers ≡ take (length answers) known
-first-written known answers h =
-    let n = length answers in
-    let f : ℕ → ℕ = λ k. get_or known k 0 in
-    let t : length (tabulated n f) ≡ n = length-tabulated n f in
-    overwritten-whole n f answers refl
-    ∙ ext_get_or 0 (tabulated n f) (take n known) (t ∙ sym (length-take-le n known h))
-    (λ i l. let less : i < n = subst (λ (m : ℕ). i < m) t l in get_d-tabulated n f i 0 less ∙ sym (get_or-take n known i 0 less))
+-- ---- a test of all entries, over the list itself
+module _ {X : Type 0} (test : X → Bool) (list : List X) (d : X) where
+  every_front : (n : ℕ) → n ≤ length list → every n (λ i. test (get_or list i d)) ≡ list_all test (take n list)
+  unfolding every
+  every_front zero h = refl
+  every_front (suc n) h =
+      ap (λ (b : Bool). b && test (get_or list n d)) (every_front n (omega arith))
+      ∙ sym (list_all_more test list n d (omega arith))
+      ∙ ap (λ (m : ℕ). list_all test (take m list)) (add-one n)
 
--- whether a corner is among the first k of an array
-among_first : (known : List ℕ) (k j : ℕ) → k ≤ length known → is_among j (take k known) ≡ some k (λ i. eqb (get_or known i 0) j)
-among_first known k j h =
-    ap (λ (n : ℕ). some n (λ i. eqb (get_or (take k known) i 0) j)) (length-take-le k known h)
-    ∙ some_same k (λ i. eqb (get_or (take k known) i 0) j) (λ i. eqb (get_or known i 0) j) (λ i l. ap (λ (v : ℕ). eqb v j) (get_or-take k known i 0 l))
+  pub every_entry : every (length list) (λ i. test (get_or list i d)) ≡ list_all test list
+  every_entry = every_front (length list) (omega arith) ∙ ap (list_all test) (take-length list)
 
 module _ (places : List Float) (limit : Float) (list : List Float) where
   -- what place k, with this nearest corner, makes of the way
@@ -70,68 +63,30 @@ module _ (places : List Float) (limit : Float) (list : List Float) where
         ∙ ap (λ (m : ℕ). turned (n - (k + 1)) m (nearest_at places list m) (take k known)) long
         ∙ ap (λ (b : Nearest). turned (n - (k + 1)) k b (take k known)) (sym (is ∙ at_place k))
 
-    pub unmet-here : le near.distance limit ≡ false → tie_from places limit list n [] ≡ unmet k
-    unmet-here e = by_tests ∙ ap (λ (b : Bool). cond (not b) (unmet k) (cond (is_among near.corner (take k known)) (shared k) rest)) e
+    pub unmet_here : le near.distance limit ≡ false → tie_from places limit list n [] ≡ unmet k
+    unmet_here e = by_tests ∙ ap (λ (b : Bool). cond (not b) (unmet k) (cond (is_among near.corner (take k known)) (shared k) rest)) e
 
-    met : le near.distance limit ≡ true → tie_from places limit list n [] ≡ cond (some k (λ i. eqb (get_or known i 0) near.corner)) (shared k) rest
-    met e =
-        by_tests
-        ∙ ap (λ (b : Bool). cond (not b) (unmet k) (cond (is_among near.corner (take k known)) (shared k) rest)) e
-        ∙ ap (λ (b : Bool). cond b (shared k) rest) (among_first known k near.corner (le_of_lt room))
+    met : le near.distance limit ≡ true → tie_from places limit list n [] ≡ cond (is_among near.corner (take k known)) (shared k) rest
+    met e = by_tests ∙ ap (λ (b : Bool). cond (not b) (unmet k) (cond (is_among near.corner (take k known)) (shared k) rest)) e
 
-    pub shared-here : le near.distance limit ≡ true → some k (λ i. eqb (get_or known i 0) near.corner) ≡ true → tie_from places limit list n [] ≡ shared k
-    shared-here e s = met e ∙ ap (λ (b : Bool). cond b (shared k) rest) s
+    pub shared_here : le near.distance limit ≡ true → is_among near.corner (take k known) ≡ true → tie_from places limit list n [] ≡ shared k
+    shared_here e s = met e ∙ ap (λ (b : Bool). cond b (shared k) rest) s
 
-    pub tied-here : le near.distance limit ≡ true → some k (λ i. eqb (get_or known i 0) near.corner) ≡ false
+    pub tied_here : le near.distance limit ≡ true → is_among near.corner (take k known) ≡ false
         → tie_from places limit list n [] ≡ tie_from places limit list (n - (k + 1)) (take (k + 1) (set known k near.corner))
-    tied-here e s =
+    tied_here e s =
         met e
         ∙ ap (λ (b : Bool). cond b (shared k) rest) s
         ∙ ap (λ (l : List ℕ). tie_from places limit list (n - (k + 1)) l) (sym (take-suc-set known k near.corner room) ∙ ap (λ (m : ℕ). take m (set known k near.corner)) (sym (add-one k)))
 
-  -- before the first place, and after the last
-  pub none_yet : (n : ℕ) → tie_from places limit list n [] ≡ tie_from places limit list (n - 0) []
-  none_yet n = ap (λ (m : ℕ). tie_from places limit list m []) (sym (sub-zero n))
-
-  none_left : (known : List ℕ) → tie_from places limit list 0 known ≡ tied known
+  -- after the last place
+  pub all_tied : (n : ℕ) (known : List ℕ) → tie_from places limit list n [] ≡ tie_from places limit list (n - n) (take n known) → tie_from places limit list n [] ≡ tied (take n known)
   unfolding tie_from
-  none_left known = refl
+  all_tied n known e = e ∙ ap (λ (m : ℕ). tie_from places limit list m (take n known)) (let z : n - n ≡ 0 = omega arith in z)
 
-  pub all-tied : (n k : ℕ) (known : List ℕ) → k ≤ n → n ≤ k → tie_from places limit list n [] ≡ tie_from places limit list (n - k) (take k known) → tie_from places limit list n [] ≡ tied (take n known)
-  all-tied n k known h l e =
-      e
-      ∙ ap (λ (m : ℕ). tie_from places limit list m (take k known)) (let z : n - k ≡ 0 = omega arith in z)
-      ∙ none_left (take k known)
-      ∙ ap (λ (m : ℕ). tied (take m known)) (ended h l)
-
--- ---- from the way to what the steps promise
-module _ {way : Way} (n : ℕ) (known : List ℕ) (long : length known ≡ 961) where
-  pub sought-unmet : {k : ℕ} → way ≡ unmet k → Sought way n (NoCorner k) known
-  sought-unmet e = record { long = long; says = ap answer_of (sym e); front = λ h. absurd (false≢true (ap is_tied h)) }
-
-  pub sought-shared : {k : ℕ} → way ≡ shared k → Sought way n (UsedTwice k) known
-  sought-shared e = record { long = long; says = ap answer_of (sym e); front = λ h. absurd (false≢true (ap is_tied h)) }
-
-  pub sought-tied : way ≡ tied (take n known) → Sought way n Tied known
-  sought-tied e = record { long = long; says = ap answer_of (sym e); front = λ h. e }
-
--- only one answer is tied, and one way gives it
-is-the-one : (answer : Tie) → is_tied answer ≡ true → answer ≡ Tied
-is-the-one Tied e = refl
-is-the-one (NoCorner k) e = absurd (false≢true e)
-is-the-one (UsedTwice k) e = absurd (false≢true e)
-is-the-one (Refused r) e = absurd (false≢true e)
-
-untied : (answers : List ℕ) (way : Way) → is_tied (answer_of way) ≡ false → answers ≡ answers_after answers way
-untied answers (refused r) e = refl
-untied answers (unmet k) e = refl
-untied answers (shared k) e = refl
-untied answers (tied l) e = absurd (false≢true (sym e))
-
-module _ (places : List Float) (limit : Float) (list : List Float) (answers : List ℕ) (answer : Tie) (known : List ℕ)
-    (s : Sought (tie_from places limit list (length answers) []) (length answers) answer known) where
-  pub unwritten : is_tied answer ≡ false → Tying places limit list answers answer answers
-  unwritten e = record { says = s.says; leaves = untied answers (tie_from places limit list (length answers) []) (ap is_tied (sym s.says) ∙ e) }
-
-  pub written : (answers' : List ℕ) → is_tied answer ≡ true → answers' ≡ take (length answers) known → Tying places limit list answers answer answers'
-  written answers' e w = record { says = s.says; leaves = w ∙ ap (answers_after answers) (sym (s.front (is-the-one answer e))) }
+-- a way that is refused leaves the answers
+pub untied : (answers : List ℕ) (way : Way) {e : Untied} → Err e ≡ answer_of way → answers ≡ answers_after answers way
+untied answers (refused r) h = refl
+untied answers (unmet k) h = refl
+untied answers (shared k) h = refl
+untied answers (tied l) h = cc

@@ -1,4 +1,3 @@
 -- Laws of the nearest corner and of the call.
 pub mod NearestLaws
 pub mod CallLaws
-pub mod WayLaws

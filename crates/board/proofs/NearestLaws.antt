@@ -15,18 +15,18 @@ use Rattle.board.specs.declared.Nearest.{Nearest}
 use Rattle.board.specs.Nearest.{nobody, distance_to, nearer_of, nearest_of}
 
 module _ (list : List Float) (x y : Float) where
-  pub nearest-none : nobody ≡ nearest_of list x y 0
+  pub nearest_none : nobody ≡ nearest_of list x y 0
   unfolding nearest_of turns
-  nearest-none = refl
+  nearest_none = refl
 
-  pub nearest-more : (n : ℕ) → nearest_of list x y (n + 1) ≡ nearer_of n (distance_to list x y n) (nearest_of list x y n)
+  pub nearest_more : (n : ℕ) → nearest_of list x y (n + 1) ≡ nearer_of n (distance_to list x y n) (nearest_of list x y n)
   unfolding nearest_of
-  nearest-more n = turns_more n (λ j b. nearer_of j (distance_to list x y j) b) nobody
+  nearest_more n = turns_more n (λ j b. nearer_of j (distance_to list x y j) b) nobody
 
   -- a corner that is not nearer is passed over
   passed : (n : ℕ) → lt (distance_to list x y n) (nearest_of list x y n).distance ≡ false → nearest_of list x y (n + 1) ≡ nearest_of list x y n
   passed n e =
-      nearest-more n ∙ ap (λ (b : Bool). cond b (record { corner = n; distance = distance_to list x y n }) (nearest_of list x y n)) e
+      nearest_more n ∙ ap (λ (b : Bool). cond b (record { corner = n; distance = distance_to list x y n }) (nearest_of list x y n)) e
 
   kept : (n m : ℕ) → ((i : ℕ) → i < m → lt (distance_to list x y (n + i)) (nearest_of list x y n).distance ≡ false) → nearest_of list x y (n + m) ≡ nearest_of list x y n
   kept n zero h = ap (nearest_of list x y) (add-zero n)
@@ -37,17 +37,17 @@ module _ (list : List Float) (x y : Float) where
       ∙ same
 
   -- so are m corners of which none is nearer
-  pub nearest-passed : (n m : ℕ) (best : Nearest) → best ≡ nearest_of list x y n → some m (λ i. lt (distance_to list x y (n + i)) best.distance) ≡ false → best ≡ nearest_of list x y (n + m)
-  nearest-passed n m best e h =
+  pub nearest_passed : (n m : ℕ) (best : Nearest) → best ≡ nearest_of list x y n → some m (λ i. lt (distance_to list x y (n + i)) best.distance) ≡ false → best ≡ nearest_of list x y (n + m)
+  nearest_passed n m best e h =
       e
       ∙ sym
       (kept n m
       (λ i l. ap (λ (b : Nearest). lt (distance_to list x y (n + i)) b.distance) (sym e) ∙ some_at m i (λ i. lt (distance_to list x y (n + i)) best.distance) l h))
 
-  pub corner-within : (n : ℕ) → (nearest_of list x y n).corner ≤ n
+  pub corner_within : (n : ℕ) → (nearest_of list x y n).corner ≤ n
   unfolding nearest_of turns
-  corner-within zero = omega arith
-  corner-within (suc n) = by (lt (distance_to list x y n) (nearest_of list x y n).distance) (nearest_of list x y n) (corner-within n)
+  corner_within zero = omega arith
+  corner_within (suc n) = by (lt (distance_to list x y n) (nearest_of list x y n).distance) (nearest_of list x y n) (corner_within n)
     where
       by : (b : Bool) (s : Nearest) → s.corner ≤ n → (cond b (record { corner = n; distance = distance_to list x y n }) s).corner ≤ suc n
       by true s h = omega arith

@@ -1,6 +1,6 @@
 -- The public call: the tests of docs/RULES.md in their order (`way_of`), what each way answers, and what it leaves in the lent answers. No refusal writes.
 -- A board of rows by columns squares has an inner corner for each two neighbouring rows and columns; `places` holds the x and y predicted for each, by row.
-use Rattle.std.specs.Prelude.{◌≡◌, Bool, ◌&&◌, not, cond, List, [], ◌∷◌, ◌++◌, ℕ, zero, suc, ◌+◌, ◌-◌, ◌*◌, ◌/◌, leb, eqb, length, get_or, Float}
+use Rattle.std.specs.Prelude.{◌≡◌, Bool, ◌&&◌, not, cond, List, [], ◌∷◌, ◌++◌, ℕ, zero, suc, ◌+◌, ◌-◌, ◌*◌, ◌/◌, leb, eqb, length, get_or, Float, Result, Ok, Err}
 use Rattle.std.specs.Float.Ieee.{le}
 use Rattle.std.specs.Float.Ieee.Scale.{finite}
 use Rattle.shapes.specs.Numbers.{plus_zero, entry}
@@ -10,16 +10,16 @@ use Rattle.refusals.specs.declared.Refusal.{Refusal}
 use Rattle.refusals.specs.declared.Refusal.TheVariants.{BadBoard, BadPlaces, BadList}
 use Rattle.refusals.specs.Numbers as Refusals
 use Rattle.board.specs.declared.Nearest.{Nearest}
-use Rattle.board.specs.declared.Tie.{Tie}
-use Rattle.board.specs.declared.Tie.TheVariants.{Tied, NoCorner, UsedTwice, Refused}
+use Rattle.board.specs.declared.Untied.{Untied}
+use Rattle.board.specs.declared.Untied.TheVariants.{NoCorner, UsedTwice, Refused}
 use Rattle.board.specs.Nearest.{nearest_of}
 
 -- the number of each case; 0 is done
-abbrev pub number_of : Tie → ℕ
-number_of Tied = 0
-number_of (NoCorner k) = 33
-number_of (UsedTwice k) = 34
-number_of (Refused r) = Refusals.number_of r
+abbrev pub number_of : Result Unit Untied → ℕ
+number_of (Ok done) = 0
+number_of (Err (NoCorner k)) = 33
+number_of (Err (UsedTwice k)) = 34
+number_of (Err (Refused r)) = Refusals.number_of r
 
 -- ---- what can be used
 abbrev pub inner_corners : ℕ → ℕ → ℕ
@@ -79,11 +79,11 @@ way_of rows columns places limit list room =
     (tie_from places limit list inner [])))))))
 
 -- ---- what each way answers and leaves
-abbrev pub answer_of : Way → Tie
-answer_of (refused r) = Refused r
-answer_of (unmet k) = NoCorner k
-answer_of (shared k) = UsedTwice k
-answer_of (tied l) = Tied
+abbrev pub answer_of : Way → Result Unit Untied
+answer_of (refused r) = Err (Refused r)
+answer_of (unmet k) = Err (NoCorner k)
+answer_of (shared k) = Err (UsedTwice k)
+answer_of (tied l) = Ok tt
 
 abbrev pub answers_after : List ℕ → Way → List ℕ
 answers_after answers (refused r) = answers
@@ -91,6 +91,6 @@ answers_after answers (unmet k) = answers
 answers_after answers (shared k) = answers
 answers_after answers (tied l) = l
 
-pub record Done (rows columns : ℕ) (places : List Float) (limit : Float) (list : List Float) (answers : List ℕ) (answer : Tie) (answers' : List ℕ) : Type 0 where
+pub record Done (rows columns : ℕ) (places : List Float) (limit : Float) (list : List Float) (answers : List ℕ) (answer : Result Unit Untied) (answers' : List ℕ) : Type 0 where
   pub says : answer ≡ answer_of (way_of rows columns places limit list (length answers))
   pub leaves : answers' ≡ answers_after answers (way_of rows columns places limit list (length answers))

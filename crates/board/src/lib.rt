@@ -6,20 +6,29 @@ mod near;
 mod places;
 
 ghost use Rattle.board.specs.Call.{Done};
+ghost use Rattle.std.specs.Prelude.{◌≡◌};
+ghost use Rattle.board.specs.declared.Untied.TheVariants as Untied;
 
 use refusals::Refusal;
 
-// How the call ended. NoCorner and UsedTwice carry the number of the first place at fault, by row.
-#[derive(Clone, Copy)]
-pub enum Tie {
-    Tied,
+// Why the places were not tied. NoCorner and UsedTwice carry the number of the first place at fault, by row.
+#[derive(Clone, Copy, Debug, PartialEq, Eq)]
+pub enum Untied {
     NoCorner(usize),
     UsedTwice(usize),
     Refused(Refusal),
 }
 
+impl From<Refusal> for Untied {
+    ghost from_gives = { λ refusal untied. untied ≡ Untied.Refused refusal };
+
+    fn from(refusal: Refusal) -> Untied {
+        Untied::Refused(refusal)
+    }
+}
+
 // A corner of the list by its number, and its squared distance from a place.
-#[derive(Drop)]
+#[derive(Clone, Copy)]
 struct Nearest {
     corner: usize,
     distance: f32,
@@ -33,30 +42,9 @@ pub fn tie_corners(
     limit: f32,
     corners: &[f32],
     answers: &mut [u16],
-) -> Tie
+) -> Result<(), Untied>
     ensures { Done rows columns places.now limit corners.now answers.old result answers.new }
 {
-    if !places::is_board(rows, columns) {
-        return Tie::Refused(Refusal::BadBoard);
-    }
-    let inner = (rows - 1) * (columns - 1);
-    if places.len() != 2 * inner {
-        return Tie::Refused(Refusal::BadBoard);
-    }
-    if answers.len() != inner {
-        return Tie::Refused(Refusal::BadBoard);
-    }
-    if !places::is_limit(limit) {
-        return Tie::Refused(Refusal::BadPlaces);
-    }
-    if !places::all_finite(places) {
-        return Tie::Refused(Refusal::BadPlaces);
-    }
-    if !corners::is_whole(corners.len()) {
-        return Tie::Refused(Refusal::BadList);
-    }
-    if corners::too_many(corners.len()) {
-        return Tie::Refused(Refusal::BadList);
-    }
+    places::test(rows, columns, places, limit, corners, answers.len())?;
     places::tie(places, limit, corners, answers)
 }

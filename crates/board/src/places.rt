@@ -1,109 +1,117 @@
 // The places of a board: what can be used, and each tied to its corner.
-ghost use Rattle.std.specs.Prelude.{◌≡◌, [], eqb, length, get_or, take, ◌≤◌};
-ghost use Rattle.shapes.specs.Tests.{some};
-ghost use Rattle.board.specs.Call.{is_board, is_limit, all_finite, tie_from};
-ghost use Rattle.board.specs.Steps.{Fitting, Tying, Sought, is_tied};
+ghost use Rattle.std.specs.Prelude.{◌≡◌, [], length, take, ◌≤◌, IfErr, OnOk};
+ghost use Rattle.board.specs.Call.{is_board, is_limit, all_finite, is_among, way_of, refused, tied, tie_from, answer_of, answers_after};
+ghost use Rattle.board.specs.Steps.{Fitting};
 
-use crate::{Tie, near};
+use crate::{Untied, near};
+use refusals::Refusal;
 
-pub fn is_board(rows: usize, columns: usize) -> bool
+// Whether the call can be made; `room` is how many answers are lent.
+#[tactic(auto, unfolding(crate::specs::Call::way_of))]
+pub fn test(
+    rows: usize,
+    columns: usize,
+    places: &[f32],
+    limit: f32,
+    list: &[f32],
+    room: usize,
+) -> Result<(), Refusal>
+    ensures refused { IfErr result (λ refusal. way_of rows columns places.now limit list.now room ≡ refused refusal) }
+    ensures tested { OnOk result (way_of rows columns places.now limit list.now room ≡ tie_from places.now limit list.now room []) }
+    ensures fitting { OnOk result (Fitting places.now list.now room) }
+{
+    if !is_board(rows, columns) {
+        return Err(Refusal::BadBoard);
+    }
+    let inner = (rows - 1) * (columns - 1);
+    if places.len() != 2 * inner {
+        return Err(Refusal::BadBoard);
+    }
+    if room != inner {
+        return Err(Refusal::BadBoard);
+    }
+    if !is_limit(limit) {
+        return Err(Refusal::BadPlaces);
+    }
+    if !all_finite(places) {
+        return Err(Refusal::BadPlaces);
+    }
+    if !corners::is_whole(list.len()) {
+        return Err(Refusal::BadList);
+    }
+    if corners::too_many(list.len()) {
+        return Err(Refusal::BadList);
+    }
+    Ok(())
+}
+
+fn is_board(rows: usize, columns: usize) -> bool
     ensures { result ≡ is_board rows columns }
 {
     (2 <= rows) & (rows <= 32) & (2 <= columns) & (columns <= 32)
 }
 
-pub fn is_limit(limit: f32) -> bool
+fn is_limit(limit: f32) -> bool
     ensures { result ≡ is_limit limit }
 {
     floats::is_finite_f32(limit) & (0.0 <= limit)
 }
 
-pub fn all_finite(places: &[f32]) -> bool
+fn all_finite(places: &[f32]) -> bool
     ensures { result ≡ all_finite places.now }
 {
-    let n = places.len();
-    let mut i = 0;
-    while i < n {
-        if !floats::is_finite_f32(places[i]) {
-            return false;
-        }
-        i += 1;
-    }
-    true
+    places.iter().all(|number| floats::is_finite_f32(*number))
 }
 
 // The answers are written once all of them are known, since a refusal may not write.
-pub fn tie(places: &[f32], limit: f32, list: &[f32], answers: &mut [u16]) -> Tie
+pub fn tie(places: &[f32], limit: f32, list: &[f32], answers: &mut [u16]) -> Result<(), Untied>
     requires { Fitting places.now list.now (length answers.old) }
-    ensures { Tying places.now limit list.now answers.old result answers.new }
+    ensures says { result ≡ answer_of (tie_from places.now limit list.now (length answers.old) []) }
+    ensures leaves { answers.new ≡ answers_after answers.old (tie_from places.now limit list.now (length answers.old) []) }
 {
     let mut known = [0u16; 961];
-    let ended = tie_first(places, limit, list, answers.len(), &mut known);
-    if !is_tied(ended) {
-        return ended;
-    }
-    write(&known, answers);
-    ended
-}
-
-fn is_tied(tie: Tie) -> bool
-    ensures { result ≡ is_tied tie }
-{
-    match tie {
-        Tie::Tied => true,
-        Tie::NoCorner(_) => false,
-        Tie::UsedTwice(_) => false,
-        Tie::Refused(_) => false,
-    }
+    let n = answers.len();
+    tie_first(places, limit, list, n, &mut known)?;
+    answers.copy_from_slice(&known[..n]);
+    Ok(())
 }
 
 // The first n places one after the other, their corners to the front of `known`.
-fn tie_first(places: &[f32], limit: f32, list: &[f32], n: usize, known: &mut [u16; 961]) -> Tie
-    requires fact_1 { Fitting places.now list.now n }
-    requires fact_2 { length known.old ≡ 961 }
-    ensures { Sought (tie_from places.now limit list.now n []) n result known.new }
+fn tie_first(
+    places: &[f32],
+    limit: f32,
+    list: &[f32],
+    n: usize,
+    known: &mut [u16; 961],
+) -> Result<(), Untied>
+    requires { Fitting places.now list.now n }
+    ensures says { result ≡ answer_of (tie_from places.now limit list.now n []) }
+    ensures front { OnOk result (tie_from places.now limit list.now n [] ≡ tied (take n known.new)) }
 {
-    let mut k = 0;
-    while k < n {
+    for k in 0..n {
         let near = near::nearest(list, places[2 * k], places[2 * k + 1]);
         let corner = near.corner as u16;
         let met = near.distance <= limit;
-        let twice = is_among(known, k, corner);
+        let twice = is_among(corner, &known[..k]);
         if !met {
-            return Tie::NoCorner(k);
+            return Err(Untied::NoCorner(k));
         }
         if twice {
-            return Tie::UsedTwice(k);
+            return Err(Untied::UsedTwice(k));
         }
         known[k] = corner;
-        k += 1;
     }
-    Tie::Tied
+    Ok(())
 }
 
-// Whether the corner is one of the first n known ones. Without a branch the compiler makes vectors of it.
-fn is_among(known: &[u16; 961], n: usize, corner: u16) -> bool
-    requires { n ≤ 961 }
-    ensures { result ≡ some n (λ i. eqb (get_or known.now i 0) corner) }
+// Whether the corner is a known one. Without a branch the compiler makes vectors of it.
+#[tactic(auto, using(shapes::proofs::TestLaws::some_more), unfolding(shapes::specs::Tests::some))]
+fn is_among(corner: u16, known: &[u16]) -> bool
+    ensures { result ≡ is_among corner known.now }
 {
     let mut hit = false;
-    let mut i = 0;
-    while i < n {
-        hit = hit | (known[i] == corner);
-        i += 1;
+    for one in known {
+        hit |= *one == corner;
     }
     hit
-}
-
-// Writes the first of the known corners, as many as there are answers.
-fn write(known: &[u16; 961], answers: &mut [u16])
-    requires { (length known.now ≡ 961) × (length answers.old ≤ 961) }
-    ensures { answers.new ≡ take (length answers.old) known.now }
-{
-    let n = answers.len();
-    let mut i = 0;
-    while i < n {
-        answers[i] = known[i];
-        i += 1;
-    }
 }

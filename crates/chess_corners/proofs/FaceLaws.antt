@@ -12,17 +12,12 @@ use Rattle.refusals.specs.declared.Refusal.TheVariants.{BadImage, TooMany, NoSuc
 use Rattle.response.specs.declared.Response.{Response}
 use Rattle.response.specs.Region.{Region}
 use Rattle.response.specs.Call as R
-use Rattle.merge.specs.declared.Merge.{Merge}
-use Rattle.merge.specs.declared.Heads.{Heads}
-use Rattle.merge.specs.Call as M
 use Rattle.refine_formulas.specs.declared.SaddlePointConfig.{SaddlePointConfig}
 use Rattle.refine_list.specs.declared.Refinements.{Refinements}
 use Rattle.refine_list.specs.Refining as L
 use Rattle.peaks.specs.declared.Peaks.{Peaks}
 use Rattle.peaks.specs.Peak.{Scan}
 use Rattle.peaks.specs.Call as P
-use Rattle.board.specs.declared.Tie.{Tie}
-use Rattle.board.specs.Call as B
 use Rattle.graymap.specs.declared.Graymap.{Graymap}
 use Rattle.graymap.specs.Call as G
 use Rattle.salvage.specs.declared.Salvage.{Salvage}
@@ -32,7 +27,7 @@ use Rattle.coverage.specs.Call as C
 use Rattle.gradient.specs.declared.Gradient.{Gradient}
 use Rattle.gradient.specs.Call as D
 use Rattle.chess_corners.specs.Fallback.{Counted}
-use Rattle.chess_corners.specs.Face.{Extent, Responded, Merging, Wanting, Refining, Scanning, Tying, Reading, ReadingDeep, Salvaging, Covering, Grading, Facts, width_after, height_after, count_after, heads_after, records_after, peaks_after, place_after, facts_after, kept_after, dropped_after, held_after}
+use Rattle.chess_corners.specs.Face.{Extent, Responded, Refining, Scanning, Reading, ReadingDeep, Salvaging, Covering, Grading, Facts, width_after, height_after, records_after, peaks_after, facts_after, kept_after, dropped_after, held_after}
 
 -- ---- what is told of an answer that is known, and what a call does whose answer is told
 pub extent : (answer known : Response) (w h n : ℕ) → answer ≡ known → n ≡ R.number_of known → Extent answer w h n (width_after w known) (height_after h known)
@@ -45,22 +40,6 @@ responded {w = w} {h = h} d t = record {
   leaves = d.leaves;
   width = t.width ∙ ap (width_after w) d.answers;
   height = t.height ∙ ap (height_after h) d.answers;
-}
-
-pub merging : {list : List Float} {radius : Float} {heads links : List ℕ} {answer : Merge} {list' : List Float} {heads' links' : List ℕ} (count : ℕ) (known : Merge) (n : ℕ)
-    → n ≡ M.number_of known → answer ≡ known → M.Done list radius heads links answer list' heads' links' → Merging list radius heads links count n list' heads' links' (count_after count known)
-merging count known n q e d = record {
-  says = q ∙ ap M.number_of (sym e ∙ d.answers);
-  leaves-list = d.leaves-list;
-  leaves-heads = d.leaves-heads;
-  leaves-links = d.leaves-links;
-  counts = ap (count_after count) (sym e ∙ d.answers);
-}
-
-pub wanting : {list : List Float} {radius : Float} {answer : Heads} (heads : ℕ) (known : Heads) (n : ℕ) → n ≡ M.heads_number_of known → answer ≡ known → answer ≡ M.heads_of list radius → Wanting list radius heads n (heads_after heads known)
-wanting heads known n q e d = record {
-  says = q ∙ ap M.heads_number_of (sym e ∙ d);
-  tells = ap (heads_after heads) (sym e ∙ d);
 }
 
 pub refining : {img : Image} {cfg : SaddlePointConfig} {corners out : List Float} {answer : Refinements} {out' : List Float} {count n count' : ℕ}
@@ -76,14 +55,6 @@ scanning count known n q e d = record {
   says = q ∙ ap P.number_of (sym e ∙ d.answers);
   leaves = d.leaves;
   counts = ap (peaks_after count) (sym e ∙ d.answers);
-}
-
-pub tying : {rows columns : ℕ} {places : List Float} {limit : Float} {list : List Float} {answers : List ℕ} {answer : Tie} {answers' : List ℕ} (place : ℕ) (known : Tie) (n : ℕ)
-    → n ≡ B.number_of known → answer ≡ known → B.Done rows columns places limit list answers answer answers' → Tying rows columns places limit list answers place n answers' (place_after place known)
-tying place known n q e d = record {
-  says = q ∙ ap B.number_of (sym e ∙ d.says);
-  leaves = d.leaves;
-  names = ap (place_after place) (sym e ∙ d.says);
 }
 
 pub reading : (answer known : Graymap) (old : Facts) (n : ℕ) → answer ≡ known → n ≡ G.number_of known → Reading answer old n (facts_after old known)

@@ -1,15 +1,12 @@
 -- The exported face: each function returns the number of the wrapped call's answer, 0 where it is done, and writes its further answers
 -- through references only then; tying writes the place at fault with 33 and 34, reading a graymap the pixel with 24. The lent buffers are as the wrapped call leaves them.
-use Rattle.std.specs.Prelude.{◌≡◌, true, List, ℕ, ℤ, length, Float}
+use Rattle.std.specs.Prelude.{◌≡◌, true, List, ℕ, ℤ, length, Float, Result, Ok, Err}
 use Rattle.imageview.specs.Image.{Image}
+use Rattle.refusals.specs.declared.Refusal.{Refusal}
 use Rattle.response.specs.declared.Response.{Response}
 use Rattle.response.specs.declared.Response.TheVariants.{Written}
 use Rattle.response.specs.Region.{Region}
 use Rattle.response.specs.Call as R
-use Rattle.merge.specs.declared.Merge.{Merge}
-use Rattle.merge.specs.declared.Merge.TheVariants.{Merged}
-use Rattle.merge.specs.declared.Heads.{Heads}
-use Rattle.merge.specs.declared.Heads.TheVariants.{Wanted}
 use Rattle.merge.specs.Call as M
 use Rattle.refine_formulas.specs.declared.SaddlePointConfig.{SaddlePointConfig}
 use Rattle.refine_list.specs.declared.Refinements.{Refinements}
@@ -19,8 +16,8 @@ use Rattle.peaks.specs.declared.Peaks.{Peaks}
 use Rattle.peaks.specs.declared.Peaks.TheVariants.{Found}
 use Rattle.peaks.specs.Peak.{Scan}
 use Rattle.peaks.specs.Call as P
-use Rattle.board.specs.declared.Tie.{Tie}
-use Rattle.board.specs.declared.Tie.TheVariants.{Tied, NoCorner, UsedTwice}
+use Rattle.board.specs.declared.Untied.{Untied}
+use Rattle.board.specs.declared.Untied.TheVariants.{NoCorner, UsedTwice}
 use Rattle.board.specs.Call as B
 use Rattle.graymap.specs.declared.Graymap.{Graymap}
 use Rattle.graymap.specs.declared.Graymap.TheVariants.{Read, Above}
@@ -55,9 +52,9 @@ pub record Responded (img : Image) (ring : List ℤ) (radius : ℕ) (r : Region)
   pub height : h' ≡ height_after h (R.answer_of (R.way_of img ring radius r (length out)))
 
 -- ---- the merge: the count of kept corners
-abbrev pub count_after : ℕ → Merge → ℕ
-count_after old (Merged n) = n
-count_after old (Merge.Refused r) = old
+abbrev pub count_after : ℕ → Result ℕ Refusal → ℕ
+count_after old (Ok n) = n
+count_after old (Err r) = old
 
 pub record Merging (list : List Float) (radius : Float) (heads links : List ℕ) (count : ℕ) (number : ℕ) (list' : List Float) (heads' links' : List ℕ) (count' : ℕ) : Type 0 where
   pub says : number ≡ M.number_of (M.answer_of list (M.way_of list radius (length heads) (length links)))
@@ -67,12 +64,12 @@ pub record Merging (list : List Float) (radius : Float) (heads links : List ℕ)
   pub counts : count' ≡ count_after count (M.answer_of list (M.way_of list radius (length heads) (length links)))
 
 -- ---- the heads that a merge wants
-abbrev pub heads_after : ℕ → Heads → ℕ
-heads_after old (Wanted n) = n
-heads_after old (Heads.Refused r) = old
+abbrev pub heads_after : ℕ → Result ℕ Refusal → ℕ
+heads_after old (Ok n) = n
+heads_after old (Err r) = old
 
 pub record Wanting (list : List Float) (radius : Float) (heads : ℕ) (number : ℕ) (heads' : ℕ) : Type 0 where
-  pub says : number ≡ M.heads_number_of (M.heads_of list radius)
+  pub says : number ≡ M.number_of (M.heads_of list radius)
   pub tells : heads' ≡ heads_after heads (M.heads_of list radius)
 
 -- ---- refining a list: the count of records written
@@ -96,11 +93,11 @@ pub record Scanning (s : Scan) (out : List Float) (count : ℕ) (number : ℕ) (
   pub counts : count' ≡ peaks_after count (P.answer_of (P.way_of s (length out)))
 
 -- ---- tying corners to places: the place at fault
-abbrev pub place_after : ℕ → Tie → ℕ
-place_after old Tied = old
-place_after old (NoCorner k) = k
-place_after old (UsedTwice k) = k
-place_after old (Tie.Refused r) = old
+abbrev pub place_after : ℕ → Result Unit Untied → ℕ
+place_after old (Ok done) = old
+place_after old (Err (NoCorner k)) = k
+place_after old (Err (UsedTwice k)) = k
+place_after old (Err (Untied.Refused r)) = old
 
 pub record Tying (rows columns : ℕ) (places : List Float) (limit : Float) (list : List Float) (answers : List ℕ) (place : ℕ) (number : ℕ) (answers' : List ℕ) (place' : ℕ) : Type 0 where
   pub says : number ≡ B.number_of (B.answer_of (B.way_of rows columns places limit list (length answers)))

@@ -19,7 +19,7 @@ pub use beside::{
     chess_corners_coverage, chess_corners_coverage_add, chess_corners_coverage_drop,
     chess_corners_coverage_replace, chess_corners_gradient, chess_corners_salvage,
 };
-use board::Tie;
+use board::Untied;
 pub use deep::{
     chess_corners_graymap_u16, chess_corners_refine_list_fallback_u16,
     chess_corners_refine_list_fallback_with_u16, chess_corners_refine_list_u16,
@@ -27,7 +27,6 @@ pub use deep::{
 };
 pub use fallback::{chess_corners_refine_list_fallback, chess_corners_refine_list_fallback_with};
 use imageview::Sizes;
-use merge::{Heads, Merge};
 use peaks::Peaks;
 use refine_formulas::SaddlePointConfig;
 use response::Roi;
@@ -105,7 +104,7 @@ pub extern "C" fn chess_corners_peaks(
             *count = found;
             0
         }
-        Peaks::Refused(refusal) => u32::from(refusal),
+        Peaks::Refused(refusal) => refusals::number(refusal),
     }
 }
 
@@ -122,11 +121,11 @@ pub extern "C" fn chess_corners_merge(
 {
     let answer = merge::merge_corners_simple(corners, radius, heads, links);
     match answer {
-        Merge::Merged(kept) => {
+        Ok(kept) => {
             *count = kept;
             0
         }
-        Merge::Refused(refusal) => u32::from(refusal),
+        Err(refusal) => u32::from(refusal),
     }
 }
 
@@ -137,11 +136,11 @@ pub extern "C" fn chess_corners_merge_heads(corners: &[f32], radius: f32, heads:
 {
     let answer = merge::heads_wanted(corners, radius);
     match answer {
-        Heads::Wanted(wanted) => {
+        Ok(wanted) => {
             *heads = wanted;
             0
         }
-        Heads::Refused(refusal) => u32::from(refusal),
+        Err(refusal) => u32::from(refusal),
     }
 }
 
@@ -200,16 +199,16 @@ pub extern "C" fn chess_corners_tie(
 {
     let answer = board::tie_corners(rows, columns, places, limit, corners, answers);
     match answer {
-        Tie::Tied => 0,
-        Tie::NoCorner(at) => {
+        Ok(()) => 0,
+        Err(Untied::NoCorner(at)) => {
             *place = at;
             33
         }
-        Tie::UsedTwice(at) => {
+        Err(Untied::UsedTwice(at)) => {
             *place = at;
             34
         }
-        Tie::Refused(refusal) => u32::from(refusal),
+        Err(Untied::Refused(refusal)) => u32::from(refusal),
     }
 }
 

@@ -12,7 +12,8 @@ use lib.Dec.{eqb, ltb}
 use lib.ListN.{length, get_or, set, length-set, length-append, get_or-append}
 use lib.Seq.{get_or-set_same, get_or-set_other, get_or-append_seam}
 use borrow.Author.Tests.{eq-eqb, ne_eqb}
-use Rattle.merge.specs.Steps.{lowest_below, top, Nexts, Chains, Falling, in_cell}
+use Rattle.merge.specs.declared.Chains as Lent
+use Rattle.merge.specs.Steps.{StillLent, lowest_below, top, Nexts, Chains, Falling, in_cell}
 
 module _ (cs : List ℕ) (c : ℕ) where
   pub top-is : (k : ℕ) → get_or cs k 0 ≡ c → top cs c (suc k) ≡ suc k
@@ -392,3 +393,12 @@ chains-more most cs heads links chains =
     go : (i d : ℕ) → i < suc (length cs) → get_or (cs ++ most ∷ []) i 0 ≡ d → d < most → get_or links i 0 ≡ top (cs ++ most ∷ []) d i
     go i d l e h =
         ⊎_elim (λ q. absurd (last d h (ap (λ (k : ℕ). get_or (cs ++ most ∷ []) k 0) (sym q) ∙ e))) (λ k. next_of most cs links chains.nexts i d k (sym (get_or-append cs (most ∷ []) 0 i k) ∙ e) h ∙ sym (old d i (omega arith))) (eq-or-lt_of_le (le_of_suc-le-suc l))
+
+-- what is still lent after one step more
+pub still_lent : {a b c : Lent.Chains} → StillLent b c → StillLent a b → StillLent a c
+still_lent s t = record {
+  same_heads = s.same_heads ∙ t.same_heads;
+  same_links = s.same_links ∙ t.same_links;
+  as_many_heads = s.as_many_heads ∙ t.as_many_heads;
+  as_many_links = s.as_many_links ∙ t.as_many_links;
+}

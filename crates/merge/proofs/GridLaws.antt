@@ -79,26 +79,26 @@ touch-three a b = same_bool (one_of_three a b) (touch a b) there back
     back t = let w = (and-eq-true_iff (leb a (b + 1)) (leb b (a + 1))).0 t in pick (leb-true a (b + 1) w.0) (leb-true b (a + 1) w.1) (ℕ_discrete (b + 1) a) (ℕ_discrete b a)
 
 -- ---- cells and their numbers
-pub column-lt : (g : Cells) (v : Float) → 0 < g.across → column_in g v < g.across
+pub column_lt : (g : Cells) (v : Float) → 0 < g.across → column_in g v < g.across
 unfolding column_in
-column-lt g v h = omega (arith, min-le_right (to_unsigned 64 (mul binary32 (sub binary32 v g.left) g.inv)) (g.across - 1))
+column_lt g v h = omega (arith, min-le_right (to_unsigned 64 (mul binary32 (sub binary32 v g.left) g.inv)) (g.across - 1))
 
 pub row_lt : (g : Cells) (v : Float) → 0 < g.down → row_in g v < g.down
 unfolding row_in
 row_lt g v h = omega (arith, min-le_right (to_unsigned 64 (mul binary32 (sub binary32 v g.top) g.inv)) (g.down - 1))
 
-pub cell-lt : (w h r a : ℕ) → r < h → a < w → r * w + a < w * h
-cell-lt w h r a p q =
+pub cell_lt : (w h r a : ℕ) → r < h → a < w → r * w + a < w * h
+cell_lt w h r a p q =
     let e : suc r * w ≤ w * h = subst (λ (n : ℕ). suc r * w ≤ n) (mul_comm h w) (mul-le-mul_right w p) in
     go (r * w) (suc r * w) (w * h) (suc-mul r w) e
   where
     go : (m s n : ℕ) → s ≡ m + w → s ≤ n → m + a < n
     go m s n e l = omega arith
 
-pub cell-inside : (g : Cells) {heads : List ℕ} → Roomy g heads → (new : Corner) (c : ℕ) → c ≡ cell_in g new → c < total g
-cell-inside g r new c e =
+pub cell_inside : (g : Cells) {heads : List ℕ} → Roomy g heads → (new : Corner) (c : ℕ) → c ≡ cell_in g new → c < total g
+cell_inside g r new c e =
     subst (λ (m : ℕ). m < total g) (sym e)
-    (cell-lt g.across g.down (row_in g new.y) (column_in g new.x) (row_lt g new.y r.high) (column-lt g new.x r.wide))
+    (cell_lt g.across g.down (row_in g new.y) (column_in g new.x) (row_lt g new.y r.high) (column_lt g new.x r.wide))
 
 row-part : (w r a : ℕ) → a < w → (r * w + a) / w ≡ r
 row-part w r a h = mul-add-div_right {m = w} (let z : 0 < w = omega arith in z) r a ∙ ap (λ (k : ℕ). r + k) (div-eq_of_lt h) ∙ add-zero r
@@ -137,25 +137,25 @@ module _ (g : Cells) (list : List Float) (n : ℕ) (there : 3 * n ≤ length lis
   counted : length (take n (corners_of list)) ≡ n
   counted = length-take-le n (corners_of list) (omega (arith, length-corners list))
 
-  pub cells-length : length (cells_of g list n) ≡ n
-  cells-length = length-map (take n (corners_of list)) (cell_in g) ∙ counted
+  pub cells_length : length (cells_of g list n) ≡ n
+  cells_length = length-map (take n (corners_of list)) (cell_in g) ∙ counted
 
   pub cells_at : (j : ℕ) → j < n → get_or (cells_of g list n) j 0 ≡ cell_in g (corner_at (corners_of list) j)
   cells_at j h = get_d_map (cell_in g) (take n (corners_of list)) j 0 nowhere (omega (arith, counted)) ∙ ap (cell_in g) (get_or-take n (corners_of list) j nowhere h)
 
   pub cells_in : 0 < g.across → 0 < g.down → (j : ℕ) → j < n → get_or (cells_of g list n) j 0 < total g
   cells_in wide high j h =
-      subst (λ (k : ℕ). k < total g) (sym (cells_at j h)) (cell-lt g.across g.down (row_at g list j) (column_at g list j) (row_lt g (corner_at (corners_of list) j).y high) (column-lt g (corner_at (corners_of list) j).x wide))
+      subst (λ (k : ℕ). k < total g) (sym (cells_at j h)) (cell_lt g.across g.down (row_at g list j) (column_at g list j) (row_lt g (corner_at (corners_of list) j).y high) (column_lt g (corner_at (corners_of list) j).x wide))
 
 -- ---- one cell, three cells, nine cells
 module _ {g : Cells} {list : List Float} {n : ℕ} {heads links : List ℕ} (k : Chained g list n heads links) where
-  pub cell-falling : (c : ℕ) → c < total g → Falling links 0 (get_or heads c 0)
-  cell-falling c h =
-      chain-falling (total g) (cells_of g list n) heads links 0 c k.chains (omega (arith, cells-length g list n k.there)) h (λ i a b. cells_in g list n k.there k.roomy.wide k.roomy.high i (omega (arith, cells-length g list n k.there)))
+  pub cell_falling : (c : ℕ) → c < total g → Falling links 0 (get_or heads c 0)
+  cell_falling c h =
+      chain-falling (total g) (cells_of g list n) heads links 0 c k.chains (omega (arith, cells_length g list n k.there)) h (λ i a b. cells_in g list n k.there k.roomy.wide k.roomy.high i (omega (arith, cells_length g list n k.there)))
 
-  pub cell-few : (c : ℕ) → c < total g → get_or heads c 0 ≤ n
-  cell-few c h =
-      subst (λ (m : ℕ). m ≤ n) (sym (k.chains.tops c h)) (omega (arith, top-le (cells_of g list n) c (length (cells_of g list n)), cells-length g list n k.there))
+  pub cell_few : (c : ℕ) → c < total g → get_or heads c 0 ≤ n
+  cell_few c h =
+      subst (λ (m : ℕ). m ≤ n) (sym (k.chains.tops c h)) (omega (arith, top-le (cells_of g list n) c (length (cells_of g list n)), cells_length g list n k.there))
 
   module _ (d : Disc) (best : ℕ) where
     other-column : (column row : ℕ) → ((j : ℕ) → column_at g list j + 1 ≡ column → ⊥) → best ≡ lowest_below (in_one_cell g list d column row) n best
@@ -167,18 +167,18 @@ module _ {g : Cells} {list : List Float} {n : ℕ} {heads links : List ℕ} (k :
     no-column column row e = other-column column row (λ j q. let z : ⊥ = omega arith in z)
 
     pub past-column : (column row : ℕ) → g.across < column → best ≡ lowest_below (in_one_cell g list d column row) n best
-    past-column column row e = other-column column row (λ j q. let z : ⊥ = omega (arith, column-lt g (corner_at (corners_of list) j).x k.roomy.wide) in z)
+    past-column column row e = other-column column row (λ j q. let z : ⊥ = omega (arith, column_lt g (corner_at (corners_of list) j).x k.roomy.wide) in z)
 
     pub walked-in : (c r : ℕ) → c < total g → Walked list links (get_or heads c 0) d best r → r ≡ lowest_below (in_cell (cells_of g list n) c (within d list)) n best
     walked-in c r l walked =
         walked (total g) c (cells_of g list n) k.chains.nexts l (k.chains.tops c l)
-        ∙ ap (λ (m : ℕ). lowest_below (in_cell (cells_of g list n) c (within d list)) m best) (cells-length g list n k.there)
+        ∙ ap (λ (m : ℕ). lowest_below (in_cell (cells_of g list n) c (within d list)) m best) (cells_length g list n k.there)
 
     -- a cell without a chain has nothing
     pub empty-in : (c : ℕ) → c < total g → get_or heads c 0 ≡ 0 → best ≡ lowest_below (in_cell (cells_of g list n) c (within d list)) n best
     empty-in c l e =
         lowest-none (in_cell (cells_of g list n) c (within d list)) n best
-        (λ j h. ap (λ (t : Bool). t && within d list j) (ne_eqb (get_or (cells_of g list n) j 0) c (top-none (cells_of g list n) c (length (cells_of g list n)) j (below j) (omega (arith, cells-length g list n k.there)))))
+        (λ j h. ap (λ (t : Bool). t && within d list j) (ne_eqb (get_or (cells_of g list n) j 0) c (top-none (cells_of g list n) c (length (cells_of g list n)) j (below j) (omega (arith, cells_length g list n k.there)))))
       where
         below : (j : ℕ) → top (cells_of g list n) c (length (cells_of g list n)) ≤ j
         below j = subst (λ (m : ℕ). m ≤ j) (sym e ∙ k.chains.tops c l) (omega arith)
@@ -192,7 +192,7 @@ module _ {g : Cells} {list : List Float} {n : ℕ} {heads links : List ℕ} (k :
         same : (j : ℕ) → j < n → eqb (get_or (cells_of g list n) j 0) (row * g.across + (column - 1)) ≡ (eqb (column_at g list j + 1) column && eqb (row_at g list j) row)
         same j h =
             ap (λ (m : ℕ). eqb m (row * g.across + (column - 1))) (cells_at g list n k.there j h)
-            ∙ same-cell g.across (row_at g list j) (column_at g list j) row (column - 1) (column-lt g (corner_at (corners_of list) j).x k.roomy.wide) (omega arith)
+            ∙ same-cell g.across (row_at g list j) (column_at g list j) row (column - 1) (column_lt g (corner_at (corners_of list) j).x k.roomy.wide) (omega arith)
             ∙ ap (λ (t : Bool). t && eqb (row_at g list j) row) (one_more (column_at g list j) column low)
 
     other_row : (column row : ℕ) → ((j : ℕ) → row_at g list j + 1 ≡ row → ⊥) → best ≡ lowest_below (in_three_cells g list d column row) n best
@@ -240,14 +240,14 @@ module _ {g : Cells} {list : List Float} {n : ℕ} {heads links : List ℕ} (k :
 -- ---- a corner's number changes its cell, or is new
 module _ {g : Cells} {list : List Float} {n : ℕ} {heads links : List ℕ} (k : Chained g list n heads links) where
   long : length (cells_of g list n) ≡ n
-  long = cells-length g list n k.there
+  long = cells_length g list n k.there
 
   all_in : (i : ℕ) → i < length (cells_of g list n) → get_or (cells_of g list n) i 0 < total g
   all_in i h = cells_in g list n k.there k.roomy.wide k.roomy.high i (omega (arith, long))
 
   -- a kept corner stands in the chain of its cell
-  pub kept-member : (j : ℕ) → j < n → (c : ℕ) → c ≡ cell_in g (corner_at (corners_of list) j) → Member heads links c j
-  kept-member j h c e =
+  pub kept_member : (j : ℕ) → j < n → (c : ℕ) → c ≡ cell_in g (corner_at (corners_of list) j) → Member heads links c j
+  kept_member j h c e =
       let here : get_or (cells_of g list n) j 0 ≡ c = cells_at g list n k.there j h ∙ sym e in
       let inside : c < total g = subst (λ (m : ℕ). m < total g) here (all_in j (omega (arith, long))) in
       let room = k.roomy.room in
@@ -269,10 +269,10 @@ module _ {g : Cells} {list : List Float} {n : ℕ} {heads links : List ℕ} (k :
       unlinked (total g) (cells_of g list n) k.chains (subst (λ (m : ℕ). m < total g) here (all_in j (omega (arith, long)))) (omega (arith, long)) here
 
   -- one that left can join any chain
-  pub left-joins :
+  pub left_joins :
       (j : ℕ) → j < n → j < 4096 → (c : ℕ) → c < total g → (heads' links' : List ℕ) → length heads' ≡ length heads
       → length links' ≡ length links → Chains (total g) (set (cells_of g list n) j (total g)) heads' links' → Joinable heads' links' c j
-  left-joins j h small c inside heads' links' hs ls chains =
+  left_joins j h small c inside heads' links' hs ls chains =
       let room = k.roomy.room in
       let linked = k.linked in
       let same : length (set (cells_of g list n) j (total g)) ≡ length (cells_of g list n) = length-set (cells_of g list n) j (total g) in
@@ -288,17 +288,17 @@ module _ {g : Cells} {list : List Float} {n : ℕ} {heads links : List ℕ} (k :
             (λ i a b. subst (λ (m : ℕ). m < total g) (sym (get_or-set_other (cells_of g list n) j i (total g) 0 (λ q. let z : ⊥ = omega arith in z))) (all_in i (omega arith)));
       }
 
-  pub joined-again :
+  pub joined_again :
       (j : ℕ) → j < n → (new : Corner) (c : ℕ) → c ≡ cell_in g new → (heads' links' heads'' links'' : List ℕ) (list' : List Float)
       → length heads'' ≡ length heads → length links'' ≡ length links → length list' ≡ length list
       → corners_of list' ≡ set (corners_of list) j new → Chains (total g) (set (cells_of g list n) j (total g)) heads' links'
       → Linked heads' links' c j heads'' links'' → Chained g list' n heads'' links''
-  joined-again j h new c e heads' links' heads'' links'' list' hs ls same put chains linked =
+  joined_again j h new c e heads' links' heads'' links'' list' hs ls same put chains linked =
       let room = k.roomy.room in
       let lk = k.linked in
       let th = k.there in
       let cs = cells_of g list n in
-      let inside : c < total g = cell-inside g k.roomy new c e in
+      let inside : c < total g = cell_inside g k.roomy new c e in
       let own : j < length cs = omega (arith, long) in
       record {
         roomy = record { wide = k.roomy.wide; high = k.roomy.high; room = omega arith };
@@ -311,20 +311,20 @@ module _ {g : Cells} {list : List Float} {n : ℕ} {heads links : List ℕ} (k :
       }
 
   -- the next number is in no chain
-  pub new-joins : n < 4096 → n < length links → (c : ℕ) → c < total g → Joinable heads links c n
-  new-joins small own c inside =
+  pub new_joins : n < 4096 → n < length links → (c : ℕ) → c < total g → Joinable heads links c n
+  new_joins small own c inside =
       let room = k.roomy.room in
-      let few : get_or heads c 0 ≤ n = cell-few k c inside in
+      let few : get_or heads c 0 ≤ n = cell_few k c inside in
       record { cell = omega arith; own = own; small = small; absent = λ e. let z : ⊥ = omega arith in z; falling = record { room = omega arith; falls = λ j a b. absurd (let z : ⊥ = omega arith in z) } }
 
-  pub joined-new :
+  pub joined_new :
       (new : Corner) (c : ℕ) → c ≡ cell_in g new → (heads' links' : List ℕ) (list' : List Float) → length heads' ≡ length heads
       → length links' ≡ length links → length list' ≡ length list → n < length links → 3 * n + 2 < length list
       → corners_of list' ≡ set (corners_of list) n new → Linked heads links c n heads' links' → Chained g list' (n + 1) heads' links'
-  joined-new new c e heads' links' list' hs ls same own room' put linked =
+  joined_new new c e heads' links' list' hs ls same own room' put linked =
       let room = k.roomy.room in
       let cs = cells_of g list n in
-      let inside : c < total g = cell-inside g k.roomy new c e in
+      let inside : c < total g = cell_inside g k.roomy new c e in
       let one-longer : take n (corners_of list) ++ new ∷ [] ≡ take (n + 1) (corners_of list') = sym (take-suc-set (corners_of list) n new (omega (arith, length-corners list))) ∙ ap (λ (m : ℕ). take m (set (corners_of list) n new)) (sym (add-one n)) ∙ ap (take (n + 1)) (sym put) in
       record {
         roomy = record { wide = k.roomy.wide; high = k.roomy.high; room = omega arith };
@@ -337,38 +337,33 @@ module _ {g : Cells} {list : List Float} {n : ℕ} {heads links : List ℕ} (k :
       }
 
 -- no corner is kept at first
-pub none-chained : {g : Cells} {list : List Float} {heads links : List ℕ} → Roomy g heads → ((c : ℕ) → c < total g → get_or heads c 0 ≡ 0) → Chained g list 0 heads links
+pub none_chained : {g : Cells} {list : List Float} {heads links : List ℕ} → Roomy g heads → ((c : ℕ) → c < total g → get_or heads c 0 ≡ 0) → Chained g list 0 heads links
 unfolding top
-none-chained roomy zeros =
+none_chained roomy zeros =
     record { roomy = roomy; linked = omega arith; there = omega arith; chains = record { tops = zeros; nexts = λ j h. absurd (not-suc-le-zero h) } }
 
 -- what is found in the nine cells is whom the corner meets
-pub nine-meets :
+pub nine_meets :
     (g : Cells) (list : List Float) (new : Corner) (r2 : Float) (count column row met : ℕ)
     → column ≡ column_in g new.x → row ≡ row_in g new.y
     → met ≡ lowest_below (in_nine_cells g list (record { x = new.x; y = new.y; r2 = r2 }) column row) count count
     → met ≡ lowest_below (λ j. meets_in g r2 new (corner_at (corners_of list) j)) count count
 unfolding near within
-nine-meets g list new r2 count column row met ec er e =
+nine_meets g list new r2 count column row met ec er e =
     e
     ∙ ap (λ (m : ℕ). lowest_below (in_nine_cells g list (record { x = new.x; y = new.y; r2 = r2 }) m row) count count) ec
     ∙ ap (λ (m : ℕ). lowest_below (in_nine_cells g list (record { x = new.x; y = new.y; r2 = r2 }) (column_in g new.x) m) count count) er
 
 -- ---- what fits the heads
-pub across-room : (g : Cells) {heads : List ℕ} → Roomy g heads → g.across ≤ length heads
-across-room g r = le_trans (le-mul_of_pos_right g.across r.high) r.room
+pub across_room : (g : Cells) {heads : List ℕ} → Roomy g heads → g.across ≤ length heads
+across_room g r = le_trans (le-mul_of_pos_right g.across r.high) r.room
 
-pub down-room : (g : Cells) {heads : List ℕ} → Roomy g heads → g.down ≤ length heads
-down-room g r = le_trans (subst (λ (m : ℕ). g.down ≤ m) (mul_comm g.down g.across) (le-mul_of_pos_right g.down r.wide)) r.room
+pub down_room : (g : Cells) {heads : List ℕ} → Roomy g heads → g.down ≤ length heads
+down_room g r = le_trans (subst (λ (m : ℕ). g.down ≤ m) (mul_comm g.down g.across) (le-mul_of_pos_right g.down r.wide)) r.room
 
 pub cell_room : (g : Cells) {heads : List ℕ} → Roomy g heads → (row a : ℕ) → row < g.down → a < g.across → row * g.across + a < length heads
-cell_room g r row a p q = lt_of_lt_of_le (cell-lt g.across g.down row a p q) r.room
+cell_room g r row a p q = lt_of_lt_of_le (cell_lt g.across g.down row a p q) r.room
 
 -- ---- a corner's cell, by its column and row
-pub cell-of : (g : Cells) (new : Corner) (column row : ℕ) → column ≡ column_in g new.x → row ≡ row_in g new.y → row * g.across + column ≡ cell_in g new
-cell-of g new column row ec er = ap (λ (m : ℕ). m * g.across + column) er ∙ ap (λ (m : ℕ). row_in g new.y * g.across + m) ec
-
-pub placed-room :
-    (g : Cells) {heads : List ℕ} → Roomy g heads → (new : Corner) (column row : ℕ) → column ≡ column_in g new.x
-    → row ≡ row_in g new.y → row * g.across + column < length heads
-placed-room g r new column row ec er = lt_of_lt_of_le (cell-inside g r new (row * g.across + column) (cell-of g new column row ec er)) r.room
+pub cell_of : (g : Cells) (new : Corner) (column row : ℕ) → column ≡ column_in g new.x → row ≡ row_in g new.y → row * g.across + column ≡ cell_in g new
+cell_of g new column row ec er = ap (λ (m : ℕ). m * g.across + column) er ∙ ap (λ (m : ℕ). row_in g new.y * g.across + m) ec

@@ -1,5 +1,4 @@
 -- Laws over the definitions of merging.
-pub mod FillLaws
 pub mod FoldLaws
 pub mod LowestLaws
 pub mod ChainLaws

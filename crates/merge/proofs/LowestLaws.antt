@@ -99,17 +99,6 @@ lowest-same one two n best same =
       found = ⊎_elim (λ q. inl q) (λ w. inr (w.0, sym (same (lowest_below one n best) w.0) ∙ w.1)) (lowest-is one n best).found;
     })
 
--- a choice by two tests
-pub pick-both : (a b : Bool) (m n : ℕ) → a ≡ true → b ≡ true → m ≡ cond (a && b) m n
-pick-both a b m n p q = ap (λ (t : Bool). cond t m n) (sym (ap (λ (t : Bool). t && b) p ∙ q))
-
-pub pick_first : (a b : Bool) (m n : ℕ) → a ≡ false → n ≡ cond (a && b) m n
-pick_first a b m n p = ap (λ (t : Bool). cond (t && b) m n) (sym p)
-
-pub pick_second : (a b : Bool) (m n : ℕ) → b ≡ false → n ≡ cond (a && b) m n
-pick_second true b m n q = ap (λ (t : Bool). cond t m n) (sym q)
-pick_second false b m n q = refl
-
 -- ---- a search from the front
 not-before : (test : ℕ → Bool) (j i : ℕ) → ((k : ℕ) → k < j → test k ≡ false) → test i ≡ true → j ≤ i
 not-before test j i before u = go (dec_le j i)

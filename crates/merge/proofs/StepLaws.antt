@@ -9,7 +9,7 @@ use lib.ListN.{length, get_or, set, take, drop, replicate, drop_of_length-le}
 use lib.Seq.{length-take-le, get_or-take, take-set-lt, drop-set-lt, take-suc-set, set-get_or, drop-cons}
 use lib.Ieee.{Float, lt}
 use Rattle.shapes.specs.Numbers.{plus_zero}
-use Rattle.corners.proofs.CornerLaws.{length-corners, read, corner-at, take-flat}
+use Rattle.corners.proofs.CornerLaws.{length-corners, corner-at, take-flat}
 use Rattle.corners.specs.Corners.{corners_of, flat, nowhere, corner_at}
 use Rattle.corners.specs.declared.Corner.{Corner}
 use Rattle.merge.specs.Fold.{stronger, after_corner, place_of, merge_from, merged}
@@ -43,12 +43,12 @@ module _ (meets : Corner → Corner → Bool) (l : List Corner) (i count met : �
       ∙ ap (λ (p : ℕ). set (take count l) p (stronger new (corner_at (take count l) p))) goes
       ∙ ap (λ (k : Corner). set (take count l) met (stronger new k)) (kept_at met h)
 
-  pub step-replaces : met < count → lt (corner_at l met).strength new.strength ≡ true → (after : List Corner) → after ≡ set l met new → Stepped meets i count l after count
-  step-replaces h weak after e =
+  pub step_replaces : met < count → lt (corner_at l met).strength new.strength ≡ true → (after : List Corner) → after ≡ set l met new → Stepped meets i count l after count
+  step_replaces h weak after e =
       record {
         kept = ap (take count) e ∙ take-set-lt count l met new h ∙ ap (λ (b : Bool). set (take count l) met (cond b new (corner_at l met))) (sym weak) ∙ sym (met-place h);
         rest = ap (drop (i + 1)) e ∙ rest_of met (omega arith);
-        bound = omega arith;
+        no_more_than_read = omega arith;
       }
 
   pub step_stays : met < count → lt (corner_at l met).strength new.strength ≡ false → Stepped meets i count l l count
@@ -60,11 +60,11 @@ module _ (meets : Corner → Corner → Bool) (l : List Corner) (i count met : �
             ∙ ap (λ (b : Bool). set (take count l) met (cond b new (corner_at l met))) (sym strong)
             ∙ sym (met-place h);
         rest = refl;
-        bound = omega arith;
+        no_more_than_read = omega arith;
       }
 
-  pub step-adds : count ≤ met → (after : List Corner) → after ≡ set l count new → Stepped meets i count l after (count + 1)
-  step-adds h after e =
+  pub step_adds : count ≤ met → (after : List Corner) → after ≡ set l count new → Stepped meets i count l after (count + 1)
+  step_adds h after e =
       record {
         kept =
             ap (take (count + 1)) e
@@ -72,34 +72,34 @@ module _ (meets : Corner → Corner → Bool) (l : List Corner) (i count met : �
             ∙ take-suc-set l count new (omega arith)
             ∙ sym (ap (λ (c : Corner). after_corner meets c (take count l)) here ∙ after_none meets new (take count l) (omega (arith, goes, counted)));
         rest = ap (drop (i + 1)) e ∙ rest_of count order;
-        bound = omega arith;
+        no_more_than_read = omega arith;
       }
 
 -- the corners that are left, merged into the kept ones, are what they were
-pub pass-turn :
+pub pass_turn :
     {meets : Corner → Corner → Bool} {i count : ℕ} {before after : List Corner} {count' : ℕ} → i < length before
     → Stepped meets i count before after count'
     → merge_from meets (take count' after) (drop (i + 1) after) ≡ merge_from meets (take count before) (drop i before)
 unfolding merge_from
-pass-turn {meets} {i} {count} {before} {after} {count'} h s =
+pass_turn {meets} {i} {count} {before} {after} {count'} h s =
     ap (λ (k : List Corner). merge_from meets k (drop (i + 1) after)) s.kept
     ∙ ap (merge_from meets (after_corner meets (corner_at before i) (take count before))) (s.rest ∙ ap (λ (n : ℕ). drop n before) (add-one i))
     ∙ ap (merge_from meets (take count before)) (sym (drop-cons before i nowhere h))
 
-pub pass-start : (meets : Corner → Corner → Bool) (l : List Corner) → merge_from meets (take 0 l) (drop 0 l) ≡ merged meets l
+pub pass_start : (meets : Corner → Corner → Bool) (l : List Corner) → merge_from meets (take 0 l) (drop 0 l) ≡ merged meets l
 unfolding merged
-pass-start meets l = refl
+pass_start meets l = refl
 
-pub pass-end : (meets : Corner → Corner → Bool) (i count : ℕ) (l : List Corner) → length l ≤ i → take count l ≡ merge_from meets (take count l) (drop i l)
+pub pass_end : (meets : Corner → Corner → Bool) (i count : ℕ) (l : List Corner) → length l ≤ i → take count l ≡ merge_from meets (take count l) (drop i l)
 unfolding merge_from
-pass-end meets i count l h = ap (merge_from meets (take count l)) (sym (drop_of_length-le l {i = i} h))
+pass_end meets i count l h = ap (merge_from meets (take count l)) (sym (drop_of_length-le l {i = i} h))
 
 -- the kept corners, then zeros
-pub fill-kept :
+pub fill_kept :
     {meets : Corner → Corner → Bool} {list list' list'' : List Float} {count : ℕ} → Passed meets list count list'
     → length list' ≡ length list → list'' ≡ take (3 * count) list' ++ replicate (length list' - 3 * count) plus_zero
     → Packed list (merged meets (corners_of list)) count list''
-fill-kept {meets} {list} {list'} {list''} {count} p same e =
+fill_kept {meets} {list} {list'} {list''} {count} p same e =
     let t = p.there in
     let n : count ≡ length (merged meets (corners_of list)) = sym (length-take-le count (corners_of list') (omega (arith, length-corners list'))) ∙ ap length p.kept in
     record {
@@ -111,21 +111,22 @@ fill-kept {meets} {list} {list'} {list''} {count} p same e =
           ∙ ap (λ (k : ℕ). flat (merged meets (corners_of list)) ++ replicate (length list - 3 * k) plus_zero) n;
     }
 
--- ---- the same, with the floats as they are read
-module _ (meets : Corner → Corner → Bool) (list : List Float) (i count met : ℕ) (d : Float) (order : count ≤ i) (room : 3 * i + 2 < length list) (found : met ≡ lowest_below (λ j. meets (read list i d) (corner_at (corners_of list) j)) count count) where
+-- ---- the same, over the flat list
+module _ (meets : Corner → Corner → Bool) (list : List Float) (i count met : ℕ) (d : Float) (new : Corner) (here : new ≡ corner_at (corners_of list) i) (order : count ≤ i) (room : 3 * i + 2 < length list)
+    (found : met ≡ lowest_below (λ j. meets new (corner_at (corners_of list) j)) count count) where
   inside : i < length (corners_of list)
   inside = omega (arith, length-corners list)
 
-  weaker : (b : Bool) → met < count → lt (get_or list (3 * met + 2) d) (get_or list (3 * i + 2) d) ≡ b → lt (corner_at (corners_of list) met).strength (get_or list (3 * i + 2) d) ≡ b
-  weaker b h e = ap (λ (k : Corner). lt k.strength (get_or list (3 * i + 2) d)) (corner-at list met d (omega arith)) ∙ e
+  weaker : (b : Bool) → met < count → lt (get_or list (3 * met + 2) d) new.strength ≡ b → lt (corner_at (corners_of list) met).strength new.strength ≡ b
+  weaker b h e = ap (λ (k : Corner). lt k.strength new.strength) (corner-at list met d (omega arith)) ∙ e
 
   pub replaces :
-      met < count → lt (get_or list (3 * met + 2) d) (get_or list (3 * i + 2) d) ≡ true → (after : List Corner)
-      → after ≡ set (corners_of list) met (read list i d) → Stepped meets i count (corners_of list) after count
-  replaces h weak = step-replaces meets (corners_of list) i count met (read list i d) (corner-at list i d room) order inside found h (weaker true h weak)
+      met < count → lt (get_or list (3 * met + 2) d) new.strength ≡ true → (after : List Corner)
+      → after ≡ set (corners_of list) met new → Stepped meets i count (corners_of list) after count
+  replaces h weak = step_replaces meets (corners_of list) i count met new (sym here) order inside found h (weaker true h weak)
 
-  pub stays : met < count → lt (get_or list (3 * met + 2) d) (get_or list (3 * i + 2) d) ≡ false → Stepped meets i count (corners_of list) (corners_of list) count
-  stays h strong = step_stays meets (corners_of list) i count met (read list i d) (corner-at list i d room) order inside found h (weaker false h strong)
+  pub stays : met < count → lt (get_or list (3 * met + 2) d) new.strength ≡ false → Stepped meets i count (corners_of list) (corners_of list) count
+  stays h strong = step_stays meets (corners_of list) i count met new (sym here) order inside found h (weaker false h strong)
 
-  pub adds : count ≤ met → (after : List Corner) → after ≡ set (corners_of list) count (read list i d) → Stepped meets i count (corners_of list) after (count + 1)
-  adds h = step-adds meets (corners_of list) i count met (read list i d) (corner-at list i d room) order inside found h
+  pub adds : count ≤ met → (after : List Corner) → after ≡ set (corners_of list) count new → Stepped meets i count (corners_of list) after (count + 1)
+  adds h = step_adds meets (corners_of list) i count met new (sym here) order inside found h

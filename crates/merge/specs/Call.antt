@@ -1,6 +1,6 @@
 -- The public call: the tests of docs/RULES.md in their order (`way_of`), what each way answers, and what it leaves in the three lent buffers.
 -- No refusal writes. Last how many heads a merge wants (`heads_of`). The plain scan and a list or radius that needs no merging leave heads and links as they were; a grid merge leaves both all zero.
-use Rattle.std.specs.Prelude.{◌≡◌, Bool, not, ◌||◌, cond, List, ◌++◌, ℕ, ◌-◌, ◌*◌, ◌/◌, eqb, ltb, length, replicate, Float}
+use Rattle.std.specs.Prelude.{◌≡◌, Bool, not, ◌||◌, cond, List, ◌++◌, ℕ, ◌-◌, ◌*◌, ◌/◌, eqb, ltb, length, replicate, Float, Result, Ok, Err}
 use Rattle.std.specs.Float.{binary32}
 use Rattle.std.specs.Float.Ieee.{mul, le}
 use Rattle.std.specs.Float.Ieee.Scale.{finite}
@@ -10,17 +10,13 @@ use Rattle.corners.specs.declared.Corner.{Corner}
 use Rattle.refusals.specs.declared.Refusal.{Refusal}
 use Rattle.refusals.specs.declared.Refusal.TheVariants.{BadLength, TooMany, BadScratch, GridTooBig}
 use Rattle.refusals.specs.Numbers as Refusals
-use Rattle.merge.specs.declared.Merge.{Merge}
-use Rattle.merge.specs.declared.Merge.TheVariants.{Merged, Refused}
-use Rattle.merge.specs.declared.Heads.{Heads}
-use Rattle.merge.specs.declared.Heads.TheVariants.{Wanted}
 use Rattle.merge.specs.Meets.{box_of, finite_box, grid_of, cells_across, cells_down, plain_meets, grid_meets}
 use Rattle.merge.specs.Fold.{merged}
 
--- the number of each case; 0 is done
-abbrev pub number_of : Merge → ℕ
-number_of (Merged n) = 0
-number_of (Refused r) = Refusals.number_of r
+-- the number of each answer, of either call; 0 is done
+abbrev pub number_of : Result ℕ Refusal → ℕ
+number_of (Ok n) = 0
+number_of (Err r) = Refusals.number_of r
 
 pub data Way : Type 0 where
   refused : Refusal → Way
@@ -49,11 +45,11 @@ way_of list radius heads links =
     (cond (eqb (length list) 0 || idle radius) unmerged
     (merging_way (corners_of list) radius heads))))
 
-abbrev pub answer_of : List Float → Way → Merge
-answer_of list (refused r) = Refused r
-answer_of list unmerged = Merged (length list / 3)
-answer_of list (scanned kept) = Merged (length kept)
-answer_of list (gridded kept) = Merged (length kept)
+abbrev pub answer_of : List Float → Way → Result ℕ Refusal
+answer_of list (refused r) = Err r
+answer_of list unmerged = Ok (length list / 3)
+answer_of list (scanned kept) = Ok (length kept)
+answer_of list (gridded kept) = Ok (length kept)
 
 -- the kept corners, and +0.0 in the freed tail
 abbrev pub packed : List Float → List Corner → List Float
@@ -72,32 +68,28 @@ scratch_after s unmerged = s
 scratch_after s (scanned kept) = s
 scratch_after s (gridded kept) = replicate (length s) 0
 
-pub record Done (list : List Float) (radius : Float) (heads links : List ℕ) (answer : Merge) (list' : List Float) (heads' links' : List ℕ) : Type 0 where
+pub record Done (list : List Float) (radius : Float) (heads links : List ℕ) (answer : Result ℕ Refusal) (list' : List Float) (heads' links' : List ℕ) : Type 0 where
   pub answers : answer ≡ answer_of list (way_of list radius (length heads) (length links))
   pub leaves-list : list' ≡ list_after list (way_of list radius (length heads) (length links))
   pub leaves-heads : heads' ≡ scratch_after heads (way_of list radius (length heads) (length links))
   pub leaves-links : links' ≡ scratch_after links (way_of list radius (length heads) (length links))
 
 -- ---- how many heads a merge wants: one a cell of its grid, none where it has no grid
-abbrev pub heads_number_of : Heads → ℕ
-heads_number_of (Wanted n) = 0
-heads_number_of (Heads.Refused r) = Refusals.number_of r
-
 -- the greatest count of 64 bits
 abbrev pub most_heads : ℕ
 most_heads = 18446744073709551615
 
-unfoldable pub grid_heads : List Corner → Float → Heads
+unfoldable pub grid_heads : List Corner → Float → Result ℕ Refusal
 grid_heads l radius =
     let g = grid_of radius l in
-    cond (not (finite_box (box_of l))) (Wanted 0)
-    (cond (ltb most_heads (cells_across g * cells_down g)) (Heads.Refused GridTooBig)
-    (Wanted (cells_across g * cells_down g)))
+    cond (not (finite_box (box_of l))) (Ok 0)
+    (cond (ltb most_heads (cells_across g * cells_down g)) (Err GridTooBig)
+    (Ok (cells_across g * cells_down g)))
 
-unfoldable pub heads_of : List Float → Float → Heads
+unfoldable pub heads_of : List Float → Float → Result ℕ Refusal
 unfolding grid_heads
 heads_of list radius =
-    cond (not (whole (length list))) (Heads.Refused BadLength)
-    (cond (too_many (length list)) (Heads.Refused TooMany)
-    (cond (eqb (length list) 0 || idle radius) (Wanted 0)
+    cond (not (whole (length list))) (Err BadLength)
+    (cond (too_many (length list)) (Err TooMany)
+    (cond (eqb (length list) 0 || idle radius) (Ok 0)
     (grid_heads (corners_of list) radius)))

@@ -1,12 +1,11 @@
 -- What whoever relies on merging may claim of it, for any rule of meeting: the words of the theorems of the crate merge_theorems.
 -- Corners are named by their numbers in the list, from 0; `places` (Fold) gives each the number of the place that it went to.
-use Rattle.std.specs.Prelude.{◌≡◌, ◌⊎◌, Bool, true, false, List, ℕ, ◌/◌, ◌≤◌, ◌<◌, length, get_or, Float}
+use Rattle.std.specs.Prelude.{◌≡◌, ◌⊎◌, Bool, true, false, List, ℕ, ◌/◌, ◌≤◌, ◌<◌, length, get_or, Float, Ok}
 use Rattle.std.specs.Float.Ieee.{lt}
 use Rattle.corners.specs.Corners.{corner_at}
 use Rattle.corners.specs.declared.Corner.{Corner}
 use Rattle.refusals.specs.declared.Refusal.{Refusal}
 use Rattle.refusals.specs.declared.Refusal.TheVariants.{GridTooBig}
-use Rattle.merge.specs.declared.Heads.TheVariants.{Wanted}
 use Rattle.merge.specs.Call.{refused, way_of, heads_of}
 use Rattle.merge.specs.Fold.{merged, places}
 
@@ -64,5 +63,5 @@ Alike meets meets' l = (i j : ℕ) → i < length l → j < length l → meets (
 -- As many heads as are wanted serve, and fewer do not, where there are links enough.
 abbrev pub HeadsServe : Type 0
 HeadsServe =
-    (list : List Float) (radius : Float) (n heads links : ℕ) → heads_of list radius ≡ Wanted n → length list / 3 ≤ links
+    (list : List Float) (radius : Float) (n heads links : ℕ) → heads_of list radius ≡ Ok n → length list / 3 ≤ links
     → (n ≤ heads → (r : Refusal) → way_of list radius heads links ≡ refused r → ⊥) × (heads < n → way_of list radius heads links ≡ refused GridTooBig)

@@ -1,17 +1,18 @@
 -- What the steps below the public call promise each other. Kept corners are named by their numbers, from 0.
 -- Each cell's kept corners form a chain from the highest number down: heads holds one more than the cell's highest number, links one more than
 -- the next lower number of the same cell, and 0 ends a chain. So both follow from the cells of the kept corners alone.
-use Rattle.std.specs.Prelude.{◌≡◌, Bool, ◌&&◌, cond, List, map, ℕ, zero, suc, ◌+◌, ◌-◌, ◌*◌, ◌/◌, ◌≤◌, ◌<◌, min, eqb, ltb, length, get_or, set, take, drop, Float}
+use Rattle.std.specs.Prelude.{◌≡◌, Bool, ◌&&◌, cond, List, map, ℕ, zero, suc, ◌+◌, ◌-◌, ◌*◌, ◌/◌, ◌≤◌, ◌<◌, min, eqb, ltb, length, get_or, set, take, drop, Float, Result}
 use Rattle.std.specs.Float.{binary32}
 use Rattle.std.specs.Float.Ieee.{sub, mul, to_unsigned}
 use Rattle.shapes.specs.Numbers.{plus_zero}
 use Rattle.corners.specs.Corners.{corners_of, corner_at, corner}
 use Rattle.corners.specs.declared.Corner.{Corner}
-use Rattle.merge.specs.declared.Merge.{Merge}
+use Rattle.refusals.specs.declared.Refusal.{Refusal}
 use Rattle.merge.specs.declared.Disc.{Disc}
 use Rattle.merge.specs.declared.Cells.{Cells}
+use Rattle.merge.specs.declared.Chains as Lent
 use Rattle.merge.specs.declared.Extent.{Extent}
-use Rattle.merge.specs.Meets.{near, touch, Box}
+use Rattle.merge.specs.Meets.{near, touch, Box, inverse, along}
 use Rattle.merge.specs.Fold.{after_corner, merged}
 use Rattle.merge.specs.Call.{Way, answer_of, list_after, scratch_after, packed}
 
@@ -45,6 +46,13 @@ Nexts most cs links = (j : ℕ) → j < length cs → get_or cs j 0 < most → g
 pub record Chains (most : ℕ) (cs heads links : List ℕ) : Type 0 where
   pub tops : (c : ℕ) → c < most → get_or heads c 0 ≡ top cs c (length cs)
   pub nexts : Nexts most cs links
+
+-- chains stand in the same heads and links, whatever was written in them
+pub record StillLent (old new : Lent.Chains) : Type 0 where
+  pub same_heads : new.heads.ghost_name ≡ old.heads.ghost_name
+  pub same_links : new.links.ghost_name ≡ old.links.ghost_name
+  pub as_many_heads : length new.heads.now ≡ length old.heads.now
+  pub as_many_links : length new.links.now ≡ length old.links.now
 
 -- a chain from `start` on ends: from `low` on each link is lower than its number
 pub record Falling (links : List ℕ) (low start : ℕ) : Type 0 where
@@ -90,7 +98,13 @@ abbrev pub Linked : List ℕ → List ℕ → ℕ → ℕ → List ℕ → List 
 Linked heads links c j heads' links' =
     (most : ℕ) (cs : List ℕ) → Chains most cs heads links → c < most → j < length cs → get_or cs j 0 ≡ most → Chains most (set cs j c) heads' links'
 
--- ---- the cells of the grid
+-- ---- the box, and the cells of the grid over it
+abbrev pub as_box : Extent → Box
+as_box e = record { min_x = e.left; min_y = e.top; max_x = e.right; max_y = e.bottom }
+
+abbrev pub cells_over : Extent → Float → Cells
+cells_over e radius = record { left = e.left; top = e.top; inv = inverse radius; across = along (inverse radius) e.left e.right; down = along (inverse radius) e.top e.bottom }
+
 unfoldable pub column_in : Cells → Float → ℕ
 column_in g v = min (to_unsigned 64 (mul binary32 (sub binary32 v g.left) g.inv)) (g.across - 1)
 
@@ -175,7 +189,7 @@ Sought list heads links notes k d best r =
 pub record Stepped (meets : Corner → Corner → Bool) (i count : ℕ) (before after : List Corner) (count' : ℕ) : Type 0 where
   pub kept : take count' after ≡ after_corner meets (corner_at before i) (take count before)
   pub rest : drop (i + 1) after ≡ drop (i + 1) before
-  pub bound : count' ≤ i + 1
+  pub no_more_than_read : count' ≤ i + 1
 
 pub record Passed (meets : Corner → Corner → Bool) (list : List Float) (count : ℕ) (list' : List Float) : Type 0 where
   pub kept : take count (corners_of list') ≡ merged meets (corners_of list)
@@ -191,11 +205,8 @@ pub record Few (list : List Float) (links : List ℕ) : Type 0 where
   pub linked : length list / 3 ≤ length links
 
 -- what a way answers and leaves behind
-pub record Left (way : Way) (list : List Float) (heads links : List ℕ) (answer : Merge) (list' : List Float) (heads' links' : List ℕ) : Type 0 where
+pub record Left (way : Way) (list : List Float) (heads links : List ℕ) (answer : Result ℕ Refusal) (list' : List Float) (heads' links' : List ℕ) : Type 0 where
   pub answers : answer ≡ answer_of list way
   pub leaves-list : list' ≡ list_after list way
   pub leaves-heads : heads' ≡ scratch_after heads way
   pub leaves-links : links' ≡ scratch_after links way
-
-abbrev pub as_box : Extent → Box
-as_box e = record { min_x = e.left; min_y = e.top; max_x = e.right; max_y = e.bottom }

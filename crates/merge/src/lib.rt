@@ -3,32 +3,18 @@
 #![tactic(auto)]
 
 mod bounds;
-mod chains;
+mod chain;
 mod grid;
 mod list;
 mod scan;
 mod seek;
 
-ghost use Rattle.std.specs.Prelude.{◌≡◌, ltb, ◌+◌, ◌*◌, ◌<◌, length};
+ghost use Rattle.std.specs.Prelude.{◌≡◌, length};
 ghost use Rattle.corners.specs.Corners.{corners_of};
-ghost use Rattle.merge.specs.Call.{Done, merging_way, grid_heads, heads_of};
+ghost use Rattle.merge.specs.Call.{Done, idle, merging_way, grid_heads, heads_of};
 ghost use Rattle.merge.specs.Steps.{Few, Left};
 
 use refusals::Refusal;
-
-// How the call ended.
-#[derive(Drop)]
-pub enum Merge {
-    Merged(usize),
-    Refused(Refusal),
-}
-
-// How many heads a merge wants.
-#[derive(Drop)]
-pub enum Heads {
-    Wanted(usize),
-    Refused(Refusal),
-}
 
 // The least and the greatest coordinates.
 #[derive(Clone, Copy)]
@@ -49,6 +35,13 @@ struct Cells {
     down: usize,
 }
 
+// The chains of the kept corners, one a cell, each from the highest number down, in what is lent for them.
+#[derive(Drop)]
+struct Chains<'a> {
+    heads: &'a mut [u16],
+    links: &'a mut [u16],
+}
+
 // All points within the root of r2 of (x, y).
 #[derive(Clone, Copy)]
 struct Disc {
@@ -57,113 +50,87 @@ struct Disc {
     r2: f32,
 }
 
-// Merges the corners in place. At most 4,096 of them, so that each number fits a link. heads and links hold the grid's chains meanwhile.
+// Merges the corners in place, and answers how many are kept. At most 4,096 of them, so that each number fits a link. heads and links hold the grid's chains meanwhile.
+#[tactic(auto, unfolding(crate::specs::Call::way_of))]
 pub fn merge_corners_simple(
     corners: &mut [f32],
     radius: f32,
     heads: &mut [u16],
     links: &mut [u16],
-) -> Merge
+) -> Result<usize, Refusal>
     ensures { Done corners.old radius heads.old links.old result corners.new heads.new links.new }
 {
     let len = corners.len();
     if !corners::is_whole(len) {
-        return Merge::Refused(Refusal::BadLength);
+        return Err(Refusal::BadLength);
     }
     if corners::too_many(len) {
-        return Merge::Refused(Refusal::TooMany);
+        return Err(Refusal::TooMany);
     }
     let n = len / 3;
     if links.len() < n {
-        return Merge::Refused(Refusal::BadScratch);
+        return Err(Refusal::BadScratch);
     }
-    if len == 0 {
-        return Merge::Merged(n);
-    }
-    if !floats::is_finite_f32(radius) {
-        return Merge::Merged(n);
-    }
-    if radius <= 0.0 {
-        return Merge::Merged(n);
+    if (len == 0) | is_idle(radius) {
+        return Ok(n);
     }
     merge_within(corners, radius, heads, links)
 }
 
 // How many heads a merge of these corners at this radius wants: with fewer it is refused with 17, with as many or more it is not.
-pub fn heads_wanted(corners: &[f32], radius: f32) -> Heads
+#[tactic(auto, unfolding(crate::specs::Call::heads_of))]
+pub fn heads_wanted(corners: &[f32], radius: f32) -> Result<usize, Refusal>
     ensures { result ≡ heads_of corners.now radius }
 {
     let len = corners.len();
     if !corners::is_whole(len) {
-        return Heads::Refused(Refusal::BadLength);
+        return Err(Refusal::BadLength);
     }
     if corners::too_many(len) {
-        return Heads::Refused(Refusal::TooMany);
+        return Err(Refusal::TooMany);
     }
-    if len == 0 {
-        return Heads::Wanted(0);
-    }
-    if !floats::is_finite_f32(radius) {
-        return Heads::Wanted(0);
-    }
-    if radius <= 0.0 {
-        return Heads::Wanted(0);
+    if (len == 0) | is_idle(radius) {
+        return Ok(0);
     }
     grid_heads(corners, radius)
 }
 
+// Whether the radius merges nothing.
+fn is_idle(radius: f32) -> bool
+    ensures { result ≡ idle radius }
+{
+    !floats::is_finite_f32(radius) | (radius <= 0.0)
+}
+
 // The cells of the grid, counted.
-fn grid_heads(corners: &[f32], radius: f32) -> Heads
+#[tactic(auto, using(crate::proofs::CallLaws::heads_plain, crate::proofs::CallLaws::heads_big, crate::proofs::CallLaws::heads_grid))]
+fn grid_heads(corners: &[f32], radius: f32) -> Result<usize, Refusal>
     ensures { result ≡ grid_heads (corners_of corners.now) radius }
 {
-    let e = bounds::of(corners);
-    if !bounds::is_finite(e) {
-        return Heads::Wanted(0);
+    let extent = Extent::of(corners);
+    if !extent.is_finite() {
+        return Ok(0);
     }
-    let inv = 1.0 / radius;
-    let across = bounds::last_cell(inv, e.left, e.right);
-    let down = bounds::last_cell(inv, e.top, e.bottom);
-    if too_many(across, down, 18446744073709551615) {
-        return Heads::Refused(Refusal::GridTooBig);
-    }
-    Heads::Wanted((across + 1) * (down + 1))
+    let cells = Cells::over(extent, radius, usize::MAX)?;
+    Ok(cells.across * cells.down)
 }
 
 // The merge itself: few enough corners, and a radius that merges.
-fn merge_within(corners: &mut [f32], radius: f32, heads: &mut [u16], links: &mut [u16]) -> Merge
+#[tactic(auto, using(crate::proofs::CallLaws::way_plain, crate::proofs::CallLaws::way_big, crate::proofs::CallLaws::way_grid, crate::proofs::CallLaws::left_by, crate::proofs::CallLaws::left_plain, crate::proofs::CallLaws::left_grid))]
+fn merge_within(
+    corners: &mut [f32],
+    radius: f32,
+    heads: &mut [u16],
+    links: &mut [u16],
+) -> Result<usize, Refusal>
     requires { Few corners.old links.old }
     ensures { Left (merging_way (corners_of corners.old) radius (length heads.old)) corners.old heads.old links.old result corners.new heads.new links.new }
 {
-    let e = bounds::of(corners);
+    let extent = Extent::of(corners);
     let r2 = radius * radius;
-    if !bounds::is_finite(e) {
-        return Merge::Merged(scan::merge(corners, r2));
+    if !extent.is_finite() {
+        return Ok(scan::merge(corners, r2));
     }
-    let inv = 1.0 / radius;
-    let across = bounds::last_cell(inv, e.left, e.right);
-    let down = bounds::last_cell(inv, e.top, e.bottom);
-    if too_many(across, down, heads.len()) {
-        return Merge::Refused(Refusal::GridTooBig);
-    }
-    let cells = Cells {
-        left: e.left,
-        top: e.top,
-        inv,
-        across: across + 1,
-        down: down + 1,
-    };
-    Merge::Merged(grid::merge(corners, r2, cells, heads, links))
-}
-
-// Whether (across + 1) * (down + 1) is above the most, without that product, which may not fit.
-fn too_many(across: usize, down: usize, most: usize) -> bool
-    ensures { result ≡ ltb most ((across + 1) * (down + 1)) }
-{
-    if most <= across {
-        return true;
-    }
-    if most <= down {
-        return true;
-    }
-    most / (across + 1) < down + 1
+    let cells = Cells::over(extent, radius, heads.len())?;
+    Ok(grid::merge(corners, r2, cells, heads, links))
 }

@@ -1,107 +1,89 @@
 // The kept corners in the 3 by 3 cells round a corner's own. Whatever the order of the cells, the lowest number is found.
 // Cells that hold a corner are noted first and walked then: the processor cannot foretell which are empty, and a note needs no branch.
-ghost use Rattle.std.specs.Prelude.{◌≡◌, ◌+◌, ◌<◌, ◌≤◌, length};
+ghost use Rattle.std.specs.Prelude.{◌≡◌, ◌+◌, ◌<◌, ◌≤◌};
 ghost use Rattle.merge.specs.Steps.{lowest_below, Roomy, Chained, in_one_cell, in_three_cells, in_nine_cells, Noted, SomeNoted, NotedMore, Sought};
 
-use crate::{Cells, Disc, chains};
+use crate::{Cells, Chains, Disc};
+
+// The cells that are to be walked: the first `count` of these.
+#[derive(Drop)]
+struct Notes {
+    cells: [usize; 9],
+    count: usize,
+}
 
 // The lowest number in the disc, or `count`.
+#[tactic(auto, using(crate::proofs::GridLaws::down_room))]
 pub fn lowest(
+    chains: &Chains,
     corners: &[f32],
-    heads: &[u16],
-    links: &[u16],
     cells: Cells,
     column: usize,
     row: usize,
     disc: Disc,
     count: usize,
 ) -> usize
-    requires fact_1 { Chained cells corners.now count heads.now links.now }
-    requires fact_2 { (column < cells.across) × (row < cells.down) }
+    requires chained { Chained cells corners.now count chains.now.heads.now chains.now.links.now }
+    requires column_in_grid { column < cells.across }
+    requires row_in_grid { row < cells.down }
     ensures { result ≡ lowest_below (in_nine_cells cells corners.now disc column row) count count }
 {
-    let mut notes = [0usize; 9];
-    let a = note_three(heads, cells, column, row, &mut notes, 0);
-    let b = note_three(heads, cells, column, row + 1, &mut notes, a);
-    let n = note_three(heads, cells, column, row + 2, &mut notes, b);
-    walk_noted(corners, heads, links, &notes, n, disc, count)
+    let mut notes = Notes {
+        cells: [0; 9],
+        count: 0,
+    };
+    notes.add_three(chains.heads, cells, column, row);
+    notes.add_three(chains.heads, cells, column, row + 1);
+    notes.add_three(chains.heads, cells, column, row + 2);
+    notes.walk(chains, corners, disc, count)
 }
 
-// Three cells of a row that is given as one more, so that 0 stands for the one before the first.
-fn note_three(
-    heads: &[u16],
-    cells: Cells,
-    column: usize,
-    row: usize,
-    notes: &mut [usize],
-    k: usize,
-) -> usize
-    requires fact_1 { Roomy cells heads.now }
-    requires fact_2 { column < cells.across }
-    requires fact_3 { Noted cells notes.old k }
-    requires fact_4 { k + 3 ≤ length notes.old }
-    ensures { NotedMore 3 cells heads.now (λ list d. in_three_cells cells list d column row) notes.old k notes.new result }
-{
-    if row == 0 {
-        return k;
+impl Notes {
+    // Three cells of a row that is given as one more, so that 0 stands for the one before the first.
+    #[tactic(auto, using(crate::proofs::GridLaws::across_room))]
+    fn add_three(&mut self, heads: &[u16], cells: Cells, column: usize, row: usize)
+        requires roomy { Roomy cells heads.now }
+        requires column_in_grid { column < cells.across }
+        requires noted { Noted cells self.old.cells self.old.count }
+        requires room_for_three { self.old.count + 3 ≤ 9 }
+        ensures { NotedMore 3 cells heads.now (λ list d. in_three_cells cells list d column row) self.old.cells self.old.count self.new.cells self.new.count }
+    {
+        if row == 0 || cells.down < row {
+            return;
+        }
+        self.add(heads, cells, column, row - 1);
+        self.add(heads, cells, column + 1, row - 1);
+        self.add(heads, cells, column + 2, row - 1);
     }
-    if cells.down < row {
-        return k;
-    }
-    let a = note_one(heads, cells, column, row - 1, notes, k);
-    let b = note_one(heads, cells, column + 1, row - 1, notes, a);
-    note_one(heads, cells, column + 2, row - 1, notes, b)
-}
 
-// One cell of a row that is there, in a column that is given as one more. A note of an empty cell is written over by the next.
-fn note_one(
-    heads: &[u16],
-    cells: Cells,
-    column: usize,
-    row: usize,
-    notes: &mut [usize],
-    k: usize,
-) -> usize
-    requires fact_1 { Roomy cells heads.now }
-    requires fact_2 { row < cells.down }
-    requires fact_3 { Noted cells notes.old k }
-    requires fact_4 { k < length notes.old }
-    ensures { NotedMore 1 cells heads.now (λ list d. in_one_cell cells list d column row) notes.old k notes.new result }
-{
-    if column == 0 {
-        return k;
+    // One cell of a row that is there, in a column that is given as one more. A note of an empty cell is written over by the next.
+    #[tactic(auto, using(crate::proofs::GridLaws::cell_room))]
+    fn add(&mut self, heads: &[u16], cells: Cells, column: usize, row: usize)
+        requires roomy { Roomy cells heads.now }
+        requires row_in_grid { row < cells.down }
+        requires noted { Noted cells self.old.cells self.old.count }
+        requires room_for_one { self.old.count < 9 }
+        ensures { NotedMore 1 cells heads.now (λ list d. in_one_cell cells list d column row) self.old.cells self.old.count self.new.cells self.new.count }
+    {
+        if column == 0 || cells.across < column {
+            return;
+        }
+        let cell = cells.cell(column - 1, row);
+        self.cells[self.count] = cell;
+        if heads[cell] != 0 {
+            self.count += 1;
+        }
     }
-    if cells.across < column {
-        return k;
-    }
-    let c = row * cells.across + (column - 1);
-    notes[k] = c;
-    if heads[c] == 0 {
-        return k;
-    }
-    k + 1
-}
 
-// The lowest number in the disc of the first n noted cells, or the best number yet where that is lower.
-fn walk_noted(
-    corners: &[f32],
-    heads: &[u16],
-    links: &[u16],
-    notes: &[usize],
-    n: usize,
-    disc: Disc,
-    best: usize,
-) -> usize
-    requires { SomeNoted corners.now heads.now links.now notes.now n }
-    ensures { Sought corners.now heads.now links.now notes.now n disc best result }
-{
-    let mut found = best;
-    let mut i = 0;
-    while i < n {
-        let c = notes[i];
-        let head = heads[c] as usize;
-        found = chains::walk(corners, links, head, disc, found);
-        i += 1;
+    // The lowest number in the disc of the noted cells, or the best number yet where that is lower.
+    fn walk(&self, chains: &Chains, corners: &[f32], disc: Disc, best: usize) -> usize
+        requires { SomeNoted corners.now chains.now.heads.now chains.now.links.now self.now.cells self.now.count }
+        ensures { Sought corners.now chains.now.heads.now chains.now.links.now self.now.cells self.now.count disc best result }
+    {
+        let mut found = best;
+        for i in 0..self.count {
+            found = chains.walk(corners, chains.heads[self.cells[i]] as usize, disc, found);
+        }
+        found
     }
-    found
 }

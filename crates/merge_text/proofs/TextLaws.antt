@@ -1,26 +1,13 @@
--- A digit, and the refusal, test by test.
-use mathlib.Core.Path.{◌≡◌, sym, ap, ◌∙◌}
-use mathlib.Core.Bool.{Bool, cond}
-use Prim.Native.Nat.{ℕ, ◌+◌, ◌/◌, ◌%◌, ◌≤◌, ◌<◌}
-use lib.Dec.{ltb}
-use borrow.Author.Tests.{lt-ltb, le-ltb}
-use Rattle.corners.specs.Corners.{most_corners}
-use Rattle.merge_text.specs.Text.{hex_digit, refusal}
+-- One number more of a list that is written from the front; at the end all of it is.
+use Rattle.std.proofs.Common.{◌≡◌, refl, ap, ◌∙◌, ℕ, List, ◌+◌, ◌<◌, length, slice_set}
+use Rattle.shapes.specs.Lists.{overwritten, tabulated}
+use Rattle.shapes.proofs.ListLaws.{overwritten-none, overwritten-more, overwritten-whole}
 
-pub digit_low : (d : ℕ) → d < 10 → 48 + d ≡ hex_digit d
-digit_low d h = sym (ap (λ (b : Bool). cond b (48 + d) (55 + d)) (lt-ltb d 10 h))
+pub none_yet : {A : Type 0} (f : ℕ → A) (l : List A) → l ≡ overwritten 0 f l
+none_yet f l = overwritten-none f l
 
-pub digit-high : (d : ℕ) → 10 ≤ d → 55 + d ≡ hex_digit d
-digit-high d h = sym (ap (λ (b : Bool). cond b (48 + d) (55 + d)) (le-ltb d 10 h))
+pub one_more : {A : Type 0} (n : ℕ) (f : ℕ → A) (l : List A) (x : A) → n < length l → x ≡ f n → slice_set (overwritten n f l) n x ≡ overwritten (n + 1) f l
+one_more n f l x h e = overwritten-more n f l h x e
 
-pub cut-file : (n : ℕ) → 0 < n % 12 → 19 ≡ refusal n
-unfolding refusal
-cut-file n h = sym (ap (λ (b : Bool). cond b 19 (cond (ltb most_corners (n / 12)) 16 0)) (lt-ltb 0 (n % 12) h))
-
-pub long-file : (n : ℕ) → n % 12 ≤ 0 → 4096 < n / 12 → 16 ≡ refusal n
-unfolding refusal
-long-file n h g = sym (ap (λ (b : Bool). cond b 19 (cond (ltb most_corners (n / 12)) 16 0)) (le-ltb 0 (n % 12) h) ∙ ap (λ (b : Bool). cond b 16 0) (lt-ltb 4096 (n / 12) g))
-
-pub good-file : (n : ℕ) → n % 12 ≤ 0 → n / 12 ≤ 4096 → 0 ≡ refusal n
-unfolding refusal
-good-file n h g = sym (ap (λ (b : Bool). cond b 19 (cond (ltb most_corners (n / 12)) 16 0)) (le-ltb 0 (n % 12) h) ∙ ap (λ (b : Bool). cond b 16 0) (le-ltb 4096 (n / 12) g))
+pub all_written : {A : Type 0} (n : ℕ) (f : ℕ → A) (l : List A) → n ≡ length l → overwritten n f l ≡ tabulated (length l) f
+all_written n f l e = ap (λ (k : ℕ). overwritten k f l) e ∙ overwritten-whole (length l) f l refl

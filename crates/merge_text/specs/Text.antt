@@ -1,11 +1,13 @@
 -- Records to numbers, and numbers to text: a record is three words, a word a bit pattern; a corner's line is its three patterns in
 -- eight upper-case hex digits each, with single spaces between, and a line feed.
-use Rattle.std.specs.Prelude.{cond, List, [], ◌∷◌, ℕ, ◌+◌, ◌*◌, ◌/◌, ◌%◌, ltb, Float}
+use Rattle.std.specs.Prelude.{cond, List, [], ◌∷◌, ℕ, ◌+◌, ◌*◌, ◌/◌, ◌%◌, ltb, Float, Result, Ok, Err}
 use Rattle.std.specs.Float.{binary32}
 use Rattle.std.specs.Float.Ieee.{of_bits}
 use Rattle.shapes.specs.Lists.{tabulated}
 use Rattle.corners.specs.Corners.{most_corners}
 use Rattle.words.specs.Words.{word_at}
+use Rattle.refusals.specs.declared.Refusal.{Refusal}
+use Rattle.refusals.specs.declared.Refusal.TheVariants.{BadLength, TooMany}
 
 -- the first n numbers of a file
 abbrev pub number_at : List ℕ → ℕ → Float
@@ -28,6 +30,6 @@ shown w end =
     digit_at w 268435456 ∷ digit_at w 16777216 ∷ digit_at w 1048576 ∷ digit_at w 65536
     ∷ digit_at w 4096 ∷ digit_at w 256 ∷ digit_at w 16 ∷ digit_at w 1 ∷ end ∷ []
 
--- the refusal of a file of so many bytes: 19 where it is not made of whole records, else 16 where there are over 4,096, else 0
-unfoldable pub refusal : ℕ → ℕ
-refusal n = cond (ltb 0 (n % 12)) 19 (cond (ltb most_corners (n / 12)) 16 0)
+-- how many numbers a file of so many bytes holds: refused where it is not made of whole records, else where there are over 4,096
+abbrev pub numbers_of : ℕ → Result ℕ Refusal
+numbers_of n = cond (ltb 0 (n % 12)) (Err BadLength) (cond (ltb most_corners (n / 12)) (Err TooMany) (Ok (n / 4)))

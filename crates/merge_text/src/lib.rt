@@ -1,54 +1,56 @@
-// What merge-print and its replay have in common: the refusal of a file by its length, records to numbers, and numbers to text.
+// What merge-print and its replay have in common: which files are taken, records to numbers, and numbers to text.
 #![tactic(auto)]
 
 ghost use Rattle.std.specs.Prelude.{◌≡◌, ◌%◌, length};
-ghost use Rattle.merge_text.specs.Text.{numbers, hex_digit, shown, refusal};
+ghost use Rattle.merge_text.specs.Text.{numbers, hex_digit, shown, numbers_of};
 
-// The number that refuses a file of n bytes, or 0.
-pub fn refused(n: usize) -> u64
-    ensures { result ≡ refusal n }
+use refusals::Refusal;
+
+/// How many numbers a file of so many bytes holds; refused where it is cut within a record, and where there are more than 4,096 records.
+pub fn numbers_in(bytes: usize) -> Result<usize, Refusal>
+    ensures { result ≡ numbers_of bytes }
 {
-    if 0 < n % 12 {
-        return 19;
+    if 0 < bytes % 12 {
+        return Err(Refusal::BadLength);
     }
-    if 4096 < n / 12 {
-        return 16;
+    if 4096 < bytes / 12 {
+        return Err(Refusal::TooMany);
     }
-    0
+    Ok(bytes / 4)
 }
 
-// The numbers that the bytes stand for, as many as the list takes.
+/// The numbers that the bytes stand for, as many as the list takes.
+#[tactic(auto, using(crate::proofs::TextLaws::none_yet, crate::proofs::TextLaws::one_more, crate::proofs::TextLaws::all_written))]
 pub fn read_numbers(bytes: &[u8], list: &mut [f32])
     ensures { list.new ≡ numbers (length list.old) bytes.now }
 {
-    let mut i = 0;
-    while i < list.len() {
-        list[i] = floats::f32_from_bits(words::word(bytes, 4 * i));
-        i += 1;
+    for (i, x) in list.iter_mut().enumerate() {
+        *x = floats::f32_from_bits(words::word(bytes, 4 * i));
     }
 }
 
-// A bit pattern in eight hex digits, and the byte that ends it.
-pub fn hex(w: u32, end: u8) -> [u8; 9]
-    ensures { result ≡ shown w end }
+/// A bit pattern in eight hex digits, and the byte that ends it.
+pub fn hex(word: u32, end: u8) -> [u8; 9]
+    ensures { result ≡ shown word end }
 {
-    let a = digit(w / 268435456);
-    let b = digit(w / 16777216);
-    let c = digit(w / 1048576);
-    let d = digit(w / 65536);
-    let e = digit(w / 4096);
-    let f = digit(w / 256);
-    let g = digit(w / 16);
-    let h = digit(w / 1);
-    [a, b, c, d, e, f, g, h, end]
+    [
+        digit(word / 0x1000_0000),
+        digit(word / 0x100_0000),
+        digit(word / 0x10_0000),
+        digit(word / 0x1_0000),
+        digit(word / 0x1000),
+        digit(word / 0x100),
+        digit(word / 0x10),
+        digit(word),
+        end,
+    ]
 }
 
 fn digit(n: u32) -> u8
     ensures { result ≡ hex_digit (n % 16) }
 {
-    let d = (n % 16) as u8;
-    if d < 10 {
-        return 48 + d;
+    match (n % 16) as u8 {
+        d if d < 10 => b'0' + d,
+        d => 55 + d,
     }
-    55 + d
 }

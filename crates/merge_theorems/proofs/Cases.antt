@@ -7,17 +7,8 @@ use Rattle.floats.specs.Whole.{floor}
 use Rattle.corners.specs.Corners.{corners_of, flat}
 use Rattle.merge.specs.Meets.{near, neighbours, box_of, plain_meets, grid_meets, grid_of}
 use Rattle.merge.specs.Fold.{merged}
-use Rattle.merge.specs.Call.{way_of, list_after}
-
--- a list by its bit patterns, and back
-abbrev floats : List ℕ → List Float
-floats l = map (λ (b : ℕ). of_bits binary32 b) l
-
-abbrev bits : List Float → List ℕ
-bits l = map (λ (x : Float). to_bits binary32 x) l
-
-abbrev after : List ℕ → ℕ → List ℕ
-after l radius = bits (list_after (floats l) (way_of (floats l) (of_bits binary32 radius) 16384 4096))
+use Rattle.merge.specs.Call.{way_of}
+use Rattle.merge_theorems.specs.Bridged.{floats, bits, after, bridged, bridged_once, bridged_twice, MergedOnce, MergedAgain}
 
 abbrev by-grid : List ℕ → ℕ → List ℕ
 by-grid l radius = bits (flat (merged (grid_meets (grid_of (of_bits binary32 radius) (corners_of (floats l))) (mul binary32 (of_bits binary32 radius) (of_bits binary32 radius))) (corners_of (floats l))))
@@ -46,38 +37,28 @@ parted-scan : by-scan parted 0x40000000 ≡ 0 ∷ 0x42480000 ∷ 0x3F800000 ∷ 
 unfolding parted of_bits to_bits merged near neighbours box_of mul add sub div le lt to_unsigned floor
 parted-scan = refl
 
--- Radius 2, (0, 0), (3, 0) of strength 1 and (1.5, 0) of strength 5, which takes the first one's place: near the second now, but already placed.
--- So once keeps two, and twice keeps one. Two corners are never enough for this: `twice-as-once` of Theorems.
-bridged : List ℕ
-bridged = 0 ∷ 0 ∷ 0x3F800000 ∷ 0x40400000 ∷ 0 ∷ 0x3F800000 ∷ 0x3FC00000 ∷ 0 ∷ 0x40A00000 ∷ []
-
-bridged-once : List ℕ
-bridged-once = 0x3FC00000 ∷ 0 ∷ 0x40A00000 ∷ 0x40400000 ∷ 0 ∷ 0x3F800000 ∷ []
-
-bridged-twice : List ℕ
-bridged-twice = 0x3FC00000 ∷ 0 ∷ 0x40A00000 ∷ []
-
-once-grid : by-grid bridged 0x40000000 ≡ bridged-once
-unfolding bridged bridged-once of_bits to_bits merged near neighbours box_of mul add sub div le lt to_unsigned floor
+-- by either rule, a second merge of the bridged corners keeps one less
+once-grid : by-grid bridged 0x40000000 ≡ bridged_once
+unfolding bridged bridged_once of_bits to_bits merged near neighbours box_of mul add sub div le lt to_unsigned floor
 once-grid = refl
 
-twice-grid : by-grid bridged-once 0x40000000 ≡ bridged-twice
-unfolding bridged-once bridged-twice of_bits to_bits merged near neighbours box_of mul add sub div le lt to_unsigned floor
+twice-grid : by-grid bridged_once 0x40000000 ≡ bridged_twice
+unfolding bridged_once bridged_twice of_bits to_bits merged near neighbours box_of mul add sub div le lt to_unsigned floor
 twice-grid = refl
 
-once-scan : by-scan bridged 0x40000000 ≡ bridged-once
-unfolding bridged bridged-once of_bits to_bits merged near neighbours box_of mul add sub div le lt to_unsigned floor
+once-scan : by-scan bridged 0x40000000 ≡ bridged_once
+unfolding bridged bridged_once of_bits to_bits merged near neighbours box_of mul add sub div le lt to_unsigned floor
 once-scan = refl
 
-twice-scan : by-scan bridged-once 0x40000000 ≡ bridged-twice
-unfolding bridged-once bridged-twice of_bits to_bits merged near neighbours box_of mul add sub div le lt to_unsigned floor
+twice-scan : by-scan bridged_once 0x40000000 ≡ bridged_twice
+unfolding bridged_once bridged_twice of_bits to_bits merged near neighbours box_of mul add sub div le lt to_unsigned floor
 twice-scan = refl
 
 -- the same by the public call, the second time on the two corners that are left
-called-once : after bridged 0x40000000 ≡ bridged-once ++ (0 ∷ 0 ∷ 0 ∷ [])
-unfolding bridged bridged-once way_of of_bits to_bits merged near neighbours box_of mul add sub div le lt to_unsigned floor
+pub called-once : MergedOnce
+unfolding bridged bridged_once way_of of_bits to_bits merged near neighbours box_of mul add sub div le lt to_unsigned floor
 called-once = refl
 
-called-twice : after bridged-once 0x40000000 ≡ bridged-twice ++ (0 ∷ 0 ∷ 0 ∷ [])
-unfolding bridged-once bridged-twice way_of of_bits to_bits merged near neighbours box_of mul add sub div le lt to_unsigned floor
+pub called-twice : MergedAgain
+unfolding bridged_once bridged_twice way_of of_bits to_bits merged near neighbours box_of mul add sub div le lt to_unsigned floor
 called-twice = refl

@@ -8,7 +8,7 @@ use lib.ListN.{length}
 use lib.Ieee.{Float}
 use Rattle.corners.specs.Corners.{whole, too_many, corners_of}
 use Rattle.corners.specs.declared.Corner.{Corner}
-use Rattle.merge.specs.declared.Merge.TheVariants.{Merged}
+use Rattle.std.specs.Prelude.{Ok}
 use Rattle.refusals.specs.declared.Refusal.TheVariants.{BadLength, TooMany, BadScratch, GridTooBig}
 use Rattle.merge.specs.Meets.{box_of, finite_box, grid_of, cells_across, cells_down}
 use Rattle.merge.specs.Fold.{merged}
@@ -18,7 +18,7 @@ use Rattle.merge_theorems.specs.Promises.{grid_rule, scan_rule, Promised, Gridde
 use Rattle.merge_theorems.proofs.Theorems.{separated-stay, merging-is-local, nothing-invented, order-kept, strong-held}
 
 promised : (list : List Float) (way : Way) (meets : Corner → Corner → Bool) (kept : List Corner)
-    → answer_of list way ≡ Merged (length kept) → list_after list way ≡ packed list kept → kept ≡ merged meets (corners_of list) → Promised list way meets kept
+    → answer_of list way ≡ Ok (length kept) → list_after list way ≡ packed list kept → kept ≡ merged meets (corners_of list) → Promised list way meets kept
 promised list way meets kept a b e =
     record {
       answers = a;

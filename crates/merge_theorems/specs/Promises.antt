@@ -1,13 +1,12 @@
 -- For whoever relies on the public call: what is promised of a call that merged, on the grid (`GriddedPromised`) or by the plain scan (`ScannedPromised`).
 -- The corners that were lent are `corners_of list`, and `kept` are those that the call leaves at the front of the list. The words are those of merge's
 -- specs/Claims.antt: corners are named by their numbers from 0, and `place_at` is the number of the place that a corner went to.
-use Rattle.std.specs.Prelude.{◌≡◌, Bool, List, ℕ, ◌<◌, length, Float}
+use Rattle.std.specs.Prelude.{◌≡◌, Bool, true, List, ℕ, ◌<◌, length, Float, Ok}
 use Rattle.std.specs.Float.{binary32}
 use Rattle.std.specs.Float.Ieee.{mul}
 use Rattle.corners.specs.declared.Corner.{Corner}
-use Rattle.corners.specs.Corners.{corners_of}
-use Rattle.merge.specs.declared.Merge.TheVariants.{Merged}
-use Rattle.merge.specs.Meets.{grid_of, plain_meets, grid_meets}
+use Rattle.corners.specs.Corners.{corners_of, corner_at}
+use Rattle.merge.specs.Meets.{Grid, near, neighbours, grid_of, plain_meets, grid_meets}
 use Rattle.merge.specs.Fold.{merged}
 use Rattle.merge.specs.Call.{Way, scanned, gridded, way_of, answer_of, packed, list_after}
 use Rattle.merge.specs.Claims.{Separated, Local, Source, Ordered, Guarded}
@@ -19,10 +18,14 @@ grid_rule list radius = grid_meets (grid_of radius (corners_of list)) (mul binar
 abbrev pub scan_rule : Float → Corner → Corner → Bool
 scan_rule radius = plain_meets (mul binary32 radius radius)
 
+-- corners that are near lie in cells that touch
+abbrev pub Touching : Grid → Float → List Corner → Type 0
+Touching g r2 l = (i j : ℕ) → i < length l → j < length l → near r2 (corner_at l i) (corner_at l j) ≡ true → neighbours g (corner_at l i) (corner_at l j) ≡ true
+
 -- ---- the promises
 pub record Promised (list : List Float) (way : Way) (meets : Corner → Corner → Bool) (kept : List Corner) : Type 0 where
   -- the call answers how many are kept, and leaves them at the front of the list, with zeros behind
-  pub answers : answer_of list way ≡ Merged (length kept)
+  pub answers : answer_of list way ≡ Ok (length kept)
   pub leaves : list_after list way ≡ packed list kept
   -- the kept corners are the fold of specs/Fold.antt
   pub folded : kept ≡ merged meets (corners_of list)

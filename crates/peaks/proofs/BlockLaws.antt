@@ -2,8 +2,8 @@
 use mathlib.Core.Path.{◌≡◌, sym, ap, ◌∙◌}
 use mathlib.Core.Bool.{Bool, true, false, ◌&&◌}
 use mathlib.Core.List.{List}
-use Prim.Native.Nat.{ℕ, ◌+◌, ◌-◌, ◌*◌, ◌/◌, ◌%◌, ◌≤◌, ◌<◌}
-use native.Mathlib.Nat.{suc-mul, mul-le-mul, mul-le-mul_right, le_trans, zero-mul, add_assoc, div-add-mod'}
+use Prim.Native.Nat.{ℕ, ◌+◌, ◌-◌, ◌*◌, ◌%◌, ◌≤◌, ◌<◌}
+use native.Mathlib.Nat.{suc-mul, mul-le-mul, mul-le-mul_right, le_trans, zero-mul, add_assoc}
 use native.Mathlib.Numerals.{add-one}
 use native.Mathlib.Omega.{arith}
 use lib.Arith.{digits_mod, digits_div}
@@ -65,30 +65,35 @@ module _ (values : List Float) (start width side : ℕ) (test : Float → Bool) 
 pub few : (r n side : ℕ) → r ≤ n → n ≤ 17 → side ≤ 17 → r * side ≤ 289
 few r n side h l m = mul-le-mul (le_trans h l) m
 
+all-four : {a b c d a' b' c' d' : Bool} → a ≡ a' → b ≡ b' → c ≡ c' → d ≡ d' → (a && b && c && d) ≡ (a' && b' && c' && d')
+all-four {a} {b} {c} {d} {a'} {b'} {c'} {d'} e f g h =
+    ap (λ (z : Bool). z && b && c && d) e ∙ ap (λ (z : Bool). a' && z && c && d) f ∙ ap (λ (z : Bool). a' && b' && z && d) g ∙ ap (λ (z : Bool). a' && b' && c' && z) h
+
 -- ---- a run in fours, and what is left behind them
-module _ (values : List Float) (start n : ℕ) (test : Float → Bool) where
-  abbrev whole : ℕ
-  whole = n / 4 * 4
+module _ (values : List Float) (start : ℕ) (p : Float → Bool) where
+  abbrev passes : ℕ → Bool
+  passes i = p (run_at values start i)
 
-  abbrev in_fours : Bool
-  in_fours = every whole (λ j. test (block_at values start 4 4 j))
+  pub none-passed : every (0 * 4) passes ≡ true
+  none-passed = every-none passes
 
-  abbrev in_rest : Bool
-  in_rest = every (n - whole) (λ i. test (run_at values (start + whole) i))
-
-  run-cut : every n (λ i. test (run_at values start i)) ≡ (in_fours && in_rest)
-  run-cut =
-      ap (λ (k : ℕ). every k (λ i. test (run_at values start i))) (let e : n ≡ whole + (n - whole) = omega arith in e) ∙ every-cut (λ i. test (run_at values start i)) whole (n - whole)
-      ∙ ap (λ (z : Bool). z && every (n - whole) (λ i. test (run_at values start (whole + i))))
-      (every-same whole (λ i. test (run_at values start i)) (λ j. test (block_at values start 4 4 j)) (λ j h. ap (λ (k : ℕ). test (get_or values k nan)) (place j (j / 4 * 4) (j % 4) (div-add-mod' j 4))))
-      ∙ ap (λ (z : Bool). in_fours && z)
-      (every-same (n - whole) (λ i. test (run_at values start (whole + i))) (λ i. test (run_at values (start + whole) i)) (λ i h. ap (λ (k : ℕ). test (get_or values k nan)) (sym (add_assoc start whole i))))
+  -- four tests at once, one after the other from r · 4 on
+  pub four-more : (r : ℕ) {a b c d : Bool} → a ≡ p (get_or values (start + r * 4 + 0) nan) → b ≡ p (get_or values (start + r * 4 + 1) nan) → c ≡ p (get_or values (start + r * 4 + 2) nan) → d ≡ p (get_or values (start + r * 4 + 3) nan)
+      → every (r * 4) passes ≡ true → every ((r + 1) * 4) passes ≡ (a && b && c && d)
+  unfolding every
+  four-more r e f g h so-far =
+      ap (λ (n : ℕ). every n passes) (let q : (r + 1) * 4 ≡ r * 4 + 4 = omega arith in q) ∙ every-cut passes (r * 4) 4 ∙ ap (λ (z : Bool). z && every 4 (λ j. passes (r * 4 + j))) so-far
+      ∙ sym (all-four (e ∙ place 0) (f ∙ place 1) (g ∙ place 2) (h ∙ place 3))
     where
-      place : (j q r : ℕ) → q + r ≡ j → start + j ≡ start + q + r
-      place j q r e = omega arith
+      at : ℕ → Float
+      at j = run_at values start (r * 4 + j)
 
-  pub fours-fail : in_fours ≡ false → false ≡ every n (λ i. test (run_at values start i))
-  fours-fail e = sym (run-cut ∙ ap (λ (z : Bool). z && in_rest) e)
+      place : (j : ℕ) → p (get_or values (start + r * 4 + j) nan) ≡ p (at j)
+      place j = ap (λ (k : ℕ). p (get_or values k nan)) (add_assoc start (r * 4) j)
 
-  pub fours-pass : in_fours ≡ true → in_rest ≡ every n (λ i. test (run_at values start i))
-  fours-pass e = sym (run-cut ∙ ap (λ (z : Bool). z && in_rest) e)
+  pub run-more : (i : ℕ) {b : Bool} → b ≡ passes i → every i passes ≡ true → every (i + 1) passes ≡ b
+  unfolding every
+  run-more i e so-far = ap (λ (n : ℕ). every n passes) (add-one i) ∙ ap (λ (z : Bool). z && passes i) so-far ∙ sym e
+
+  pub run-lost : (m n : ℕ) → m ≤ n → every m passes ≡ false → false ≡ every n passes
+  run-lost m n h e = sym (ap (λ (k : ℕ). every k passes) (let q : n ≡ m + (n - m) = omega arith in q) ∙ every-lost passes m (n - m) e)

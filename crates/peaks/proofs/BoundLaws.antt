@@ -3,8 +3,8 @@ use mathlib.Core.Path.{◌≡◌, refl, sym, ap, ◌∙◌, subst}
 use mathlib.Core.Logic.{⊎_elim}
 use mathlib.Core.Bool.{Bool, true, false, ◌&&◌, not, cond, false≢true}
 use mathlib.Core.List.{List, [], ◌∷◌, ◌++◌, append-nil}
-use Prim.Native.Nat.{ℕ, zero, suc, ◌+◌, ◌-◌, ◌*◌, ◌/◌, ◌%◌, ◌≤◌, ◌<◌}
-use native.Mathlib.Nat.{mul_comm, suc-mul, mul-le-mul, mul-le-mul_right, div-add-mod', mod-lt, div-lt_iff_lt-mul, not-suc-le-zero, eq-or-lt_of_le}
+use Prim.Native.Nat.{ℕ, zero, suc, ◌+◌, ◌-◌, ◌*◌, ◌/◌, ◌%◌, ◌≤◌, ◌<◌, min}
+use native.Mathlib.Nat.{add-zero, mul_comm, suc-mul, mul-le-mul, mul-le-mul_right, div-add-mod', mod-lt, div-lt_iff_lt-mul, not-suc-le-zero, eq-or-lt_of_le}
 use native.Mathlib.Numerals.{add-one}
 use native.Mathlib.Omega.{arith}
 use lib.Arith.{digits_div, digits_mod}
@@ -13,7 +13,8 @@ use lib.ListN.{length, length-append}
 use borrow.Author.Tests.{leb-true, ltb-true, eqb-true, eq-eqb, ne_eqb}
 use Rattle.peaks.specs.Peak.{Scan, border, inside, is_peak}
 use Rattle.peaks.specs.Call.{chosen, peak_at, peaks_of}
-use Rattle.peaks.specs.Steps.{Sound, covers}
+use Rattle.peaks.specs.Sound.{Sound}
+use Rattle.peaks.specs.Steps.{covers}
 use Rattle.shapes.proofs.TestLaws.{first_of, second-of}
 use Rattle.peaks.proofs.Theorems.{is-inside, peaks-apart}
 
@@ -165,3 +166,16 @@ product-most a b w f g h = mul-le-mul {n₂ = 4104} {m₂ = 4104} (side a f) (si
 
     side : (k : ℕ) → k ≤ 4096 → (k + w) / (w + 1) ≤ 4104
     side k l = rest k ((k + w) / (w + 1) * (w + 1)) ((k + w) % (w + 1)) ((k + w) / (w + 1)) l (sym (div-add-mod' (k + w) (w + 1))) (le-mul ((k + w) / (w + 1)))
+
+-- a side cut into lengths of w + 1, the last of them a part
+pub rounded-up : (x w : ℕ) → x / (w + 1) + min 1 (x % (w + 1)) ≡ (x + w) / (w + 1)
+rounded-up x w = rest (x % (w + 1)) refl
+  where
+    rest : (r : ℕ) → x % (w + 1) ≡ r → x / (w + 1) + min 1 (x % (w + 1)) ≡ (x + w) / (w + 1)
+    rest zero e =
+        ap (λ (k : ℕ). x / (w + 1) + k) (let q : min 1 (x % (w + 1)) ≡ 0 = omega (arith, e) in q)
+        ∙ sym (ap (λ (k : ℕ). k / (w + 1)) (let q : x + w ≡ x / (w + 1) * (w + 1) + w = omega (arith, e, div-add-mod' x (w + 1)) in q) ∙ digits_div (x / (w + 1)) (let l : w < w + 1 = omega arith in l) ∙ sym (add-zero (x / (w + 1))))
+    rest (suc r) e =
+        ap (λ (k : ℕ). x / (w + 1) + k) (let q : min 1 (x % (w + 1)) ≡ 1 = omega (arith, e) in q)
+        ∙ sym (ap (λ (k : ℕ). k / (w + 1)) (let q : x + w ≡ suc (x / (w + 1)) * (w + 1) + r = omega (arith, e, div-add-mod' x (w + 1), suc-mul (x / (w + 1)) (w + 1)) in q)
+        ∙ digits_div (suc (x / (w + 1))) (let l : r < w + 1 = omega (arith, e, mod-lt x {m = w + 1} (omega arith)) in l) ∙ sym (add-one (x / (w + 1))))

@@ -1,66 +1,24 @@
 -- The public call's tests one after the other, and what each way leaves behind.
 use mathlib.Core.Path.{◌≡◌, refl, sym, ap, ◌∙◌, subst}
-use mathlib.Core.Bool.{Bool, true, false, ◌&&◌, not, cond, and-false}
+use mathlib.Core.Bool.{Bool, true, false, ◌&&◌, not, cond}
 use mathlib.Core.List.{List}
 use Prim.Native.Nat.{ℕ, ◌/◌, ◌≤◌, ◌<◌}
 use lib.Dec.{T, leb}
 use lib.ListN.{length}
 use lib.Ieee.{Float}
 use lib.Ieee.Scale.{finite}
-use borrow.Author.Tests.{lt-leb, le-leb, leb-true, lt-ltb, le-ltb}
+use borrow.Author.Tests.{leb-true, lt-ltb, le-ltb}
 use Rattle.corners.specs.Corners.{whole}
 use Rattle.imageview.specs.Image.{sizes_fit}
 use Rattle.imageview.proofs.ImageLaws.{counted}
-use Rattle.peaks.specs.declared.Peaks.{Peaks}
 use Rattle.refusals.specs.declared.Refusal.{Refusal}
 use Rattle.refusals.specs.declared.Refusal.TheVariants.{BadImage, BadRadius, BadLimit, BadLength, TooMany}
-use Rattle.peaks.specs.declared.Peaks.TheVariants.{Found, Refused}
+use Rattle.std.specs.Prelude.{Result, Ok, Err}
 use Rattle.peaks.specs.Peak.{Scan}
 use Rattle.peaks.specs.Call.{Way, refused, found, peaks_of, radii_fit, way_of, answer_of, out_after, Done}
-use Rattle.peaks.specs.Steps.{Sound, all_recorded, rest_of, Recorded}
+use Rattle.peaks.specs.Sound.{Sound}
+use Rattle.peaks.specs.Steps.{all_recorded, rest_of, Recorded}
 use Rattle.shapes.proofs.TestLaws.{first_of, second-of}
-
--- ---- the test of the radii
-abbrev five : Bool → Bool → Bool → Bool → Bool → Bool
-five a b c d e = a && b && c && d && e
-
-second : (a c d e : Bool) → five a false c d e ≡ false
-second true c d e = refl
-second false c d e = refl
-
-third : (a b d e : Bool) → five a b false d e ≡ false
-third a b d e = ap (λ (z : Bool). z && d && e) (and-false (a && b))
-
-fourth : (a b c e : Bool) → five a b c false e ≡ false
-fourth a b c e = ap (λ (z : Bool). z && e) (and-false (a && b && c))
-
-module _ (ring window refine : ℕ) where
-  abbrev fits : Bool
-  fits = five (leb 1 ring) (leb ring 10) (leb 1 window) (leb window 8) (leb refine 7)
-
-  pub no-ring : ring < 1 → false ≡ fits
-  no-ring h = sym (ap (λ (z : Bool). five z (leb ring 10) (leb 1 window) (leb window 8) (leb refine 7)) (lt-leb 1 ring h))
-
-  pub wide-ring : 10 < ring → false ≡ fits
-  wide-ring h = sym (ap (λ (z : Bool). five (leb 1 ring) z (leb 1 window) (leb window 8) (leb refine 7)) (lt-leb ring 10 h) ∙ second (leb 1 ring) (leb 1 window) (leb window 8) (leb refine 7))
-
-  pub no-window : window < 1 → false ≡ fits
-  no-window h = sym (ap (λ (z : Bool). five (leb 1 ring) (leb ring 10) z (leb window 8) (leb refine 7)) (lt-leb 1 window h) ∙ third (leb 1 ring) (leb ring 10) (leb window 8) (leb refine 7))
-
-  pub wide-window : 8 < window → false ≡ fits
-  wide-window h = sym (ap (λ (z : Bool). five (leb 1 ring) (leb ring 10) (leb 1 window) z (leb refine 7)) (lt-leb window 8 h) ∙ fourth (leb 1 ring) (leb ring 10) (leb 1 window) (leb refine 7))
-
-  pub by-refine : 1 ≤ ring → ring ≤ 10 → 1 ≤ window → window ≤ 8 → leb refine 7 ≡ fits
-  by-refine a b c d =
-      sym (ap (λ (z : Bool). five z (leb ring 10) (leb 1 window) (leb window 8) (leb refine 7)) (le-leb 1 ring a)
-      ∙ ap (λ (z : Bool). five true z (leb 1 window) (leb window 8) (leb refine 7)) (le-leb ring 10 b)
-      ∙ ap (λ (z : Bool). five true true z (leb window 8) (leb refine 7)) (le-leb 1 window c)
-      ∙ ap (λ (z : Bool). five true true true z (leb refine 7)) (le-leb window 8 d))
-
--- the parameters of the call
-abbrev pub scan_for : List Float → ℕ → ℕ → ℕ → ℕ → ℕ → Float → ℕ → Scan
-scan_for values width height ring window refine threshold cluster =
-    record { values = values; width = width; height = height; ring = ring; window = window; refine = refine; threshold = threshold; cluster = cluster }
 
 -- what the tests leave
 pub sound : (s : Scan) → sizes_fit (length s.values) s.width s.height ≡ true → radii_fit s ≡ true → Sound s
@@ -82,67 +40,17 @@ sound s e f =
       refine-most = leb-true s.refine 7 (second-of (a && b && c && d) (leb s.refine 7) f);
     }
 
--- ---- the ways, test by test
-module _ (s : Scan) (room : ℕ) where
-  abbrev shaped : Way
-  shaped = cond (not (whole room)) (refused BadLength) (rest_of s room)
-
-  abbrev limited : Way
-  limited = cond (not (finite s.threshold)) (refused BadLimit) shaped
-
-  abbrev ranged : Way
-  ranged = cond (not (radii_fit s)) (refused BadRadius) limited
-
-  tested : way_of s room ≡ cond (not (sizes_fit (length s.values) s.width s.height)) (refused BadImage) ranged
-  unfolding way_of
-  tested = refl
-
-  pub way-image : sizes_fit (length s.values) s.width s.height ≡ false → way_of s room ≡ refused BadImage
-  way-image e = tested ∙ ap (λ (z : Bool). cond (not z) (refused BadImage) ranged) e
-
-  module _ (image : sizes_fit (length s.values) s.width s.height ≡ true) where
-    is-image : way_of s room ≡ ranged
-    is-image = tested ∙ ap (λ (z : Bool). cond (not z) (refused BadImage) ranged) image
-
-    pub way-radius : radii_fit s ≡ false → way_of s room ≡ refused BadRadius
-    way-radius e = is-image ∙ ap (λ (z : Bool). cond (not z) (refused BadRadius) limited) e
-
-    module _ (radii : radii_fit s ≡ true) where
-      is-ranged : way_of s room ≡ limited
-      is-ranged = is-image ∙ ap (λ (z : Bool). cond (not z) (refused BadRadius) limited) radii
-
-      pub way-limit : finite s.threshold ≡ false → way_of s room ≡ refused BadLimit
-      way-limit e = is-ranged ∙ ap (λ (z : Bool). cond (not z) (refused BadLimit) shaped) e
-
-      module _ (limit : finite s.threshold ≡ true) where
-        is-limited : way_of s room ≡ shaped
-        is-limited = is-ranged ∙ ap (λ (z : Bool). cond (not z) (refused BadLimit) shaped) limit
-
-        pub way-length : whole room ≡ false → way_of s room ≡ refused BadLength
-        way-length e = is-limited ∙ ap (λ (z : Bool). cond (not z) (refused BadLength) (rest_of s room)) e
-
-        module _ (records : whole room ≡ true) where
-          pub way-rest : way_of s room ≡ rest_of s room
-          way-rest = is-limited ∙ ap (λ (z : Bool). cond (not z) (refused BadLength) (rest_of s room)) records
-
--- ---- what a way leaves behind
-pub done_refused : {s : Scan} {out : List Float} {r : Refusal} → way_of s (length out) ≡ refused r → Done s out (Refused r) out
-done_refused {s} {out} e = record { answers = sym (ap answer_of e); leaves = sym (ap (out_after s out) e) }
-
-pub done-rest : {s : Scan} {out out' : List Float} {answer : Peaks} → way_of s (length out) ≡ rest_of s (length out) → Recorded s out answer out' → Done s out answer out'
-done-rest {s} {out} e t = record { answers = t.answers ∙ sym (ap answer_of e); leaves = t.leaves ∙ sym (ap (out_after s out) e) }
-
 -- ---- the last test, of the room for the peaks
 module _ (s : Scan) (out : List Float) where
   abbrev rest : Bool → Way
   rest b = cond b (refused TooMany) (found (peaks_of s))
 
-  pub recorded-none : length out / 3 < length (peaks_of s) → Recorded s out (Refused TooMany) out
+  pub recorded-none : length out / 3 < length (peaks_of s) → Recorded s out (Err TooMany) out
   recorded-none h =
       let e = ap rest (lt-ltb (length out / 3) (length (peaks_of s)) h) in
       record { answers = sym (ap answer_of e); leaves = sym (ap (out_after s out) e) }
 
-  pub recorded-all : {out' : List Float} {n : ℕ} → n ≤ length out / 3 → n ≡ length (peaks_of s) → out' ≡ all_recorded s out → Recorded s out (Found n) out'
+  pub recorded-all : {out' : List Float} {n : ℕ} → n ≤ length out / 3 → n ≡ length (peaks_of s) → out' ≡ all_recorded s out → Recorded s out (Ok n) out'
   recorded-all h f g =
       let e = ap rest (le-ltb (length out / 3) (length (peaks_of s)) (subst (λ (m : ℕ). m ≤ length out / 3) f h)) in
-      record { answers = ap Found f ∙ sym (ap answer_of e); leaves = g ∙ sym (ap (out_after s out) e) }
+      record { answers = ap Ok f ∙ sym (ap answer_of e); leaves = g ∙ sym (ap (out_after s out) e) }

@@ -5,8 +5,8 @@ use Prim.Native.Nat.{ℕ}
 use lib.ListN.{set, replicate}
 use lib.Ieee.{Float, binary32, of_bits, to_bits, of_int, lt, le}
 use Rattle.imageview.specs.Image.{sizes_fit}
-use Rattle.peaks.specs.declared.Peaks.{Peaks}
-use Rattle.peaks.specs.declared.Peaks.TheVariants.{Found, Refused}
+use Rattle.std.specs.Prelude.{Result, Ok, Err}
+use Rattle.refusals.specs.declared.Refusal.{Refusal}
 use Rattle.refusals.specs.declared.Refusal.TheVariants.{TooMany}
 use Rattle.shapes.specs.Tests.{every}
 use Rattle.peaks.specs.Peak.{Scan, value_at, inside, neighbour, count, beats, highest, positives, is_peak}
@@ -26,7 +26,7 @@ spot = set (set (replicate 49 0) 23 0x3F800000) 24 0x40000000
 abbrev scan : List ℕ → ℕ → ℕ → Scan
 scan values threshold cluster = record { values = floats values; width = 7; height = 7; ring = 1; window = 1; refine = 0; threshold = of_bits binary32 threshold; cluster = cluster }
 
-abbrev answer : List ℕ → ℕ → ℕ → ℕ → Peaks
+abbrev answer : List ℕ → ℕ → ℕ → ℕ → Result ℕ Refusal
 answer values threshold cluster room = answer_of (way_of (scan values threshold cluster) room)
 
 -- an output of 1.0s afterwards
@@ -34,7 +34,7 @@ abbrev left : List ℕ → ℕ → ℕ → ℕ → List ℕ
 left values threshold cluster room = bits (out_after (scan values threshold cluster) (floats (replicate room 0x3F800000)) (way_of (scan values threshold cluster) room))
 
 -- one peak: x, y and value, and the rest stays
-spot-found : answer spot 0 1 6 ≡ Found 1
+spot-found : answer spot 0 1 6 ≡ Ok 1
 unfolding spot way_of sizes_fit peaks_of chosen is_peak inside highest every beats neighbour value_at positives count lt le of_bits
 spot-found = refl
 
@@ -43,17 +43,17 @@ unfolding spot way_of sizes_fit peaks_of chosen is_peak inside highest every bea
 spot-written = refl
 
 -- no room for it
-spot-refused : answer spot 0 1 0 ≡ Refused TooMany
+spot-refused : answer spot 0 1 0 ≡ Err TooMany
 unfolding spot way_of sizes_fit peaks_of chosen is_peak inside highest every beats neighbour value_at positives count lt le of_bits
 spot-refused = refl
 
 -- one positive value beside it is not two; the pixel itself is not counted
-spot-alone : answer spot 0 2 6 ≡ Found 0
+spot-alone : answer spot 0 2 6 ≡ Ok 0
 unfolding spot way_of sizes_fit peaks_of chosen is_peak inside highest every beats neighbour value_at positives count lt le of_bits
 spot-alone = refl
 
 -- a value equal to the threshold does not exceed it
-spot-low : answer spot 0x40000000 1 6 ≡ Found 0
+spot-low : answer spot 0x40000000 1 6 ≡ Ok 0
 unfolding spot way_of sizes_fit peaks_of chosen is_peak inside highest every beats neighbour value_at positives count lt le of_bits
 spot-low = refl
 
@@ -61,7 +61,7 @@ spot-low = refl
 dark : List ℕ
 dark = set (replicate 49 0xBF800000) 24 0xBF000000
 
-dark-none : answer dark 0xC0000000 0 6 ≡ Found 0
+dark-none : answer dark 0xC0000000 0 6 ≡ Ok 0
 unfolding dark way_of sizes_fit peaks_of chosen is_peak inside highest every beats neighbour value_at positives count lt le of_bits
 dark-none = refl
 
@@ -77,11 +77,11 @@ tie-first = refl
 blocked : ℕ → List ℕ
 blocked k = set spot k 0x7FC00000
 
-blocked-before : answer (blocked 16) 0 1 6 ≡ Found 0
+blocked-before : answer (blocked 16) 0 1 6 ≡ Ok 0
 unfolding blocked spot way_of sizes_fit peaks_of chosen is_peak inside highest every beats neighbour value_at positives count lt le of_bits
 blocked-before = refl
 
-blocked-after : answer (blocked 32) 0 1 6 ≡ Found 0
+blocked-after : answer (blocked 32) 0 1 6 ≡ Ok 0
 unfolding blocked spot way_of sizes_fit peaks_of chosen is_peak inside highest every beats neighbour value_at positives count lt le of_bits
 blocked-after = refl
 
@@ -89,7 +89,7 @@ blocked-after = refl
 rim : List ℕ
 rim = set (replicate 49 0) 22 0x40000000
 
-rim-none : answer rim 0 0 6 ≡ Found 0
+rim-none : answer rim 0 0 6 ≡ Ok 0
 unfolding rim way_of sizes_fit peaks_of chosen is_peak inside highest every beats neighbour value_at positives count lt le of_bits
 rim-none = refl
 

@@ -5,6 +5,7 @@ use Prim.Native.Nat.{ℕ, zero, suc, ◌+◌, ◌≤◌, ◌<◌}
 use native.Mathlib.Nat.{add-zero, add-suc, add_assoc}
 use native.Mathlib.Numerals.{add-one}
 use native.Mathlib.Omega.{arith}
+use Rattle.std.specs.Int.{from_bool}
 use Rattle.peaks.specs.Peak.{count}
 
 module _ (p : ℕ → Bool) where
@@ -36,3 +37,11 @@ unfolding count
 count_same zero p q e = refl
 count_same (suc n) p q e =
     ap (λ (z : ℕ). z + cond (p n) 1 0) (count_same n p q (λ j h. e j (omega arith))) ∙ ap (λ (z : Bool). count n q + cond z 1 0) (e n (omega arith))
+
+-- one test more, counted as a number
+pub count-more-by : (p : ℕ → Bool) (n : ℕ) {sum c : ℕ} → sum ≡ count n p → c ≡ from_bool (p n) → sum + c ≡ count (n + 1) p
+count-more-by p n {sum} {c} e f = ap (λ (z : ℕ). z + c) e ∙ ap (λ (z : ℕ). count n p + z) (f ∙ from_bool-cond (p n)) ∙ sym (count-more p n)
+  where
+    from_bool-cond : (b : Bool) → from_bool b ≡ cond b 1 0
+    from_bool-cond true = refl
+    from_bool-cond false = refl

@@ -6,7 +6,8 @@ use native.Mathlib.Numerals.{add-one}
 use native.Mathlib.Omega.{arith}
 use lib.ListN.{length}
 use Rattle.peaks.specs.Peak.{Scan, side}
-use Rattle.peaks.specs.Steps.{Sound, Framed, BlockFits}
+use Rattle.peaks.specs.Sound.{Sound}
+use Rattle.peaks.specs.Steps.{Framed, BlockFits}
 use Rattle.peaks.proofs.WindowLaws.{index_of}
 
 -- m values of a row from column x on

@@ -5,13 +5,13 @@ use mathlib.Core.List.{List, [], ◌∷◌, ◌++◌, append-nil, append_assoc}
 use Prim.Native.Nat.{ℕ, zero, suc, ◌+◌, ◌-◌, ◌*◌, ◌/◌, ◌≤◌, ◌<◌}
 use native.Mathlib.Numerals.{add-one}
 use native.Mathlib.Omega.{arith}
-use lib.ListN.{length, get_or, take}
+use lib.ListN.{length, get_or, take, length-append}
 use lib.Seq.{take-suc}
 use lib.Ieee.{Float, nan, lt, le}
-use Rattle.peaks.specs.Call.{chosen}
-use Rattle.peaks.specs.Steps.{run_at, between, stands_out, any_above, gathered, Added, Spaced, Grouped}
+use Rattle.peaks.specs.Listed.{between}
+use Rattle.peaks.specs.Steps.{run_at, stands_out, any_above, gathered}
 use Rattle.shapes.proofs.TestLaws.{some_at}
-use Rattle.peaks.proofs.ListLaws.{between_none, between-cut, between-clear, between-most, chosen-most, chosen-below, added_is, added_more, added-at}
+use Rattle.peaks.proofs.ListLaws.{between_none, between-cut, between-clear, between-most, between-at}
 
 module _ (values : List Float) (floor : Float) (start : ℕ) where
   abbrev out : ℕ → Bool
@@ -47,69 +47,37 @@ module _ (values : List Float) (floor : Float) (start : ℕ) where
   eight-more : (n : ℕ) → between start (8 * suc n) out ≡ between start (8 * n) out ++ group n
   eight-more n = ap (λ (k : ℕ). between start k out) (let e : 8 * suc n ≡ 8 * n + 8 = omega arith in e) ∙ between-cut out start (8 * n) 8
 
-  group-more : (n : ℕ) (b : Bool) → any n ≡ b → gathered values floor start (chosen n any) ≡ between start (8 * n) out
-      → gathered values floor start (chosen n any ++ cond b (n ∷ []) []) ≡ between start (8 * suc n) out
-  group-more n true e f = gathered-one (chosen n any) n ∙ ap (λ (z : List ℕ). z ++ group n) f ∙ sym (eight-more n)
+  group-more : (n : ℕ) (b : Bool) → any n ≡ b → gathered values floor start (between 0 n any) ≡ between start (8 * n) out
+      → gathered values floor start (between 0 n any ++ cond b (n ∷ []) []) ≡ between start (8 * suc n) out
+  group-more n true e f = gathered-one (between 0 n any) n ∙ ap (λ (z : List ℕ). z ++ group n) f ∙ sym (eight-more n)
   group-more n false e f =
-      ap (gathered values floor start) (append-nil (chosen n any)) ∙ f ∙ sym (append-nil (between start (8 * n) out)) ∙ ap (λ (z : List ℕ). between start (8 * n) out ++ z) (sym (quiet n e))
+      ap (gathered values floor start) (append-nil (between 0 n any)) ∙ f ∙ sym (append-nil (between start (8 * n) out)) ∙ ap (λ (z : List ℕ). between start (8 * n) out ++ z) (sym (quiet n e))
       ∙ sym (eight-more n)
 
-  gathered-groups : (n : ℕ) → gathered values floor start (chosen n any) ≡ between start (8 * n) out
-  unfolding chosen gathered
+  gathered-groups : (n : ℕ) → gathered values floor start (between 0 n any) ≡ between start (8 * n) out
+  unfolding between gathered
   gathered-groups zero = sym (between_none out start)
-  gathered-groups (suc n) = group-more n (any n) refl (gathered-groups n)
+  gathered-groups (suc n) =
+      ap (λ (k : ℕ). gathered values floor start (between 0 n any ++ cond (any k) (k ∷ []) [])) (let e : 0 + n ≡ n = omega arith in e) ∙ group-more n (any n) refl (gathered-groups n)
 
--- one of the groups listed
-pub group-spaced : {values : List Float} {groups list list' : List ℕ} {start n m r : ℕ} {more : List ℕ} → Grouped values groups list start n m → Added list list' m r more → (j : ℕ) → j < n → r ≤ m + 8 * j
-    → Spaced values list' (start + 8 * get_or groups j 0) 8 r
-group-spaced f a j h l =
-    record {
-      first = let q = f.first in omega arith;
-      last = let q = f.last j h in omega arith;
-      most = f.most;
-      long = a.long ∙ f.long;
-      room = let q = f.room in omega arith;
-    }
+  -- and what is left behind them
+  pub all-gathered : (n : ℕ) → gathered values floor start (between 0 (n / 8) any) ++ between (start + 8 * (n / 8)) (n - 8 * (n / 8)) out ≡ between start n out
+  all-gathered n =
+      ap (λ (z : List ℕ). z ++ between (start + 8 * (n / 8)) (n - 8 * (n / 8)) out) (gathered-groups (n / 8))
+      ∙ sym (between-cut out start (8 * (n / 8)) (n - 8 * (n / 8))) ∙ ap (λ (k : ℕ). between start k out) (let e : 8 * (n / 8) + (n - 8 * (n / 8)) ≡ n = omega arith in e)
 
--- ---- the groups that are listed fit
-module _ {values : List Float} (floor : Float) {groups groups' list : List ℕ} {start n m r : ℕ} (f : Spaced values list start n m) (small : n ≤ 256)
-    (a : Added groups groups' 0 r (chosen (n / 8) (any_above values floor start))) where
-  few-groups : r ≤ n / 8
-  few-groups = let e = a.total in let h = chosen-most (any_above values floor start) (n / 8) in omega arith
+  pub gathered-most : (groups : List ℕ) → length (gathered values floor start groups) ≤ 8 * length groups
+  unfolding gathered
+  gathered-most [] = omega arith
+  gathered-most (g ∷ l) = let h : length (gathered values floor start l) ≤ 8 * length l = gathered-most l in omega (arith, between-most out (start + 8 * g) 8, length-append (group g) (gathered values floor start l))
 
-  pub groups-fit : length groups ≡ 32 → Grouped values groups' list start r m
-  groups-fit e =
-      record {
-        first = f.first;
-        most = f.most;
-        few = let h = few-groups in omega arith;
-        given = let h = few-groups in let l = a.long in omega arith;
-        long = f.long;
-        room = let h = few-groups in let l = f.room in omega arith;
-        last =
-            λ j h.
-            let t = added-at a j (omega arith) h in
-            let l : get_or groups' j 0 < n / 8 = subst (λ (z : ℕ). z < n / 8) (sym t.0) (chosen-below (any_above values floor start) (n / 8) (j - 0) t.1) in
-            let q = f.last in
-            omega arith;
-      }
+-- the groups listed: those of n pixels are at most n / 8, and each lies in the n
+module _ (has : ℕ → Bool) (n : ℕ) {groups : List ℕ} (e : groups ≡ between 0 (n / 8) has) where
+  pub groups-few : 8 * length groups ≤ n
+  groups-few = let q = ap length e in omega (arith, between-most has 0 (n / 8))
 
-  -- all that they have, and what is left behind them
-  module _ {list' : List ℕ} {t : ℕ} (b : Added list list' m t (gathered values floor start (take r groups'))) where
-    all-groups : gathered values floor start (take r groups') ≡ between start (8 * (n / 8)) (stands_out values floor)
-    all-groups = ap (gathered values floor start) a.listed ∙ gathered-groups values floor start (n / 8)
-
-    pub rest-spaced : Spaced values list' (start + 8 * (n / 8)) (n - 8 * (n / 8)) t
-    rest-spaced =
-        record {
-          first = let h = f.first in omega arith;
-          last = let h = f.last in omega arith;
-          most = f.most;
-          long = b.long ∙ f.long;
-          room = let e = b.total ∙ ap (λ (z : List ℕ). m + length z) all-groups in let h = between-most (stands_out values floor) start (8 * (n / 8)) in let l = f.room in omega arith;
-        }
-
-    pub all-gathered : {list'' : List ℕ} {u : ℕ} → Added list' list'' t u (between (start + 8 * (n / 8)) (n - 8 * (n / 8)) (stands_out values floor)) → Added list list'' m u (between start n (stands_out values floor))
-    all-gathered c =
-        added_is (ap (λ (z : List ℕ). z ++ between (start + 8 * (n / 8)) (n - 8 * (n / 8)) (stands_out values floor)) all-groups
-        ∙ sym (between-cut (stands_out values floor) start (8 * (n / 8)) (n - 8 * (n / 8))) ∙ ap (λ (k : ℕ). between start k (stands_out values floor)) (let e : 8 * (n / 8) + (n - 8 * (n / 8)) ≡ n = omega arith in e)) (added_more b c)
+  pub group-inside : (j : ℕ) → j < length groups → 8 * get_or groups j 0 + 8 ≤ n
+  group-inside j h =
+      let q = (between-at has 0 (n / 8) j (subst (λ (z : List ℕ). j < length z) e h)).1 in
+      let w : get_or groups j 0 < n / 8 = subst (λ (z : List ℕ). get_or z j 0 < n / 8) (sym e) (let l : get_or (between 0 (n / 8) has) j 0 < n / 8 = omega arith in l) in
+      omega arith

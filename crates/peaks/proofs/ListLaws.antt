@@ -7,10 +7,11 @@ use Prim.Native.Nat.{ℕ, zero, suc, ◌+◌, ◌-◌, ◌≤◌, ◌<◌}
 use native.Mathlib.Nat.{add-zero, add-suc, add_assoc, not-suc-le-zero}
 use native.Mathlib.Numerals.{add-one}
 use native.Mathlib.Omega.{arith}
-use lib.ListN.{length, get_or, set, drop, take, length-append, length-set, get_or-append}
-use lib.Seq.{take-suc, take-suc-set, take-set-le, drop-set-lt, take-take, drop-drop, drop-append-le, length-take-le, get_or-append-add, get_or-take, get_or-drop, take_at, drop_at}
+use lib.ListN.{length, get_or, set, drop, take, length-append, get_or-append}
+use lib.Seq.{take_all, take-suc, take-suc-set, take-set-le, drop-set-lt, take-take, drop-drop, drop-append-le, length-take-le, get_or-append-add, get_or-take, get_or-drop, take_at, drop_at}
 use Rattle.peaks.specs.Call.{chosen}
-use Rattle.peaks.specs.Steps.{between, picked, Added}
+use Rattle.std.specs.Int.{from_bool}
+use Rattle.peaks.specs.Listed.{between, picked, TellsListed}
 use Rattle.peaks.proofs.PeakLaws.{lt-or-le}
 
 abbrev one : Bool → ℕ → List ℕ
@@ -23,6 +24,19 @@ one-length false k = refl
 grown : (l : List ℕ) (b : Bool) (k n : ℕ) → length l ≤ n → length (l ++ one b k) ≤ suc n
 grown l true k n h = omega (arith, length-append l (k ∷ []))
 grown l false k n h = omega (arith, length-append l [])
+
+pub bit-most : (b : Bool) → from_bool b ≤ 1
+bit-most true = omega arith
+bit-most false = omega arith
+
+pub length-taken : (n : ℕ) (list : List ℕ) → n ≤ length list → length (take n list) ≡ n
+length-taken n list h = length-take-le n list h
+
+pub taken-at : (n : ℕ) (list : List ℕ) (i : ℕ) → i < n → get_or (take n list) i 0 ≡ get_or list i 0
+taken-at n list i h = get_or-take n list i 0 h
+
+pub take-again : (m n : ℕ) (list : List ℕ) → m ≤ n → take m (take n list) ≡ take m list
+take-again m n list h = take-take m n list h
 
 module _ (p : ℕ → Bool) where
   pub between_none : (k : ℕ) → between k 0 p ≡ []
@@ -132,85 +146,56 @@ module _ (p : ℕ → Bool) where
       last false = refl
 
 -- ---- a list that grows
-pub added_none : (list : List ℕ) (m : ℕ) → m ≤ length list → Added list list m m []
-added_none list m h = record { long = refl; few = h; total = sym (add-zero m); listed = sym (append-nil (take m list)) }
+-- one number is written behind the first r, and counts or not
+pushed : (list front : List ℕ) (r k : ℕ) (b : Bool) → take r list ≡ front → r < length list → take (r + from_bool b) (set list r k) ≡ front ++ one b k
+pushed list front r k true e h = ap (λ (n : ℕ). take n (set list r k)) (add-one r) ∙ take-suc-set list r k h ∙ ap (λ (z : List ℕ). z ++ (k ∷ [])) e
+pushed list front r k false e h = ap (λ (n : ℕ). take n (set list r k)) (add-zero r) ∙ take-set-le r list r k (let q : r ≤ r = omega arith in q) ∙ e ∙ sym (append-nil front)
 
-pub added_is : {list list' : List ℕ} {m r : ℕ} {more more' : List ℕ} → more ≡ more' → Added list list' m r more → Added list list' m r more'
-added_is {list} {list'} {m} {r} e a = subst (Added list list' m r) e a
+-- it counts where it has p
+module _ (p : ℕ → Bool) (numbers : List ℕ) (len : ℕ) {c : ℕ} {b : Bool} (count : c ≡ from_bool b) (room : len < length numbers) where
+  pub added-more : (front : List ℕ) (from i : ℕ) → b ≡ p (from + i) → take len numbers ≡ front ++ between from i p → take (len + c) (set numbers len (from + i)) ≡ front ++ between from (i + 1) p
+  added-more front from i e f =
+      ap (λ (n : ℕ). take (len + n) (set numbers len (from + i))) (count ∙ ap from_bool e) ∙ pushed numbers (front ++ between from i p) len (from + i) (p (from + i)) f room
+      ∙ append_assoc front (between from i p) (one (p (from + i)) (from + i)) ∙ ap (λ (z : List ℕ). front ++ z) (sym (between_more p from i))
 
--- one element is written behind it, and counts or not
-pub added-one : {list list' : List ℕ} {m r : ℕ} {more : List ℕ} → Added list list' m r more → r < length list → (k c : ℕ) (b : Bool) → c ≡ cond b 1 0 → Added list (set list' r k) m (r + c) (more ++ one b k)
-added-one {list} {list'} {m} {r} {more} a h k c b e =
-    record {
-      long = length-set list' r k ∙ a.long;
-      few = a.few;
-      total = ap (λ (n : ℕ). n + c) a.total ∙ add_assoc m (length more) c ∙ ap (λ (n : ℕ). m + n) (ap (λ (n : ℕ). length more + n) (e ∙ sym (one-length b k)) ∙ sym (length-append more (one b k)));
-      listed = ap (λ (n : ℕ). take (r + n) (set list' r k)) e ∙ go b ∙ append_assoc (take m list) more (one b k);
-    }
-  where
-    go : (z : Bool) → take (r + cond z 1 0) (set list' r k) ≡ (take m list ++ more) ++ one z k
-    go true = ap (λ (n : ℕ). take n (set list' r k)) (add-one r) ∙ take-suc-set list' r k (subst (λ (n : ℕ). r < n) (sym a.long) h) ∙ ap (λ (z : List ℕ). z ++ (k ∷ [])) a.listed
-    go false = ap (λ (n : ℕ). take n (set list' r k)) (add-zero r) ∙ take-set-le r list' r k (let q : r ≤ r = omega arith in q) ∙ a.listed ∙ sym (append-nil (take m list ++ more))
-
-pub added_more : {list list' list'' : List ℕ} {m r t : ℕ} {more rest : List ℕ} → Added list list' m r more → Added list' list'' r t rest → Added list list'' m t (more ++ rest)
-added_more {list} {list'} {list''} {m} {r} {t} {more} {rest} a b =
-    record {
-      long = b.long ∙ a.long;
-      few = a.few;
-      total = b.total ∙ ap (λ (n : ℕ). n + length rest) a.total ∙ add_assoc m (length more) (length rest) ∙ ap (λ (n : ℕ). m + n) (sym (length-append more rest));
-      listed = b.listed ∙ ap (λ (z : List ℕ). z ++ rest) a.listed ∙ append_assoc (take m list) more rest;
-    }
-
-module _ {list list' : List ℕ} {m r : ℕ} {more : List ℕ} (a : Added list list' m r more) where
-  front_length : length (take m list) ≡ m
-  front_length = length-take-le m list a.few
-
-  -- what was listed before stays
-  pub added-front : take m list' ≡ take m list
-  added-front = sym (take-take m r list' (let e = a.total in omega arith)) ∙ ap (take m) a.listed ∙ take_at (take m list) more m front_length
-
-  -- and what follows it is new
-  pub added-behind : drop m (take r list') ≡ more
-  added-behind = ap (drop m) a.listed ∙ drop_at (take m list) more m front_length
-
-  pub added-at : (i : ℕ) → m ≤ i → i < r → (get_or list' i 0 ≡ get_or more (i - m) 0) × (i - m < length more)
-  added-at i h l = (
-    sym (get_or-take r list' i 0 l) ∙ ap (λ (z : List ℕ). get_or z i 0) a.listed
-        ∙ ap (λ (n : ℕ). get_or (take m list ++ more) n 0) (let e : i ≡ m + (i - m) = omega arith in e ∙ ap (λ (n : ℕ). n + (i - m)) (sym front_length)) ∙ get_or-append-add (take m list) more (i - m) 0,
-    let e = a.total in omega arith,
-  )
-
--- of what is new some is picked
-pub added-picked : {list list' list'' : List ℕ} {m r t : ℕ} {more more' : List ℕ} (p : ℕ → Bool) → picked more p ≡ more' → Added list list' m r more → Added list' list'' m t (picked (drop m (take r list')) p) → Added list list'' m t more'
-added-picked {list} {list'} {list''} {m} {r} {t} {more} {more'} p f a c =
-    let e : picked (drop m (take r list')) p ≡ more' = ap (λ (z : List ℕ). picked z p) (added-behind a) ∙ f in
-    record {
-      long = c.long ∙ a.long;
-      few = a.few;
-      total = c.total ∙ ap (λ (z : List ℕ). m + length z) e;
-      listed = c.listed ∙ ap (λ (z : List ℕ). z ++ picked (drop m (take r list')) p) (added-front a) ∙ ap (λ (z : List ℕ). take m list ++ z) e;
-    }
+  pub kept-more : (list : List ℕ) (first i k : ℕ) → first ≤ i → i < length list → k ≡ get_or list i 0 → b ≡ p k → take len numbers ≡ take first list ++ picked (drop first (take i list)) p
+      → take (len + c) (set numbers len k) ≡ take first list ++ picked (drop first (take (i + 1) list)) p
+  kept-more list first i k h l q e f =
+      ap (λ (n : ℕ). take (len + n) (set numbers len k)) (count ∙ ap from_bool e) ∙ pushed numbers (take first list ++ picked (drop first (take i list)) p) len k (p k) f room
+      ∙ append_assoc (take first list) (picked (drop first (take i list)) p) (one (p k) k)
+      ∙ ap (λ (z : List ℕ). take first list ++ z) (sym (picked-one p (drop first (take i list)) k) ∙ ap (λ (z : List ℕ). picked z p) (sym longer))
+    where
+      longer : drop first (take (i + 1) list) ≡ drop first (take i list) ++ (k ∷ [])
+      longer =
+          ap (λ (n : ℕ). drop first (take n list)) (add-one i) ∙ ap (drop first) (take-suc list i 0 l) ∙ ap (λ (z : ℕ). drop first (take i list ++ (z ∷ []))) (sym q)
+          ∙ drop-append-le first (take i list) (k ∷ []) (subst (λ (n : ℕ). first ≤ n) (sym (length-take-le i list (let u : i ≤ length list = omega arith in u))) h)
 
 -- kept in place: what is written lies before what is still to be read
-pub kept-none : (p : ℕ → Bool) (list : List ℕ) (m : ℕ) → m ≤ length list → Added list list m m (picked (drop m (take m list)) p)
+pub kept-none : (p : ℕ → Bool) (list : List ℕ) (m : ℕ) → m ≤ length list → take m list ≡ take m list ++ picked (drop m (take m list)) p
 kept-none p list m h =
-    added_is (sym (ap (λ (z : List ℕ). picked z p) (ap (λ (z : List ℕ). drop m z) (sym (append-nil (take m list))) ∙ drop_at (take m list) [] m (length-take-le m list h)) ∙ picked_none p)) (added_none list m h)
+    sym (append-nil (take m list)) ∙ ap (λ (z : List ℕ). take m list ++ z) (sym (picked_none p) ∙ ap (λ (z : List ℕ). picked z p) (sym (ap (λ (z : List ℕ). drop m z) (sym (append-nil (take m list))) ∙ drop_at (take m list) [] m (length-take-le m list h))))
 
 pub kept_at : (list list' : List ℕ) (i : ℕ) → drop i list' ≡ drop i list → get_or list' i 0 ≡ get_or list i 0
 kept_at list list' i d =
     ap (λ (n : ℕ). get_or list' n 0) (sym (add-zero i)) ∙ sym (get_or-drop i list' 0 0) ∙ ap (λ (z : List ℕ). get_or z 0 0) d ∙ get_or-drop i list 0 0 ∙ ap (λ (n : ℕ). get_or list n 0) (add-zero i)
 
-pub kept-one : {list list' : List ℕ} {m r : ℕ} (p : ℕ → Bool) (i : ℕ) → m ≤ i → i < length list → Added list list' m r (picked (drop m (take i list)) p) → r ≤ i → drop i list' ≡ drop i list
-    → (k c : ℕ) → k ≡ get_or list' i 0 → c ≡ cond (p k) 1 0 → Added list (set list' r k) m (r + c) (picked (drop m (take (i + 1) list)) p) × (drop (i + 1) (set list' r k) ≡ drop (i + 1) list)
-kept-one {list} {list'} {m} {r} p i h l a g d k c e f = (
-  added_is (sym (picked-one p (drop m (take i list)) k) ∙ ap (λ (z : List ℕ). picked z p) (sym longer)) (added-one a (let q : r < length list = omega arith in q) k c (p k) f),
-  drop-set-lt (i + 1) list' r k (let q : r < i + 1 = omega arith in q) ∙ sym (drop-drop 1 i list') ∙ ap (drop 1) d ∙ drop-drop 1 i list,
-)
-  where
-    same : get_or list i 0 ≡ k
-    same = sym (kept_at list list' i d) ∙ sym e
+pub to_come : (list list' : List ℕ) (r i k : ℕ) → r ≤ i → drop i list' ≡ drop i list → drop (i + 1) (set list' r k) ≡ drop (i + 1) list
+to_come list list' r i k h d = drop-set-lt (i + 1) list' r k (let q : r < i + 1 = omega arith in q) ∙ sym (drop-drop 1 i list') ∙ ap (drop 1) d ∙ drop-drop 1 i list
 
-    longer : drop m (take (i + 1) list) ≡ drop m (take i list) ++ (k ∷ [])
-    longer =
-        ap (λ (n : ℕ). drop m (take n list)) (add-one i) ∙ ap (drop m) (take-suc list i 0 l) ∙ ap (λ (z : ℕ). drop m (take i list ++ (z ∷ []))) same
-        ∙ drop-append-le m (take i list) (k ∷ []) (subst (λ (n : ℕ). m ≤ n) (sym (length-take-le i list (let q : i ≤ length list = omega arith in q))) h)
+-- all passed, where what was listed goes by another name
+pub kept-all : (answers : ℕ → Bool → Type 0) (p : ℕ → Bool) {list list' now : List ℕ} (first i : ℕ) → list ≡ list' → length list ≤ i → (TellsListed answers p list first → now ≡ take first list ++ picked (drop first (take i list)) p)
+    → TellsListed answers p list' first → now ≡ take first list' ++ picked (drop first list') p
+kept-all answers p {list} {list'} {now} first i e h f =
+    subst (λ (z : List ℕ). TellsListed answers p z first → now ≡ take first z ++ picked (drop first z) p) e (λ t. f t ∙ ap (λ (z : List ℕ). take first list ++ picked (drop first z) p) (take_all i list h))
+
+-- what is picked of what was added behind a list
+pub picked-behind : (front new : List ℕ) {list list' : List ℕ} (p : ℕ → Bool) (n : ℕ) → n ≡ length front → list ≡ front ++ new → list' ≡ take n list ++ picked (drop n list) p → list' ≡ front ++ picked new p
+picked-behind front new p n e f g =
+    g ∙ ap (λ (z : List ℕ). take n z ++ picked (drop n z) p) f ∙ ap (λ (z : List ℕ). z ++ picked (drop n (front ++ new)) p) (take_at front new n (sym e)) ∙ ap (λ (z : List ℕ). front ++ picked z p) (drop_at front new n (sym e))
+
+-- a number of what was added
+pub behind-at : (front new : List ℕ) {list : List ℕ} (n i : ℕ) → n ≡ length front → list ≡ front ++ new → n ≤ i → i < length list → (get_or list i 0 ≡ get_or new (i - n) 0) × (i - n < length new)
+behind-at front new n i e f h l = (
+  ap (λ (z : List ℕ). get_or z i 0) f ∙ ap (λ (j : ℕ). get_or (front ++ new) j 0) (let q : i ≡ length front + (i - n) = omega arith in q) ∙ get_or-append-add front new (i - n) 0,
+  let q = ap length f ∙ length-append front new in omega arith,
+)

@@ -1,7 +1,6 @@
 -- Pixels that beat the three above and the three below: where those lie, and that a peak is one of them.
-use mathlib.Core.Path.{◌≡◌, refl, sym, ap, ◌∙◌, subst}
+use mathlib.Core.Path.{◌≡◌, refl, sym, ap, ◌∙◌}
 use mathlib.Core.Bool.{Bool, true, false, ◌&&◌}
-use mathlib.Core.List.{List}
 use Prim.Native.Nat.{ℕ, suc, ◌+◌, ◌-◌, ◌*◌, ◌/◌, ◌%◌, ◌≤◌, ◌<◌}
 use native.Mathlib.Nat.{suc-mul, mul-le-mul_right}
 use native.Mathlib.Omega.{arith}
@@ -9,17 +8,11 @@ use lib.Arith.{digits_div, digits_mod}
 use lib.ListN.{length, get_or}
 use lib.Ieee.{Float, nan, lt, le}
 use Rattle.peaks.specs.Peak.{Scan, side, highest, is_peak}
-use Rattle.peaks.specs.Steps.{block_at, beats_six, Framed, Within, Amid}
+use Rattle.peaks.specs.Steps.{block_at, beats_six, Framed}
 use Rattle.shapes.proofs.TestLaws.{every-miss}
 use Rattle.peaks.proofs.PeakLaws.{not-highest}
 use Rattle.peaks.proofs.WindowLaws.{corner-is, lost-above, lost-below}
-use Rattle.peaks.proofs.FrameLaws.{in_row, size-most, rows-least}
-
--- a pixel listed has its six
-pub amid-pixel : {values : List Float} {width : ℕ} {list : List ℕ} {first last : ℕ} → Amid values width list first last → (i : ℕ) → first ≤ i → i < last → (k : ℕ) → k ≡ get_or list i 0
-    → (width + 1 ≤ k) × (k + width + 2 ≤ length values) × (length values ≤ 16777216)
-amid-pixel {values} {width} {list} f i h l k e =
-    (subst (λ (z : ℕ). width + 1 ≤ z) (sym e) (f.up i h l), subst (λ (z : ℕ). z + width + 2 ≤ length values) (sym e) (f.down i h l), f.size)
+use Rattle.peaks.proofs.FrameLaws.{in_row, rows-least}
 
 -- a row and a pixel more lie before one whose window is in the response
 pub rim : (s : Scan) (x y : ℕ) → Framed s x y → s.width + 1 ≤ y * s.width + x
@@ -29,30 +22,14 @@ rim s x y f =
     let c = f.sound.window-least in
     omega arith
 
--- as all do that are inside the border
-pub amid-within : {s : Scan} {floor : Float} {y : ℕ} {list : List ℕ} {first last : ℕ} → Within s floor y list first last → Amid s.values s.width list first last
-amid-within {s} {floor} {y} {list} {first} {last} w =
-    record {
-      order = w.order;
-      most = w.most;
-      long = w.long;
-      size = size-most s w.sound;
-      up =
-          λ i h l.
-          let r = w.row_of i h l in
-          let a = rim s (get_or list i 0 - y * s.width) y (w.here i h l).framed in
-          omega arith;
-      down =
-          λ i h l.
-          let r = w.row_of i h l in
-          let f = (w.here i h l).framed in
-          let g = w.sound.window-least in
-          let a = in_row s (get_or list i 0 - y * s.width) (suc y) 2 w.sound (omega (arith, f.right)) (omega (arith, f.below)) in
-          below (get_or list i 0) (y * s.width) (suc y * s.width) s.width r (suc-mul y s.width) a;
-    }
+-- and after it
+pub rim-below : (s : Scan) (x y : ℕ) → Framed s x y → y * s.width + x + s.width + 2 ≤ length s.values
+rim-below s x y f =
+    let g = f.sound.window-least in
+    below (y * s.width) (suc y * s.width) (suc-mul y s.width) (in_row s x (suc y) 2 f.sound (omega (arith, f.right)) (omega (arith, f.below)))
   where
-    below : (k q p width : ℕ) → q ≤ k → p ≡ q + width → p + (k - q) + 2 ≤ length s.values → k + width + 2 ≤ length s.values
-    below k q p width a b c = omega arith
+    below : (q p : ℕ) → p ≡ q + s.width → p + x + 2 ≤ length s.values → q + x + s.width + 2 ≤ length s.values
+    below q p e h = omega arith
 
 -- one of two tests fails
 pub one_of : {P : Type 0} (a b : Bool) → (a && b) ≡ false → (a ≡ false → P) → (b ≡ false → P) → P

@@ -1,28 +1,41 @@
 -- The peaks of some columns of a row, and what of the row they leave.
 use mathlib.Core.Path.{◌≡◌, refl, sym, ap, ◌∙◌, subst}
-use mathlib.Core.Bool.{Bool, true, false, ◌&&◌}
+use mathlib.Core.Bool.{Bool, true, false, ◌&&◌, ◌||◌, false≢true}
+use lib.Dec.{leb, ltb}
+use borrow.Author.Tests.{leb-true, leb-false, ltb-true}
 use mathlib.Core.List.{List, ◌++◌, append-nil}
 use Prim.Native.Nat.{ℕ, ◌+◌, ◌-◌, ◌*◌, ◌/◌, ◌%◌, ◌≤◌, ◌<◌}
 use native.Mathlib.Nat.{mul_comm, div-add-mod', mod-lt, div-lt_iff_lt-mul}
 use native.Mathlib.Omega.{arith}
 use lib.Arith.{digits_div, digits_mod}
-use lib.ListN.{length, get_or, take, drop}
-use lib.Ieee.{Float, nan, lt, le}
+use lib.ListN.{length, get_or, length-append}
+use lib.Ieee.{nan, lt, le}
 use Rattle.peaks.specs.Peak.{Scan, border, floor_of, is_peak}
 use Rattle.peaks.specs.Call.{peak_at}
-use Rattle.peaks.specs.Steps.{Sound, run_at, Bordered, InsideBorder, between, picked, stands_out, beats_six, may_peak, Added, Spaced, Within, Part}
+use Rattle.peaks.specs.Sound.{Sound}
+use Rattle.peaks.specs.Listed.{between, picked}
+use Rattle.peaks.specs.Steps.{run_at, Bordered, InsideBorder, stands_out, beats_six, may_peak, Part}
 use Rattle.shapes.proofs.TestLaws.{every-miss}
-use Rattle.peaks.proofs.PeakLaws.{not-highest, not-above, right-out, within}
+use Rattle.peaks.proofs.PeakLaws.{not-highest, not-above, right-out, above-out, below_out, within}
 use Rattle.peaks.proofs.WindowLaws.{lost-left, lost-right}
 use Rattle.peaks.proofs.FrameLaws.{in_row, size-most}
-use Rattle.peaks.proofs.ListLaws.{between-cut, between-clear, between-most, between-at, picked-between, picked_both, added_none, added_is, added-at, added-picked}
-use Rattle.peaks.proofs.NarrowLaws.{one_of, rim, six-peak}
+use Rattle.peaks.proofs.ListLaws.{between-cut, between-clear, between-most, picked-between, picked_both}
+use Rattle.peaks.proofs.NarrowLaws.{one_of, rim, rim-below, six-peak}
 
 -- one of three tests fails
 three : {P : Type 0} (a b c : Bool) → (a && b && c) ≡ false → (a ≡ false → P) → (b ≡ false → P) → (c ≡ false → P) → P
 three false b c e f g h = f refl
 three true false c e f g h = g refl
 three true true c e f g h = h e
+
+-- one of two tests holds, or the second fails
+either : {P : Type 0} (a b : Bool) → (a || b) ≡ true → (a ≡ true → P) → (b ≡ true → P) → P
+either true b e f g = f refl
+either false b e f g = g e
+
+neither : (a b : Bool) → (a || b) ≡ false → b ≡ false
+neither true b e = absurd (false≢true (sym e))
+neither false b e = e
 
 module _ (s : Scan) where
   at-pixel : (x y : ℕ) → x < s.width → peak_at s (y * s.width + x) ≡ is_peak s x y
@@ -33,94 +46,62 @@ module _ (s : Scan) where
   by_number y k h l = ap (peak_at s) (let e : k ≡ y * s.width + (k - y * s.width) = omega arith in e) ∙ at-pixel (k - y * s.width) y (omega arith)
 
   -- what does not stand out is no peak
-  out-peak : (floor : Float) (x y : ℕ) → floor ≡ floor_of s → 1 ≤ s.window → s.window ≤ x → s.window ≤ y → stands_out s.values floor (y * s.width + x) ≡ false → is_peak s x y ≡ false
-  out-peak floor x y e one a b f =
+  out-peak : (x y : ℕ) → 1 ≤ s.window → s.window ≤ x → s.window ≤ y → stands_out s.values (floor_of s) (y * s.width + x) ≡ false → is_peak s x y ≡ false
+  out-peak x y one a b f =
       let at = y * s.width + x in
       let v = get_or s.values at nan in
-      three (lt floor v) (lt (get_or s.values (at - 1) nan) v) (le (get_or s.values (at + 1) nan) v) f
-      (λ g. sym (not-above s x y (ap (λ (z : Float). lt z v) (sym e) ∙ g)))
+      three (lt (floor_of s) v) (lt (get_or s.values (at - 1) nan) v) (le (get_or s.values (at + 1) nan) v) f
+      (λ g. sym (not-above s x y g))
       (λ g. sym (not-highest s x y (sym (lost-left s x y a b (every-miss (λ i. lt (run_at s.values (at - s.window) i) v) s.window (s.window - 1) (omega arith)
       (ap (λ (k : ℕ). lt (get_or s.values k nan) v) (let q : at - s.window + (s.window - 1) ≡ at - 1 = omega arith in q) ∙ g))))))
       (λ g. sym (not-highest s x y (sym (lost-right s x y a b (every-miss (λ i. le (run_at s.values (at + 1) i) v) s.window 0 (omega arith)
       (ap (λ (k : ℕ). le (get_or s.values k nan) v) (let q : at + 1 + 0 ≡ at + 1 = omega arith in q) ∙ g))))))
 
 -- ---- some columns of a row
-module _ {s : Scan} {floor : Float} {y start n : ℕ} (b : Bordered s floor y start n) where
+module _ {s : Scan} {y start n : ℕ} (b : Bordered s y start n) where
   pub columns-fit : (y * s.width + start + n + 1 ≤ length s.values) × (length s.values ≤ 16777216)
   columns-fit =
       let w = b.sound.window-least in
       let h = in_row s start y (n + 1) b.sound (let r = b.right in omega arith) (let r = b.below in omega arith) in
       (omega arith, size-most s b.sound)
 
-  pub columns-spaced : {list : List ℕ} {m : ℕ} → m ≤ 1024 → length list ≡ 1280 → Spaced s.values list (y * s.width + start) n m
-  columns-spaced h e =
-      record {
-        first = let l = b.left in let w = b.sound.window-least in omega arith;
-        last = columns-fit.0;
-        most = columns-fit.1;
-        long = e;
-        room = let f = b.few in omega arith;
-      }
+  pub columns-first : 1 ≤ y * s.width + start
+  columns-first = let l = b.left in let w = b.sound.window-least in omega arith
+
+  -- the last row of their windows
+  pub columns-foot : (y + s.window) * s.width + start + n ≤ length s.values
+  columns-foot = in_row s start (y + s.window) n b.sound (let r = b.right in omega arith) (let r = b.below in omega arith)
 
   column-of : (k : ℕ) → y * s.width + start ≤ k → k < y * s.width + start + n → (y * s.width ≤ k) × (k < y * s.width + s.width) × (start ≤ k - y * s.width) × (k - y * s.width < start + n)
   column-of k h l = let r = b.right in (omega arith, omega arith, omega arith, omega arith)
 
-  pub columns-within : {list list' : List ℕ} {m r : ℕ} (q : ℕ → Bool) → m ≤ 1024 → length list ≡ 1280 → Added list list' m r (between (y * s.width + start) n q) → Within s floor y list' m r
-  columns-within {list} {list'} {m} {r} q h e a =
-      let t = a.total in
-      let u = between-most q (y * s.width + start) n in
-      record {
-        sound = b.sound;
-        row = let l = b.below in omega arith;
-        order = omega arith;
-        most = let f = b.few in omega arith;
-        long = a.long ∙ e;
-        row_of = λ i f g. (here i f g).0;
-        here = λ i f g. within b (get_or list' i 0 - y * s.width) (here i f g).2 (here i f g).3;
-      }
-    where
-      here : (i : ℕ) → m ≤ i → i < r → (y * s.width ≤ get_or list' i 0) × (get_or list' i 0 < y * s.width + s.width) × (start ≤ get_or list' i 0 - y * s.width) × (get_or list' i 0 - y * s.width < start + n)
-      here i f g =
-          let z = added-at a i f g in
-          let w = between-at q (y * s.width + start) n (i - m) z.1 in
-          column-of (get_or list' i 0) (subst (λ (k : ℕ). y * s.width + start ≤ k) (sym z.0) w.0) (subst (λ (k : ℕ). k < y * s.width + start + n) (sym z.0) w.1)
+  -- one of them by its number: it is of row y and inside the border, so it has three values above and three below
+  pub column-inside : (k : ℕ) → y * s.width + start ≤ k → k < y * s.width + start + n
+      → (y * s.width ≤ k) × InsideBorder s (k - y * s.width) y × (peak_at s k ≡ is_peak s (k - y * s.width) y) × (s.width + 1 ≤ k) × (k + s.width + 2 ≤ length s.values)
+  column-inside k h l =
+      let c = column-of k h l in
+      let i = within b (k - y * s.width) c.2 c.3 in
+      let above = rim s (k - y * s.width) y i.framed in
+      let below = rim-below s (k - y * s.width) y i.framed in
+      (c.0, i, by_number s y k c.0 c.1, omega (arith, c.0), omega (arith, c.0))
 
-  -- the last row of their windows
-  pub columns-foot : ((y + s.window) * s.width + start + n ≤ length s.values) × (length s.values ≤ 16777216)
-  columns-foot = (in_row s start (y + s.window) n b.sound (let r = b.right in omega arith) (let r = b.below in omega arith), size-most s b.sound)
-
-  no-peak : (k : ℕ) → y * s.width + start ≤ k → k < y * s.width + start + n → may_peak s.values floor s.width k ≡ false → peak_at s k ≡ false
+  no-peak : (k : ℕ) → y * s.width + start ≤ k → k < y * s.width + start + n → may_peak s.values (floor_of s) s.width k ≡ false → peak_at s k ≡ false
   no-peak k h l e =
       let c = column-of k h l in
       let x = k - y * s.width in
       let f = (within b x c.2 c.3).framed in
       let q : y * s.width + x ≡ k = omega (arith, c.0) in
       by_number s y k c.0 c.1
-      ∙ one_of (stands_out s.values floor k) (beats_six s.values s.width k) e
-      (λ g. out-peak s floor x y b.floor-is b.sound.window-least f.left f.above (ap (stands_out s.values floor) q ∙ g))
+      ∙ one_of (stands_out s.values (floor_of s) k) (beats_six s.values s.width k) e
+      (λ g. out-peak s x y b.sound.window-least f.left f.above (ap (stands_out s.values (floor_of s)) q ∙ g))
       (λ g. six-peak s x y (s.window - 1) (omega (arith, b.sound.window-least)) f.left f.above (rim s x y f) (ap (beats_six s.values s.width) q ∙ g))
 
-  pub columns-narrowed : {list list' list'' : List ℕ} {m r t : ℕ} → Added list list' m r (between (y * s.width + start) n (stands_out s.values floor)) → Added list' list'' m t (picked (drop m (take r list')) (beats_six s.values s.width))
-      → Added list list'' m t (between (y * s.width + start) n (may_peak s.values floor s.width))
-  columns-narrowed = added-picked (beats_six s.values s.width) (picked_both (beats_six s.values s.width) (stands_out s.values floor) (y * s.width + start) n)
+  -- of those that stand out, those that beat the six; of these the peaks are all peaks
+  pub columns-narrowed : picked (between (y * s.width + start) n (stands_out s.values (floor_of s))) (beats_six s.values s.width) ≡ between (y * s.width + start) n (may_peak s.values (floor_of s) s.width)
+  columns-narrowed = picked_both (beats_six s.values s.width) (stands_out s.values (floor_of s)) (y * s.width + start) n
 
-  pub columns-peaks : {list list' list'' : List ℕ} {m r t : ℕ} → Added list list' m r (between (y * s.width + start) n (may_peak s.values floor s.width)) → Added list' list'' m t (picked (drop m (take r list')) (peak_at s))
-      → Added list list'' m t (between (y * s.width + start) n (peak_at s))
-  columns-peaks = added-picked (peak_at s) (picked-between (peak_at s) (may_peak s.values floor s.width) (y * s.width + start) n no-peak)
-
--- ---- a pixel listed
-pub row_fits : {s : Scan} {floor : Float} {y : ℕ} {list : List ℕ} {first last : ℕ} → Within s floor y list first last → y * s.width ≤ 16777216
-row_fits {s} {floor} {y} w = let h = in_row s 0 y 0 w.sound (omega arith) w.row in let l = size-most s w.sound in omega arith
-
-pub listed-pixel : {s : Scan} {floor : Float} {y : ℕ} {list : List ℕ} {first last : ℕ} → Within s floor y list first last → (i : ℕ) → first ≤ i → i < last → (k : ℕ) → k ≡ get_or list i 0
-    → (y * s.width ≤ k) × (k < 16777216) × InsideBorder s floor (k - y * s.width) y × (peak_at s k ≡ is_peak s (k - y * s.width) y)
-listed-pixel {s} {floor} {y} {list} w i h l k e =
-    let r : y * s.width ≤ k = subst (λ (z : ℕ). y * s.width ≤ z) (sym e) (w.row_of i h l) in
-    let b = subst (λ (z : ℕ). InsideBorder s floor (z - y * s.width) y) (sym e) (w.here i h l) in
-    let f = b.framed.right in
-    let q = in_row s (k - y * s.width) y 1 w.sound (omega arith) w.row in
-    let m = size-most s w.sound in
-    (r, omega arith, b, by_number s y k r (omega arith))
+  pub columns-peaks : picked (between (y * s.width + start) n (may_peak s.values (floor_of s) s.width)) (peak_at s) ≡ between (y * s.width + start) n (peak_at s)
+  columns-peaks = picked-between (peak_at s) (may_peak s.values (floor_of s) s.width) (y * s.width + start) n no-peak
 
 -- ---- a part of the row of pixel k
 module _ {s : Scan} (t : Sound s) (k : ℕ) (h : k < length s.values) where
@@ -145,32 +126,43 @@ module _ {s : Scan} (t : Sound s) (k : ℕ) (h : k < length s.values) where
   clear : (from bound : ℕ) → bound ≤ s.width → ((j : ℕ) → from ≤ j → j < bound → is_peak s j y ≡ false) → (i : ℕ) → y * s.width + from ≤ i → i < y * s.width + bound → peak_at s i ≡ false
   clear from bound l none i f g = by_number s y i (omega arith) (omega arith) ∙ none (i - y * s.width) (omega arith) (omega arith)
 
-  pub skipped : (list : List ℕ) (m : ℕ) → m ≤ length list → (bound : ℕ) → x < bound → bound ≤ s.width → ((j : ℕ) → x ≤ j → j < bound → is_peak s j y ≡ false) → Part s list list k m m (y * s.width + bound)
-  skipped list m l bound f g none =
+  -- whether the row or the columns from x on are outside the border
+  pub row-outside : {b : ℕ} → b ≡ border s → (ltb y b || leb s.height (y + b) || leb s.width (x + b)) ≡ true → (j : ℕ) → x ≤ j → j < s.width → is_peak s j y ≡ false
+  row-outside {b} e f j u v =
+      either (ltb y b || leb s.height (y + b)) (leb s.width (x + b)) f
+      (λ f.
+      either (ltb y b) (leb s.height (y + b)) f (λ g. above-out s j y (let l = ltb-true y b g in omega (arith, e, l))) (λ g. below_out s j y (let l = leb-true s.height (y + b) g in omega (arith, e, l))))
+      (λ g. right-out s j y (let l = leb-true s.width (x + b) g in omega (arith, e, l)))
+
+  pub row-inside : {b : ℕ} → b ≡ border s → (ltb y b || leb s.height (y + b) || leb s.width (x + b)) ≡ false → x + b < s.width
+  row-inside {b} e f = leb-false s.width (x + b) (neither (ltb y b || leb s.height (y + b)) (leb s.width (x + b)) f)
+
+  pub skipped : (list : List ℕ) (bound : ℕ) → x < bound → bound ≤ s.width → ((j : ℕ) → x ≤ j → j < bound → is_peak s j y ≡ false) → Part s list list k (y * s.width + bound)
+  skipped list bound f g none =
       let e = pixel-is in
       record {
         on = omega arith;
         most = let r = row-end.0 in omega arith;
         few = omega arith;
-        added =
-            added_is (sym (between-clear (peak_at s) k (y * s.width + bound - k) (λ i u v. clear x bound g none i (omega (arith, e)) (omega (arith, e))))) (added_none list m l);
+        added = sym (ap (λ (z : List ℕ). list ++ z) (between-clear (peak_at s) k (y * s.width + bound - k) (λ i u v. clear x bound g none i (omega (arith, e)) (omega (arith, e)))) ∙ append-nil list);
       }
 
-  part_of : {list list' : List ℕ} {m r : ℕ} (n next : ℕ) → n ≤ 256 → k + n ≤ next → k < next → next ≤ length s.values → ((i : ℕ) → k + n ≤ i → i < next → peak_at s i ≡ false)
-      → Added list list' m r (between (y * s.width + x) n (peak_at s)) → Part s list list' k m r next
-  part_of {list} {list'} {m} {r} n next small l on most none a =
+  part_of : {list list' : List ℕ} (n next : ℕ) → n ≤ 256 → k + n ≤ next → k < next → next ≤ length s.values → ((i : ℕ) → k + n ≤ i → i < next → peak_at s i ≡ false)
+      → list' ≡ list ++ between (y * s.width + x) n (peak_at s) → Part s list list' k next
+  part_of {list} {list'} n next small l on most none a =
       record {
         on = on;
         most = most;
-        few = let e = a.total in let u = between-most (peak_at s) (y * s.width + x) n in omega arith;
+        few = let e = ap length a in let u = between-most (peak_at s) (y * s.width + x) n in omega (arith, length-append list (between (y * s.width + x) n (peak_at s)));
         added =
-            added_is (ap (λ (z : ℕ). between z n (peak_at s)) pixel-is ∙ sym (append-nil (between k n (peak_at s)))
+            a ∙ ap (λ (z : List ℕ). list ++ z)
+            (ap (λ (z : ℕ). between z n (peak_at s)) pixel-is ∙ sym (append-nil (between k n (peak_at s)))
             ∙ ap (λ (z : List ℕ). between k n (peak_at s) ++ z) (sym (between-clear (peak_at s) (k + n) (next - k - n) (λ i u v. none i u (omega arith))))
-            ∙ sym (between-cut (peak_at s) k n (next - k - n)) ∙ ap (λ (z : ℕ). between k z (peak_at s)) (let e : n + (next - k - n) ≡ next - k = omega arith in e)) a;
+            ∙ sym (between-cut (peak_at s) k n (next - k - n)) ∙ ap (λ (z : ℕ). between k z (peak_at s)) (let e : n + (next - k - n) ≡ next - k = omega arith in e));
       }
 
   -- the last columns inside the border
-  pub part-last : {list list' : List ℕ} {m r : ℕ} (n : ℕ) → x + n + border s ≡ s.width → n ≤ 256 → Added list list' m r (between (y * s.width + x) n (peak_at s)) → Part s list list' k m r (y * s.width + s.width)
+  pub part-last : {list list' : List ℕ} (n : ℕ) → x + n + border s ≡ s.width → n ≤ 256 → list' ≡ list ++ between (y * s.width + x) n (peak_at s) → Part s list list' k (y * s.width + s.width)
   part-last n e small a =
       let p = pixel-is in
       let c = column-less in
@@ -178,7 +170,7 @@ module _ {s : Scan} (t : Sound s) (k : ℕ) (h : k < length s.values) where
       (λ i u v. clear (x + n) s.width (let l : s.width ≤ s.width = omega arith in l) (λ j f g. right-out s j y (omega arith)) i (omega (arith, p)) v) a
 
   -- others
-  pub part-inner : {list list' : List ℕ} {m r : ℕ} → x + 256 + border s ≤ s.width → Added list list' m r (between (y * s.width + x) 256 (peak_at s)) → Part s list list' k m r (k + 256)
+  pub part-inner : {list list' : List ℕ} → x + 256 + border s ≤ s.width → list' ≡ list ++ between (y * s.width + x) 256 (peak_at s) → Part s list list' k (k + 256)
   part-inner l a =
       let p = pixel-is in
       let e = row-end.0 in

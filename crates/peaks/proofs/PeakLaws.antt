@@ -71,8 +71,8 @@ module _ (s : Scan) (x y : ℕ) where
   inner-is a b c d = both (both (both (le-leb (border s) x a) (lt-ltb (x + border s) s.width b)) (le-leb (border s) y c)) (lt-ltb (y + border s) s.height d)
 
 -- ---- a pixel inside the border
-pub within : {s : Scan} {floor : Float} {y start n : ℕ} → Bordered s floor y start n → (x : ℕ) → start ≤ x → x < start + n → InsideBorder s floor x y
-within {s} {floor} {y} {start} {n} b x h l =
+pub within : {s : Scan} {y start n : ℕ} → Bordered s y start n → (x : ℕ) → start ≤ x → x < start + n → InsideBorder s x y
+within {s} {y} {start} {n} b x h l =
     record {
       framed =
           record {
@@ -83,5 +83,4 @@ within {s} {floor} {y} {start} {n} b x h l =
             below = let e = b.below in omega arith;
           };
       inner = inner-is s x y (let e = b.left in omega arith) (let e = b.right in omega arith) b.above b.below;
-      floor-is = b.floor-is;
     }

@@ -1,6 +1,6 @@
 -- The public call: the tests of docs/RULES.md in their order (`way_of`), what each way answers and leaves in the lent output. No refusal writes; elements past
 -- the last record stay.
-use Rattle.std.specs.Prelude.{◌≡◌, Bool, ◌&&◌, not, cond, List, [], ◌∷◌, ◌++◌, ℕ, zero, suc, ◌*◌, ◌/◌, ◌%◌, leb, ltb, pos, length, drop, Float}
+use Rattle.std.specs.Prelude.{◌≡◌, Bool, ◌&&◌, not, cond, List, [], ◌∷◌, ◌++◌, ℕ, zero, suc, ◌*◌, ◌/◌, ◌%◌, leb, ltb, pos, length, drop, Float, Result, Ok, Err}
 use Rattle.std.specs.Float.{binary32}
 use Rattle.std.specs.Float.Ieee.{of_int}
 use Rattle.std.specs.Float.Ieee.Scale.{finite}
@@ -9,14 +9,12 @@ use Rattle.imageview.specs.Image.{sizes_fit}
 use Rattle.refusals.specs.declared.Refusal.{Refusal}
 use Rattle.refusals.specs.declared.Refusal.TheVariants.{BadImage, BadRadius, BadLimit, BadLength, TooMany}
 use Rattle.refusals.specs.Numbers as Refusals
-use Rattle.peaks.specs.declared.Peaks.{Peaks}
-use Rattle.peaks.specs.declared.Peaks.TheVariants.{Found, Refused}
 use Rattle.peaks.specs.Peak.{Scan, value_at, is_peak}
 
 -- the number of each case; 0 is done
-abbrev pub number_of : Peaks → ℕ
-number_of (Found n) = 0
-number_of (Refused r) = Refusals.number_of r
+abbrev pub number_of : Result ℕ Refusal → ℕ
+number_of (Ok n) = 0
+number_of (Err r) = Refusals.number_of r
 
 -- the numbers below n that have p, in order
 unfoldable pub chosen : ℕ → (ℕ → Bool) → List ℕ
@@ -56,14 +54,14 @@ way_of s room =
     (cond (ltb (room / 3) (length (peaks_of s))) (refused TooMany)
     (found (peaks_of s))))))
 
-abbrev pub answer_of : Way → Peaks
-answer_of (refused r) = Refused r
-answer_of (found l) = Found (length l)
+abbrev pub answer_of : Way → Result ℕ Refusal
+answer_of (refused r) = Err r
+answer_of (found l) = Ok (length l)
 
 abbrev pub out_after : Scan → List Float → Way → List Float
 out_after s out (refused r) = out
 out_after s out (found l) = records_of s l ++ drop (3 * length l) out
 
-pub record Done (s : Scan) (out : List Float) (answer : Peaks) (out' : List Float) : Type 0 where
+pub record Done (s : Scan) (out : List Float) (answer : Result ℕ Refusal) (out' : List Float) : Type 0 where
   pub answers : answer ≡ answer_of (way_of s (length out))
   pub leaves : out' ≡ out_after s out (way_of s (length out))

@@ -2,4 +2,6 @@
 pub mod Peak
 pub mod Call
 pub mod Claims
+pub mod Sound
+pub mod Listed
 pub mod Steps

@@ -2,24 +2,20 @@
 #![tactic(auto)]
 
 ghost use Rattle.std.specs.Prelude.{◌≡◌, ◌&&◌, leb};
+ghost use Rattle.peaks.specs.Sound.{scan_for, Sound};
 ghost use Rattle.peaks.specs.Call.{Done};
 
 mod gather;
+mod list;
 mod scan;
 mod window;
 
 use refusals::Refusal;
 
-// How the scan ended.
-#[derive(Drop)]
-pub enum Peaks {
-    Found(usize),
-    Refused(Refusal),
-}
-
-// The sizes of a response and the settings.
+// A response and the settings by which it is scanned, as the public call has tested them.
 #[derive(Clone, Copy)]
-struct Rule {
+struct Response<'a> {
+    values: &'a [f32],
     width: usize,
     height: usize,
     ring: usize,
@@ -27,16 +23,11 @@ struct Rule {
     refine: usize,
     threshold: f32,
     cluster: u32,
-}
-
-// How many pixels are listed, and the pixel from which to go on.
-#[derive(Drop)]
-struct Listed {
-    count: usize,
-    at: usize,
+    ghost sound: { Sound (scan_for values.now width height ring window refine threshold cluster) },
 }
 
 // Writes x, y and value of every peak of the response, by row; the rest of the output stays.
+#[tactic(auto, unfolding(crate::specs::Call::way_of))]
 pub fn detect_peaks_from_response_with_refine_radius(
     response: &[f32],
     width: usize,
@@ -47,22 +38,23 @@ pub fn detect_peaks_from_response_with_refine_radius(
     threshold: f32,
     min_cluster_size: u32,
     out: &mut [f32],
-) -> Peaks
+) -> Result<usize, Refusal>
     ensures { Done (record { values = response.now; width = width; height = height; ring = ring_radius; window = window_radius; refine = refine_radius; threshold = threshold; cluster = min_cluster_size }) out.old result out.new }
 {
     if !imageview::fits(response.len(), width, height) {
-        return Peaks::Refused(Refusal::BadImage);
+        return Err(Refusal::BadImage);
     }
     if !radii_fit(ring_radius, window_radius, refine_radius) {
-        return Peaks::Refused(Refusal::BadRadius);
+        return Err(Refusal::BadRadius);
     }
     if !floats::is_finite_f32(threshold) {
-        return Peaks::Refused(Refusal::BadLimit);
+        return Err(Refusal::BadLimit);
     }
     if !corners::is_whole(out.len()) {
-        return Peaks::Refused(Refusal::BadLength);
+        return Err(Refusal::BadLength);
     }
-    let rule = Rule {
+    let response = Response {
+        values: response,
         width,
         height,
         ring: ring_radius,
@@ -71,24 +63,12 @@ pub fn detect_peaks_from_response_with_refine_radius(
         threshold,
         cluster: min_cluster_size,
     };
-    scan::record_all(response, rule, out)
+    response.record_all(out)
 }
 
 // The test of the three radii.
 fn radii_fit(ring: usize, window: usize, refine: usize) -> bool
     ensures { result ≡ (leb 1 ring && leb ring 10 && leb 1 window && leb window 8 && leb refine 7) }
 {
-    if ring < 1 {
-        return false;
-    }
-    if 10 < ring {
-        return false;
-    }
-    if window < 1 {
-        return false;
-    }
-    if 8 < window {
-        return false;
-    }
-    refine <= 7
+    (1 <= ring) & (ring <= 10) & (1 <= window) & (window <= 8) & (refine <= 7)
 }

@@ -34,9 +34,8 @@ use Rattle.refine_seed.specs.Run.{Finish, at_start, at_stand, run_of}
 use Rattle.refine_seed.specs.Refine.{admit_of, answered, single, closed_at, finished, from_saddle, refine_with, lent_with, refine_lent, refine_of}
 use Rattle.refine_seed.specs.Spot.{spot_of}
 use Rattle.refine_seed.proofs.LentLaws.{lent-is-built, none-singular, none-refused}
-use Rattle.refine_list.specs.Refining.{spot_for}
+use Rattle.refine_list.specs.Refining.{spot_for, lent_for}
 use Rattle.refine_list.proofs.ListLaws.{nowhere}
-use Rattle.refine_fallback.specs.Call.{lent_for}
 use Rattle.refine_fallback.specs.Steps.{at_zero, Serves, Walked}
 
 -- ---- where no covariance is wanted the overlaps are not looked at

@@ -15,10 +15,8 @@ use Rattle.imageview.specs.Image.{Image, is_image, in_range}
 use Rattle.refine_formulas.specs.declared.SaddlePointConfig.{SaddlePointConfig}
 use Rattle.refine_seed.specs.declared.Spot.{Spot}
 use Rattle.refine_seed.specs.Refine.{good_limits}
-use Rattle.refine_list.specs.declared.Refinements.TheVariants as Answer
+use Rattle.std.specs.Prelude.{Result, Ok, Err}
 use Rattle.refine_list.specs.Refining.{records_by}
-use Rattle.refine_fallback.specs.declared.Tested.{Tested}
-use Rattle.refine_fallback.specs.declared.Tested.TheVariants.{Good, Refused}
 use Rattle.refine_fallback.specs.Call.{either, passes_by, Way, refused, wrote, way_by, answer_of, out_after, passes_after, Done}
 use Rattle.refine_seed.specs.StepsSpot.{Ready}
 use Rattle.refine_fallback.specs.Steps.{tests_of, Walked}
@@ -38,13 +36,16 @@ through say tell g h k v w e₀ false false false false false true f = k TooMany
 through say tell g h k v w e₀ false false false false false false true = k BadOut
 through say tell g h k v w e₀ false false false false false false false = e₀
 
-abbrev goes : Tested → Way → Way
-goes Good w = w
-goes (Refused r) w = refused r
+abbrev pub all_good : Result Unit Refusal
+all_good = Ok tt
 
-abbrev is_good : Tested → Type 0
-is_good Good = Unit {0}
-is_good (Refused r) = ⊥
+abbrev goes : Result Unit Refusal → Way → Way
+goes (Ok done) w = w
+goes (Err r) w = refused r
+
+abbrev is_good : Result Unit Refusal → Type 0
+is_good (Ok done) = Unit {0}
+is_good (Err r) = ⊥
 
 pub record Passed (a s b c f : Bool) : Type 0 where
   pub image : a ≡ false
@@ -53,7 +54,7 @@ pub record Passed (a s b c f : Bool) : Type 0 where
   pub limits : c ≡ false
   pub room : f ≡ false
 
-all-passed : (a s b c d e f : Bool) → by_tests Refused a s b c d e f Good ≡ Good → Passed a s b c f
+all-passed : (a s b c d e f : Bool) → by_tests Err a s b c d e f all_good ≡ all_good → Passed a s b c f
 all-passed true s b c d e f h = absurd (subst is_good (sym h) tt)
 all-passed false true b c d e f h = absurd (subst is_good (sym h) tt)
 all-passed false false true c d e f h = absurd (subst is_good (sym h) tt)
@@ -64,7 +65,7 @@ all-passed false false false false false false true h = absurd (subst is_good (s
 all-passed false false false false false false false h = record { image = refl; range = refl; radii = refl; limits = refl; room = refl }
 
 -- ---- where all pass
-module _ (img : Image) (one two : SaddlePointConfig) (len room bytes : ℕ) (good : tests_of img one two len room bytes ≡ Good) where
+module _ (img : Image) (one two : SaddlePointConfig) (len room bytes : ℕ) (good : tests_of img one two len room bytes ≡ all_good) where
   passed : Passed (not (is_image img)) (not (in_range img)) (not (leb one.radius 7 && leb two.radius 7)) (not (good_limits one && good_limits two)) (ltb room len || ltb bytes (len / 3))
   passed =
       all-passed (not (is_image img)) (not (in_range img)) (not (leb one.radius 7 && leb two.radius 7)) (not (good_limits one && good_limits two)) (not (whole len)) (too_many len) (ltb room len || ltb bytes (len / 3)) good
@@ -93,20 +94,20 @@ module _ (first second : ℕ → Spot) (img : Image) (one two : SaddlePointConfi
   abbrev all : Way
   all = wrote (records_by (λ i. either (first i) (second i)) corners (length corners / 3)) (passes_by first second (length corners / 3))
 
-  abbrev said : Tested
+  abbrev said : Result Unit Refusal
   said = tests_of img one two (length corners) (length out) (length passes)
 
   way-is : way ≡ goes said all
   unfolding way_by
   way-is =
-      through refused Refused (λ (w : Way). w) (λ (t : Tested). goes t all) (λ r. refl) all Good refl (not (is_image img)) (not (in_range img)) (not (leb one.radius 7 && leb two.radius 7)) (not (good_limits one && good_limits two)) (not (whole (length corners))) (too_many (length corners)) (ltb (length out) (length corners) || ltb (length passes) (length corners / 3))
+      through refused Err (λ (w : Way). w) (λ (t : Result Unit Refusal). goes t all) (λ r. refl) all all_good refl (not (is_image img)) (not (in_range img)) (not (leb one.radius 7 && leb two.radius 7)) (not (good_limits one && good_limits two)) (not (whole (length corners))) (too_many (length corners)) (ltb (length out) (length corners) || ltb (length passes) (length corners / 3))
 
-  pub refuses : (r : Refusal) → said ≡ Refused r → Done way out passes (Answer.Refused r) out passes
+  pub refuses : (r : Refusal) → said ≡ Err r → Done way out passes (Err r) out passes
   refuses r h =
-      let e : way ≡ refused r = way-is ∙ ap (λ (t : Tested). goes t all) h in
+      let e : way ≡ refused r = way-is ∙ ap (λ (t : Result Unit Refusal). goes t all) h in
       record { answers = sym (ap answer_of e); leaves = sym (ap (out_after out) e); marks = sym (ap (passes_after passes) e) }
 
-  pub refines : said ≡ Good → (n : ℕ) (out' : List Float) (passes' : List ℕ) → Walked first second corners out passes n out' passes' → Done way out passes (Answer.Refined n) out' passes'
+  pub refines : said ≡ all_good → (n : ℕ) (out' : List Float) (passes' : List ℕ) → Walked first second corners out passes n out' passes' → Done way out passes (Ok n) out' passes'
   refines h n out' passes' w =
-      let e : way ≡ all = way-is ∙ ap (λ (t : Tested). goes t all) h in
-      record { answers = ap Answer.Refined w.count ∙ sym (ap answer_of e); leaves = w.leaves ∙ sym (ap (out_after out) e); marks = w.marks ∙ sym (ap (passes_after passes) e) }
+      let e : way ≡ all = way-is ∙ ap (λ (t : Result Unit Refusal). goes t all) h in
+      record { answers = ap Ok w.count ∙ sym (ap answer_of e); leaves = w.leaves ∙ sym (ap (out_after out) e); marks = w.marks ∙ sym (ap (passes_after passes) e) }

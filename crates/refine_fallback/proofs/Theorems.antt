@@ -16,7 +16,7 @@ use Rattle.refine_formulas.specs.declared.SaddlePointConfig.{SaddlePointConfig}
 use Rattle.refine_seed.specs.declared.Spot.{Spot}
 use Rattle.refine_seed.specs.declared.Spot.TheVariants.{At, Nowhere}
 use Rattle.refine_seed.specs.Refine.{good_limits}
-use Rattle.refine_list.specs.declared.Refinements.TheVariants.{Refined}
+use Rattle.std.specs.Prelude.{Ok}
 use Rattle.refine_list.specs.Refining as Single
 use Rattle.refine_list.specs.Refining.{record_of, records_by, spot_for}
 use Rattle.refine_fallback.specs.Call.{either, pass_of, passes_by, Way, refused, wrote, way_by, way_of, answer_of, out_after}
@@ -138,4 +138,4 @@ module _ (img : Image) (cfg : SaddlePointConfig) (corners out : List Float) (byt
 
 pub equal-is-single : EqualIsSingle
 equal-is-single img cfg corners out bytes enough =
-    (alike img cfg corners out bytes enough answer_of Single.answer_of (λ r. refl) (ap Refined (count img cfg corners out bytes enough)), alike img cfg corners out bytes enough (out_after out) (Single.out_after out) (λ r. refl) refl)
+    (alike img cfg corners out bytes enough answer_of Single.answer_of (λ r. refl) (ap Ok (count img cfg corners out bytes enough)), alike img cfg corners out bytes enough (out_after out) (Single.out_after out) (λ r. refl) refl)

@@ -19,45 +19,32 @@ use Rattle.refine_seed.specs.StepsSpot.{Lands}
 use Rattle.refine_list.specs.Refining.{records_by}
 use Rattle.refine_list.specs.Steps.{FirstFits, Going}
 use Rattle.refine_list.proofs.ListLaws.{front-more, front_long}
-use Rattle.refine_fallback.specs.Call.{lent_for, either, pass_of, passes_by}
-use Rattle.refine_fallback.specs.Steps.{Held, byte_of, Tries, Marking, Walked}
+use Rattle.refine_fallback.specs.declared.walk.Pass.{Pass}
+use Rattle.refine_fallback.specs.declared.walk.Pass.TheVariants.{First, Second}
+use Rattle.refine_fallback.specs.Call.{either, pass_of, passes_by}
+use Rattle.refine_fallback.specs.Steps.{number_of, byte_of, Tries, Marking, Walked}
 
 -- ---- one seed
-pub first-kept : (p other : Spot) (x y : Float) → p ≡ At x y → Tries p other p 1
-first-kept p other x y e = subst (λ (q : Spot). Tries q other q 1) (sym e) (record { is = refl; byte = refl })
+pub first-kept : (p other : Spot) (x y : Float) → p ≡ At x y → Tries p other p First
+first-kept p other x y e = subst (λ (q : Spot). Tries q other q First) (sym e) (record { is = refl; byte = refl })
 
-pub second-tried : (p other q : Spot) → p ≡ Nowhere → q ≡ other → Tries p other q 2
-second-tried p other q e f = subst (λ (v : Spot). Tries v other q 2) (sym e) (subst (λ (v : Spot). Tries Nowhere other v 2) (sym f) (by other))
+pub second-tried : (p other q : Spot) → p ≡ Nowhere → q ≡ other → Tries p other q Second
+second-tried p other q e f = subst (λ (v : Spot). Tries v other q Second) (sym e) (subst (λ (v : Spot). Tries Nowhere other v Second) (sym f) (by other))
   where
-    by : (o : Spot) → Tries Nowhere o o 2
+    by : (o : Spot) → Tries Nowhere o o Second
     by (At x y) = record { is = refl; byte = refl }
     by Nowhere = record { is = refl; byte = refl }
 
--- with the columns that are lent
-pub spot-lent : (img : Image) (cfg : SaddlePointConfig) (columns corners : List Float) (i : ℕ) (p : Spot) → Lands (λ overlap wanted. refine_lent img cfg (entry corners (3 * i)) (entry corners (3 * i + 1)) wanted columns overlap) p → p ≡ lent_for img cfg columns corners i
-unfolding lent_for
-spot-lent img cfg columns corners i p l = l.is [] false
-
 -- what a byte writes
-abbrev Marks : List ℕ → ℕ → Spot → ℕ → ℕ → List ℕ → Type 0
+abbrev Marks : List ℕ → ℕ → Spot → Pass → ℕ → List ℕ → Type 0
 Marks l n p b n' l' = (n' ≡ n + length (byte_of p b)) × (l' ≡ take n l ++ (byte_of p b ++ drop (n + length (byte_of p b)) l))
 
-pub marks : (l : List ℕ) (n : ℕ) (p : Spot) (x y : Float) (b : ℕ) → p ≡ At x y → n < length l → Marks l n p b (n + 1) (set l n b)
-marks l n p x y b e h = subst (λ (q : Spot). Marks l n q b (n + 1) (set l n b)) (sym e) (refl, set_split l n b h ∙ ap (λ (k : ℕ). take n l ++ (b ∷ drop k l)) (sym (add-one n)))
+pub marks : (l : List ℕ) (n : ℕ) (p : Spot) (x y : Float) (b : Pass) → p ≡ At x y → n < length l → Marks l n p b (n + 1) (set l n (number_of b))
+marks l n p x y b e h =
+    subst (λ (q : Spot). Marks l n q b (n + 1) (set l n (number_of b))) (sym e) (refl, set_split l n (number_of b) h ∙ ap (λ (k : ℕ). take n l ++ (number_of b ∷ drop k l)) (sym (add-one n)))
 
-pub marks-none : (l : List ℕ) (n : ℕ) (p : Spot) (b : ℕ) → p ≡ Nowhere → Marks l n p b n l
+pub marks-none : (l : List ℕ) (n : ℕ) (p : Spot) (b : Pass) → p ≡ Nowhere → Marks l n p b n l
 marks-none l n p b e = subst (λ (q : Spot). Marks l n q b n l) (sym e) (sym (add-zero n), sym (ap (λ (k : ℕ). take n l ++ drop k l) (add-zero n) ∙ take-append-drop n l))
-
--- ---- the first fits that are held
-module _ (img : Image) (cfg : SaddlePointConfig) (columns corners : List Float) where
-  pub none-held : (n : ℕ) (flat : List Float) → n ≡ length corners / 3 → length flat ≡ 40 → Held img cfg columns corners n flat
-  none-held n flat e h = record { long = h; fits = λ k. absurd (let z : ⊥ = omega arith in z) }
-
-  pub now-held : (group : ℕ) (flat : List Float) → FirstFits img cfg columns corners group flat → Held img cfg columns corners group flat
-  now-held group flat f = record { long = f.long; fits = λ k. f }
-
-  pub held-for : (group held : ℕ) (flat : List Float) → Held img cfg columns corners held flat → held ≡ group → group < length corners / 3 → FirstFits img cfg columns corners group flat
-  held-for group held flat h e k = subst (λ (g : ℕ). FirstFits img cfg columns corners g flat) e (h.fits (subst (λ (g : ℕ). g < length corners / 3) (sym e) k))
 
 -- ---- the bytes so far
 module _ (first second : ℕ → Spot) (passes : List ℕ) where
@@ -70,7 +57,7 @@ module _ (first second : ℕ → Spot) (passes : List ℕ) where
   longer i l e = ap (λ (b : List ℕ). passes_by first second i ++ b) e ∙ ap (passes_by first second) (sym (add-one i))
 
   module _ (i n : ℕ) (now : List ℕ) (g : Marking first second passes i n now) where
-    pub marked : (p : Spot) (b : ℕ) → byte_of p b ≡ pass_of (first i) (second i) → (n' : ℕ) (after : List ℕ) → n' ≡ n + length (byte_of p b) → after ≡ take n now ++ (byte_of p b ++ drop (n + length (byte_of p b)) now) → Marking first second passes (i + 1) n' after
+    pub marked : (p : Spot) (b : Pass) → byte_of p b ≡ pass_of (first i) (second i) → (n' : ℕ) (after : List ℕ) → n' ≡ n + length (byte_of p b) → after ≡ take n now ++ (byte_of p b ++ drop (n + length (byte_of p b)) now) → Marking first second passes (i + 1) n' after
     marked p b e n' after q r =
         record {
           count = q ∙ ap (λ (k : ℕ). k + length (byte_of p b)) g.count ∙ sym length-longer;

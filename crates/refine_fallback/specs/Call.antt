@@ -1,7 +1,7 @@
 -- Refining a list of corners with a second try: a seed that the first settings do not accept starts again from its own place with the second ones. The tests of
 -- docs/RULES.md in their order (`way_by`), what each way answers and leaves in the lent output and in the lent pass bytes. No refusal writes; elements past the last
 -- record, and bytes past the last one written, stay.
-use Rattle.std.specs.Prelude.{◌≡◌, not, ◌&&◌, ◌||◌, cond, false, List, [], ◌∷◌, ◌++◌, ℕ, zero, suc, ◌+◌, ◌*◌, ◌/◌, leb, ltb, length, drop, Float}
+use Rattle.std.specs.Prelude.{◌≡◌, not, ◌&&◌, ◌||◌, cond, false, List, [], ◌∷◌, ◌++◌, ℕ, zero, suc, ◌+◌, ◌*◌, ◌/◌, leb, ltb, length, drop, Float, Result, Ok, Err}
 use Rattle.shapes.specs.Numbers.{entry}
 use Rattle.corners.specs.Corners.{whole, too_many}
 use Rattle.refusals.specs.declared.Refusal.{Refusal}
@@ -10,16 +10,8 @@ use Rattle.imageview.specs.Image.{Image, is_image, in_range}
 use Rattle.refine_formulas.specs.declared.SaddlePointConfig.{SaddlePointConfig}
 use Rattle.refine_seed.specs.declared.Spot.{Spot}
 use Rattle.refine_seed.specs.declared.Spot.TheVariants.{At, Nowhere}
-use Rattle.refine_seed.specs.Refine.{good_limits, refine_lent}
-use Rattle.refine_seed.specs.Spot.{spot_of}
-use Rattle.refine_list.specs.declared.Refinements.{Refinements}
-use Rattle.refine_list.specs.declared.Refinements.TheVariants.{Refined, Refused}
-use Rattle.refine_list.specs.Refining.{spot_for, records_by}
-
--- where the seed number i is refined to with columns that are lent, whatever they hold; no covariance is wanted, so no overlap is asked for
-unfoldable pub lent_for : Image → SaddlePointConfig → List Float → List Float → ℕ → Spot
-unfolding refine_lent
-lent_for img cfg columns corners i = spot_of (refine_lent img cfg (entry corners (3 * i)) (entry corners (3 * i + 1)) false columns [])
+use Rattle.refine_seed.specs.Refine.{good_limits}
+use Rattle.refine_list.specs.Refining.{spot_for, lent_for, records_by}
 
 -- the first's spot, or else the second's
 abbrev pub either : Spot → Spot → Spot
@@ -61,9 +53,9 @@ way_of img one two corners = way_by (spot_for img one corners) (spot_for img two
 abbrev pub way_lent : Image → SaddlePointConfig → SaddlePointConfig → List Float → List Float → List Float → ℕ → ℕ → Way
 way_lent img one two columns columns' corners = way_by (lent_for img one columns corners) (lent_for img two columns' corners) img one two corners
 
-abbrev pub answer_of : Way → Refinements
-answer_of (refused r) = Refused r
-answer_of (wrote l p) = Refined (length p)
+abbrev pub answer_of : Way → Result ℕ Refusal
+answer_of (refused r) = Err r
+answer_of (wrote l p) = Ok (length p)
 
 abbrev pub out_after : List Float → Way → List Float
 out_after out (refused r) = out
@@ -73,7 +65,7 @@ abbrev pub passes_after : List ℕ → Way → List ℕ
 passes_after passes (refused r) = passes
 passes_after passes (wrote l p) = p ++ drop (length p) passes
 
-pub record Done (way : Way) (out : List Float) (passes : List ℕ) (answer : Refinements) (out' : List Float) (passes' : List ℕ) : Type 0 where
+pub record Done (way : Way) (out : List Float) (passes : List ℕ) (answer : Result ℕ Refusal) (out' : List Float) (passes' : List ℕ) : Type 0 where
   pub answers : answer ≡ answer_of way
   pub leaves : out' ≡ out_after out way
   pub marks : passes' ≡ passes_after passes way

@@ -1,6 +1,7 @@
 -- What the inner functions do: the tests before the first seed, the settings with which columns serve, one seed, and the seeds so far.
-use Rattle.std.specs.Prelude.{◌≡◌, not, ◌&&◌, ◌||◌, cond, List, [], ◌∷◌, ◌++◌, ℕ, ◌/◌, ◌≤◌, ◌<◌, leb, ltb, length, drop, Float}
+use Rattle.std.specs.Prelude.{◌≡◌, not, ◌&&◌, ◌||◌, cond, List, [], ◌∷◌, ◌++◌, ℕ, ◌/◌, ◌≤◌, ◌<◌, leb, ltb, length, drop, Float, Result, Ok, Err}
 use Rattle.corners.specs.Corners.{whole, too_many}
+use Rattle.refusals.specs.declared.Refusal.{Refusal}
 use Rattle.refusals.specs.declared.Refusal.TheVariants.{BadImage, BadSample, BadRadius, BadLimit, BadLength, TooMany, BadOut}
 use Rattle.imageview.specs.Image.{Image, is_image, in_range}
 use Rattle.refine_formulas.specs.declared.SaddlePointConfig.{SaddlePointConfig}
@@ -8,24 +9,23 @@ use Rattle.refine_seed.specs.declared.Spot.{Spot}
 use Rattle.refine_seed.specs.declared.Spot.TheVariants.{At, Nowhere}
 use Rattle.refine_seed.specs.Refine.{good_limits}
 use Rattle.refine_seed.specs.StepsSpot.{Ready}
-use Rattle.refine_list.specs.Refining.{spot_for, records_by}
-use Rattle.refine_list.specs.Steps.{FirstFits}
-use Rattle.refine_fallback.specs.declared.Tested.{Tested}
-use Rattle.refine_fallback.specs.declared.Tested.TheVariants.{Good, Refused}
-use Rattle.refine_fallback.specs.Call.{lent_for, either, pass_of, passes_by}
+use Rattle.refine_list.specs.Refining.{spot_for, lent_for, records_by}
+use Rattle.refine_fallback.specs.declared.walk.Pass.{Pass}
+use Rattle.refine_fallback.specs.declared.walk.Pass.TheVariants.{First, Second}
+use Rattle.refine_fallback.specs.Call.{either, pass_of, passes_by}
 
 -- ---- the tests
 -- of so many numbers, with so much room for them and so many pass bytes
-abbrev pub tests_of : Image → SaddlePointConfig → SaddlePointConfig → ℕ → ℕ → ℕ → Tested
+abbrev pub tests_of : Image → SaddlePointConfig → SaddlePointConfig → ℕ → ℕ → ℕ → Result Unit Refusal
 tests_of img one two len room bytes =
-    cond (not (is_image img)) (Refused BadImage)
-    (cond (not (in_range img)) (Refused BadSample)
-    (cond (not (leb one.radius 7 && leb two.radius 7)) (Refused BadRadius)
-    (cond (not (good_limits one && good_limits two)) (Refused BadLimit)
-    (cond (not (whole len)) (Refused BadLength)
-    (cond (too_many len) (Refused TooMany)
-    (cond (ltb room len || ltb bytes (len / 3)) (Refused BadOut)
-    Good))))))
+    cond (not (is_image img)) (Err BadImage)
+    (cond (not (in_range img)) (Err BadSample)
+    (cond (not (leb one.radius 7 && leb two.radius 7)) (Err BadRadius)
+    (cond (not (good_limits one && good_limits two)) (Err BadLimit)
+    (cond (not (whole len)) (Err BadLength)
+    (cond (too_many len) (Err TooMany)
+    (cond (ltb room len || ltb bytes (len / 3)) (Err BadOut)
+    (Ok tt)))))))
 
 -- ---- the operators
 -- settings that accept no seed, whatever is lent
@@ -38,18 +38,18 @@ pub record Serves (cfg used : SaddlePointConfig) (columns : List Float) : Type 0
   pub ready : (img : Image) → Ready img cfg → Ready img used
 
 -- ---- one seed
--- the first fits of a group that is one of the list's
-pub record Held (img : Image) (cfg : SaddlePointConfig) (columns corners : List Float) (group : ℕ) (flat : List Float) : Type 0 where
-  pub long : length flat ≡ 40
-  pub fits : group < length corners / 3 → FirstFits img cfg columns corners group flat
+-- which settings it was, as a byte
+abbrev pub number_of : Pass → ℕ
+number_of First = 1
+number_of Second = 2
 
 -- the byte of a spot, if it is one
-abbrev pub byte_of : Spot → ℕ → List ℕ
-byte_of (At x y) pass = pass ∷ []
+abbrev pub byte_of : Spot → Pass → List ℕ
+byte_of (At x y) pass = number_of pass ∷ []
 byte_of Nowhere pass = []
 
 -- the first's spot, or else the second's, with its pass
-pub record Tries (first second spot : Spot) (pass : ℕ) : Type 0 where
+pub record Tries (first second spot : Spot) (pass : Pass) : Type 0 where
   pub is : spot ≡ either first second
   pub byte : byte_of spot pass ≡ pass_of first second
 

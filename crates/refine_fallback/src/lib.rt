@@ -10,15 +10,8 @@ ghost use Rattle.refine_fallback.specs.Steps.{tests_of};
 
 use imageview::Sizes;
 use refine_formulas::SaddlePointConfig;
-use refine_list::Refinements;
+use refine_list::seeds::Seeds;
 use refusals::Refusal;
-
-// What the tests before the first seed say.
-#[derive(Drop)]
-enum Tested {
-    Good,
-    Refused(Refusal),
-}
 
 // Refines the corners, x, y and strength of each, with the first settings, and those that these do not accept with the second ones. Writes those that are accepted, in
 // input order with their own strength, and a byte for each: 1 or 2, which settings it was.
@@ -31,10 +24,10 @@ pub fn refine_corners_on_image_with_fallback(
     corners: &[f32],
     out: &mut [f32],
     passes: &mut [u8],
-) -> Refinements
+) -> Result<usize, Refusal>
     ensures { Done (way_of (image_of bytes.now words.now sizes) first second corners.now (length out.old) (length passes.old)) out.old passes.old result out.new passes.new }
 {
-    let tested = test(
+    test(
         bytes,
         words,
         sizes,
@@ -43,13 +36,10 @@ pub fn refine_corners_on_image_with_fallback(
         corners.len(),
         out.len(),
         passes.len(),
-    );
-    match tested {
-        Tested::Refused(refusal) => Refinements::Refused(refusal),
-        Tested::Good => Refinements::Refined(walk::refine_both_own(
-            bytes, words, sizes, first, second, corners, out, passes,
-        )),
-    }
+    )?;
+    Ok(walk::refine_both_own(
+        bytes, words, sizes, first, second, corners, out, passes,
+    ))
 }
 
 // The same with the columns of both operators lent, whatever they hold.
@@ -64,10 +54,10 @@ pub fn refine_corners_with_columns(
     corners: &[f32],
     out: &mut [f32],
     passes: &mut [u8],
-) -> Refinements
+) -> Result<usize, Refusal>
     ensures { Done (way_lent (image_of bytes.now words.now sizes) first second first_columns.now second_columns.now corners.now (length out.old) (length passes.old)) out.old passes.old result out.new passes.new }
 {
-    let tested = test(
+    test(
         bytes,
         words,
         sizes,
@@ -76,24 +66,26 @@ pub fn refine_corners_with_columns(
         corners.len(),
         out.len(),
         passes.len(),
-    );
-    match tested {
-        Tested::Refused(refusal) => Refinements::Refused(refusal),
-        Tested::Good => Refinements::Refined(walk::refine_both(
-            bytes,
-            words,
-            sizes,
-            first,
-            second,
-            first_columns,
-            second_columns,
-            false,
-            false,
-            corners,
-            out,
-            passes,
-        )),
-    }
+    )?;
+    let first = Seeds {
+        bytes,
+        words,
+        sizes,
+        cfg: first,
+        columns: first_columns,
+        fourfold: false,
+        corners,
+    };
+    let second = Seeds {
+        bytes,
+        words,
+        sizes,
+        cfg: second,
+        columns: second_columns,
+        fourfold: false,
+        corners,
+    };
+    Ok(walk::refine_both(&first, &second, out, passes))
 }
 
 // The tests in their order, of so many numbers, with so much room for them and so many pass bytes.
@@ -106,29 +98,29 @@ fn test(
     len: usize,
     room: usize,
     marks: usize,
-) -> Tested
+) -> Result<(), Refusal>
     ensures { result ≡ tests_of (image_of bytes.now words.now sizes) first second len room marks }
 {
     if !imageview::is_image(bytes, words, sizes) {
-        return Tested::Refused(Refusal::BadImage);
+        return Err(Refusal::BadImage);
     }
     if !imageview::in_range(bytes, words, sizes) {
-        return Tested::Refused(Refusal::BadSample);
+        return Err(Refusal::BadSample);
     }
     if !((first.radius <= 7) & (second.radius <= 7)) {
-        return Tested::Refused(Refusal::BadRadius);
+        return Err(Refusal::BadRadius);
     }
     if !(refine_seed::good_limits(first) & refine_seed::good_limits(second)) {
-        return Tested::Refused(Refusal::BadLimit);
+        return Err(Refusal::BadLimit);
     }
     if !corners::is_whole(len) {
-        return Tested::Refused(Refusal::BadLength);
+        return Err(Refusal::BadLength);
     }
     if corners::too_many(len) {
-        return Tested::Refused(Refusal::TooMany);
+        return Err(Refusal::TooMany);
     }
     if (room < len) | (marks < len / 3) {
-        return Tested::Refused(Refusal::BadOut);
+        return Err(Refusal::BadOut);
     }
-    Tested::Good
+    Ok(())
 }

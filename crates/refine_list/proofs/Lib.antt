@@ -2,5 +2,4 @@
 pub mod ListLaws
 pub mod FirstLaws
 pub mod RepeatLaws
-pub mod CallLaws
 pub mod PixelsAlone

@@ -21,7 +21,7 @@ use Rattle.refine_seed.specs.declared.Spot.TheVariants.{At, Nowhere}
 use Rattle.refine_seed.specs.Refine.{refine_lent, refine_of}
 use Rattle.refine_seed.specs.Spot.{spot_of}
 use Rattle.refine_seed.specs.StepsSpot.{Lands}
-use Rattle.refine_list.specs.Refining.{record_of, spot_for, records_by}
+use Rattle.refine_list.specs.Refining.{record_of, spot_for, lent_for, records_by}
 use Rattle.refine_list.specs.Steps.{Front, Usable, Going}
 
 -- ---- one record
@@ -123,10 +123,15 @@ module _ (spots : ℕ → Spot) (corners out : List Float) where
   pub empty : ((i : ℕ) → spots i ≡ Nowhere) → Front (records_by spots corners (length corners / 3)) out 0 out
   empty h = subst (λ (l : List Float). Front l out 0 out) (sym (none h (length corners / 3))) (record { count = refl; leaves = refl })
 
--- ---- a seed with the lent operator
-pub spot_is : (img : Image) (cfg : SaddlePointConfig) (columns corners : List Float) (i : ℕ) (p : Spot) → Usable cfg columns → Lands (λ overlap wanted. refine_lent img cfg (entry corners (3 * i)) (entry corners (3 * i + 1)) wanted columns overlap) p → p ≡ spot_for img cfg corners i
-unfolding spot_for
-spot_is img cfg columns corners i p u l = l.is u.overlap false ∙ ap spot_of (u.same img (entry corners (3 * i)) (entry corners (3 * i + 1)) false)
+-- ---- a seed with columns that are lent
+pub spot-lent : (img : Image) (cfg : SaddlePointConfig) (columns corners : List Float) (i : ℕ) (p : Spot) → Lands (λ overlap wanted. refine_lent img cfg (entry corners (3 * i)) (entry corners (3 * i + 1)) wanted columns overlap) p → p ≡ lent_for img cfg columns corners i
+unfolding lent_for
+spot-lent img cfg columns corners i p l = l.is [] false
+
+-- as good as with the operator, where they serve
+pub lent-is : (img : Image) (cfg : SaddlePointConfig) (columns corners : List Float) (i : ℕ) → Usable cfg columns → lent_for img cfg columns corners i ≡ spot_for img cfg corners i
+unfolding lent_for spot_for
+lent-is img cfg columns corners i u = ap spot_of (u.same img (entry corners (3 * i)) (entry corners (3 * i + 1)) false)
 
 -- ---- without an operator
 pub nowhere : (img : Image) (cfg : SaddlePointConfig) (corners : List Float) → ((x y : Float) → spot_of (refine_of img cfg x y false) ≡ Nowhere) → (i : ℕ) → spot_for img cfg corners i ≡ Nowhere

@@ -2,3 +2,4 @@
 pub mod Refining
 pub mod Alone
 pub mod Steps
+pub mod Seeds

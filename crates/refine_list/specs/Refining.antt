@@ -1,6 +1,6 @@
 -- Refining a list of corners, x, y and strength of each: the tests of docs/RULES.md in their order (`way_of`), what each way answers and leaves in the lent
 -- output. No refusal writes; elements past the last record stay.
-use Rattle.std.specs.Prelude.{◌≡◌, false, not, cond, List, [], ◌∷◌, ◌++◌, ℕ, zero, suc, ◌+◌, ◌*◌, ◌/◌, leb, ltb, length, drop, Float}
+use Rattle.std.specs.Prelude.{◌≡◌, false, not, cond, List, [], ◌∷◌, ◌++◌, ℕ, zero, suc, ◌+◌, ◌*◌, ◌/◌, leb, ltb, length, drop, Float, Result, Ok, Err}
 use Rattle.shapes.specs.Numbers.{entry}
 use Rattle.corners.specs.Corners.{whole, too_many}
 use Rattle.refusals.specs.declared.Refusal.{Refusal}
@@ -10,15 +10,13 @@ use Rattle.imageview.specs.Image.{Image, is_image, in_range}
 use Rattle.refine_formulas.specs.declared.SaddlePointConfig.{SaddlePointConfig}
 use Rattle.refine_seed.specs.declared.Spot.{Spot}
 use Rattle.refine_seed.specs.declared.Spot.TheVariants.{At, Nowhere}
-use Rattle.refine_seed.specs.Refine.{good_limits, refine_of}
+use Rattle.refine_seed.specs.Refine.{good_limits, refine_of, refine_lent}
 use Rattle.refine_seed.specs.Spot.{spot_of}
-use Rattle.refine_list.specs.declared.Refinements.{Refinements}
-use Rattle.refine_list.specs.declared.Refinements.TheVariants.{Refined, Refused}
 
 -- the number of each case; 0 is done
-abbrev pub number_of : Refinements → ℕ
-number_of (Refined n) = 0
-number_of (Refused r) = Refusals.number_of r
+abbrev pub number_of : Result ℕ Refusal → ℕ
+number_of (Ok n) = 0
+number_of (Err r) = Refusals.number_of r
 
 -- what is written of a seed: where it was refined to and its own strength, if it was accepted
 abbrev pub record_of : Spot → Float → List Float
@@ -29,6 +27,11 @@ record_of Nowhere strength = []
 unfoldable pub spot_for : Image → SaddlePointConfig → List Float → ℕ → Spot
 unfolding refine_of
 spot_for img cfg corners i = spot_of (refine_of img cfg (entry corners (3 * i)) (entry corners (3 * i + 1)) false)
+
+-- and with columns that are lent, whatever they hold; no covariance is wanted, so no overlap is asked for
+unfoldable pub lent_for : Image → SaddlePointConfig → List Float → List Float → ℕ → Spot
+unfolding refine_lent
+lent_for img cfg columns corners i = spot_of (refine_lent img cfg (entry corners (3 * i)) (entry corners (3 * i + 1)) false columns [])
 
 -- the records of the first n seeds, in input order, where seed i is refined to `spots i`
 unfoldable pub records_by : (ℕ → Spot) → List Float → ℕ → List Float
@@ -56,14 +59,14 @@ way_of img cfg corners room =
     (wrote (records_of img cfg corners (length corners / 3)))))))))
 
 -- a record is three numbers
-abbrev pub answer_of : Way → Refinements
-answer_of (refused r) = Refused r
-answer_of (wrote l) = Refined (length l / 3)
+abbrev pub answer_of : Way → Result ℕ Refusal
+answer_of (refused r) = Err r
+answer_of (wrote l) = Ok (length l / 3)
 
 abbrev pub out_after : List Float → Way → List Float
 out_after out (refused r) = out
 out_after out (wrote l) = l ++ drop (length l) out
 
-pub record Done (img : Image) (cfg : SaddlePointConfig) (corners out : List Float) (answer : Refinements) (out' : List Float) : Type 0 where
+pub record Done (img : Image) (cfg : SaddlePointConfig) (corners out : List Float) (answer : Result ℕ Refusal) (out' : List Float) : Type 0 where
   pub answers : answer ≡ answer_of (way_of img cfg corners (length out))
   pub leaves : out' ≡ out_after out (way_of img cfg corners (length out))

@@ -52,6 +52,11 @@ pub record FirstFits (img : Image) (cfg : SaddlePointConfig) (columns corners : 
   pub long : length flat ≡ 40
   pub fitted : (l : ℕ) → l < 4 → 4 * group + l < length corners / 3 → Fitted img columns cfg (entry corners (3 * (4 * group + l))) (entry corners (3 * (4 * group + l) + 1)) (coefs_in flat l)
 
+-- the first fits of a group that is one of the list's
+pub record Held (img : Image) (cfg : SaddlePointConfig) (columns corners : List Float) (group : ℕ) (flat : List Float) : Type 0 where
+  pub long : length flat ≡ 40
+  pub fits : group < length corners / 3 → FirstFits img cfg columns corners group flat
+
 -- where the patch of the seed number i begins, or of some patch of the image
 pub record Begins (width height pitch radius : ℕ) (corners : List Float) (i r : ℕ) : Type 0 where
   pub is : i < length corners / 3 → r ≡ first_for pitch radius (seed_alone width height radius (entry corners (3 * i)) (entry corners (3 * i + 1)))

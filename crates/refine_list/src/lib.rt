@@ -2,6 +2,7 @@
 #![tactic(auto)]
 
 pub mod list;
+pub mod seeds;
 
 ghost use Rattle.std.specs.Prelude.{◌≡◌};
 ghost use Rattle.imageview.specs.Image.{image_of};
@@ -11,13 +12,7 @@ use imageview::Sizes;
 use refine_formulas::SaddlePointConfig;
 use refusals::Refusal;
 
-// How the call ended.
-#[derive(Drop)]
-pub enum Refinements {
-    Refined(usize),
-    Refused(Refusal),
-}
-
+#[tactic(auto, unfolding(crate::specs::Refining::way_of))]
 // Refines the corners, x, y and strength of each, and writes those that are accepted, in input order with their own strength.
 pub fn refine_corners_on_image(
     bytes: &[u8],
@@ -26,30 +21,30 @@ pub fn refine_corners_on_image(
     cfg: SaddlePointConfig,
     corners: &[f32],
     out: &mut [f32],
-) -> Refinements
+) -> Result<usize, Refusal>
     ensures { Done (image_of bytes.now words.now sizes) cfg corners.now out.old result out.new }
 {
     if !imageview::is_image(bytes, words, sizes) {
-        return Refinements::Refused(Refusal::BadImage);
+        return Err(Refusal::BadImage);
     }
     if !imageview::in_range(bytes, words, sizes) {
-        return Refinements::Refused(Refusal::BadSample);
+        return Err(Refusal::BadSample);
     }
     if 7 < cfg.radius {
-        return Refinements::Refused(Refusal::BadRadius);
+        return Err(Refusal::BadRadius);
     }
     if !refine_seed::good_limits(cfg) {
-        return Refinements::Refused(Refusal::BadLimit);
+        return Err(Refusal::BadLimit);
     }
     let len = corners.len();
     if !corners::is_whole(len) {
-        return Refinements::Refused(Refusal::BadLength);
+        return Err(Refusal::BadLength);
     }
     if corners::too_many(len) {
-        return Refinements::Refused(Refusal::TooMany);
+        return Err(Refusal::TooMany);
     }
     if out.len() < len {
-        return Refinements::Refused(Refusal::BadOut);
+        return Err(Refusal::BadOut);
     }
-    Refinements::Refined(list::refine_list(bytes, words, sizes, cfg, corners, out) / 3)
+    Ok(list::refine_list(bytes, words, sizes, cfg, corners, out) / 3)
 }

@@ -144,15 +144,11 @@ fn slope_at<S: Sample>(
     let in_row = |k: usize|
         requires { PatchWithin image.now columns.now.radius k cy }
         ensures { result ≡ coefficients image.entry.now columns.entry.now.numbers.now columns.entry.now.radius k cy }
-    {
-        fits::fit_patch(image, k, cy, columns)
-    };
+    { fits::fit_patch(image, k, cy, columns) };
     let in_column = |k: usize|
         requires { PatchWithin image.now columns.now.radius cx k }
         ensures { result ≡ coefficients image.entry.now columns.entry.now.numbers.now columns.entry.now.radius cx k }
-    {
-        fits::fit_patch(image, cx, k, columns)
-    };
+    { fits::fit_patch(image, cx, k, columns) };
     let x = along(cx, image.width(), columns.radius, here, in_row)?;
     let y = along(cy, image.height(), columns.radius, here, in_column)?;
     Some(Slope { x, y })

@@ -56,7 +56,9 @@ pub fn refine<S: Sample>(
     close_fresh(opened, cfg, wanted)
 }
 
-// A seed that passed the tests, as far as the columns of the settings' radius go; at radius 0 there is no operator.
+// A seed that passed the tests, as far as the columns of the settings' radius go; at radius 0 there is no operator. Not inlined, nor is the next one: so columns
+// and overlaps never stand in one stack.
+#[inline(never)]
 fn open_fresh<S: Sample>(
     image: &Image<S>,
     cfg: SaddlePointConfig,
@@ -71,11 +73,8 @@ fn open_fresh<S: Sample>(
 }
 
 // The estimate, with the overlaps of the settings' radius where a covariance is wanted.
-fn close_fresh(
-    opened: Opened,
-    cfg: SaddlePointConfig,
-    wanted: bool,
-) -> Result<Estimate, Unrefined>
+#[inline(never)]
+fn close_fresh(opened: Opened, cfg: SaddlePointConfig, wanted: bool) -> Result<Estimate, Unrefined>
     ensures { ClosesFresh cfg wanted opened result }
 {
     let mut overlap = [0.0f32; 225];

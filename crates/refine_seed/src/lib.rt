@@ -20,21 +20,21 @@ pub use entry::{good_limits, old_number, refine, refine_with};
 pub use spots::{first_place, spot_with};
 
 // Where the steps ended: after how many tries, and in which window they settled, if they did.
-#[derive(Clone, Copy)]
-pub struct Ended {
-    pub tries: u32,
-    pub settled: Option<Taken>,
+#[derive(Clone, Copy, Debug, PartialEq)]
+struct Ended {
+    tries: u32,
+    settled: Option<Taken>,
 }
 
 // A candidate window that was taken: its offset from the centre pixel and how far on it lies between pixels, the saddle there and the four fits about it.
-#[derive(Clone, Copy)]
-pub struct Taken {
-    pub ox: f32,
-    pub oy: f32,
-    pub tx: f32,
-    pub ty: f32,
-    pub fit: PatchSaddle,
-    pub corners: Corners,
+#[derive(Clone, Copy, Debug, PartialEq)]
+struct Taken {
+    ox: f32,
+    oy: f32,
+    tx: f32,
+    ty: f32,
+    fit: PatchSaddle,
+    corners: Corners,
 }
 
 // The fits that a run has worked out: the nine that it keeps, and those about two bases in a flat array.
@@ -46,23 +46,23 @@ struct Nearby {
 }
 
 // How far a seed comes without the operator's overlaps: its estimate with no covariance yet, and what one asks where the run converged.
-#[derive(Clone, Copy)]
-pub struct Opened {
-    pub estimate: Estimate,
-    pub noise: Option<Noise>,
+#[derive(Clone, Copy, Debug, PartialEq)]
+struct Opened {
+    estimate: Estimate,
+    noise: Option<Noise>,
 }
 
 // What a covariance asks beside the overlaps: how far on the window lies, the saddle there, and how it moves with the window.
-#[derive(Clone, Copy)]
-pub struct Noise {
-    pub tx: f32,
-    pub ty: f32,
-    pub fit: PatchSaddle,
-    pub moves: Matrix,
+#[derive(Clone, Copy, Debug, PartialEq)]
+struct Noise {
+    tx: f32,
+    ty: f32,
+    fit: PatchSaddle,
+    moves: Matrix,
 }
 
 // An accepted seed: where it was refined to, in pixels, the root of minus the determinant, whether the run converged, its tries, and the covariance if it was wanted.
-#[derive(Clone, Copy)]
+#[derive(Clone, Copy, Debug, PartialEq)]
 pub struct Estimate {
     pub x: f32,
     pub y: f32,
@@ -73,14 +73,14 @@ pub struct Estimate {
 }
 
 // A place in pixels.
-#[derive(Clone, Copy)]
+#[derive(Clone, Copy, Debug, PartialEq)]
 pub struct Spot {
     pub x: f32,
     pub y: f32,
 }
 
 // Why a seed stays where it is, by the Rust's names; that a coordinate is no finite number, and why a fit is refused, are ours. IllConditioned: there is no operator.
-#[derive(Clone, Copy)]
+#[derive(Clone, Copy, Debug, PartialEq, Eq)]
 pub enum Why {
     Rejected,
     OutOfBounds,
@@ -107,7 +107,7 @@ impl From<Why> for u32 {
 }
 
 // Why there is no estimate: the seed stays where it is, with a score beside the reason, which is the determinant of the first fit where there was one; or the call is refused.
-#[derive(Clone, Copy)]
+#[derive(Clone, Copy, Debug, PartialEq)]
 pub enum Unrefined {
     Unmoved(Why, f32),
     Refused(Refusal),
@@ -137,7 +137,7 @@ impl From<OperatorError> for Unrefined {
     fn from(error: OperatorError) -> Unrefined {
         match error {
             OperatorError::Singular => Unrefined::Unmoved(Why::IllConditioned, 0.0),
-            OperatorError::Refused(refusal) => Unrefined::Refused(refusal),
+            OperatorError::Refused(refusal) => refusal.into(),
         }
     }
 }

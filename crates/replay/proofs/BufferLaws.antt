@@ -1,45 +1,30 @@
--- A list that is written over from the front, and a test of every element from a place on.
-use mathlib.Core.Path.{◌≡◌, refl, sym, ap, ◌∙◌}
-use mathlib.Core.Bool.{Bool, true, false, cond}
-use mathlib.Core.List.{List, [], ◌∷◌}
-use Prim.Native.Nat.{ℕ, zero, suc, ◌+◌, ◌-◌, ◌*◌, ◌≤◌, ◌<◌}
+-- A list that is written over from the front, and tests of every element and of every number from a place on.
+use Rattle.std.proofs.Common.{◌≡◌, refl, sym, ap, ◌∙◌, Bool, true, false, cond, List, [], ◌∷◌, ℕ, zero, suc, ◌+◌, ◌-◌, ◌≤◌, ◌<◌, length, drop, get_or, slice_index, slice_set, arith}
 use native.Mathlib.Nat.{not-suc-le-zero, le_of_suc-le-suc, zero-add}
 use native.Mathlib.Numerals.{add-one}
-use native.Mathlib.Omega.{arith}
-use lib.ListN.{length, set}
-use lib.Ieee.{Float}
-use borrow.Author.Tests.{lt-ltb, le-ltb, eq-eqb, ne_eqb}
-use Rattle.replay.specs.Buffers.{over, every, stands_at, stands_in, counts_as, corners_stand}
-use Rattle.replay.specs.Place.{place_of}
-use Rattle.words.specs.Words.{word_at}
+use Rattle.replay.specs.Buffers.{over, every, every_at}
 
-over-suc : {A : Type 0} (f : ℕ → A) (i n : ℕ) (l : List A) → n < length l → set (over f i n l) n (f (i + n)) ≡ over f i (suc n) l
+over_suc : {A : Type 0} (f : ℕ → A) (i n : ℕ) (l : List A) → n < length l → slice_set (over f i n l) n (f (i + n)) ≡ over f i (suc n) l
 unfolding over
-over-suc f i n [] h = absurd (not-suc-le-zero h)
-over-suc f i zero (x ∷ l) h = ap (λ (k : ℕ). f k ∷ l) (nought i)
+over_suc f i n [] h = absurd (not-suc-le-zero h)
+over_suc f i zero (x ∷ l) h = ap (λ (k : ℕ). f k ∷ l) (nought i)
   where
     nought : (i : ℕ) → i + 0 ≡ i
     nought i = omega arith
-over-suc f i (suc n) (x ∷ l) h =
-    ap (λ (k : ℕ). f i ∷ set (over f (suc i) n l) n (f k)) (shifted i n) ∙ ap (λ (t : List _). f i ∷ t) (over-suc f (suc i) n l (le_of_suc-le-suc h))
+over_suc f i (suc n) (x ∷ l) h =
+    ap (λ (k : ℕ). f i ∷ slice_set (over f (suc i) n l) n (f k)) (shifted i n) ∙ ap (λ (t : List _). f i ∷ t) (over_suc f (suc i) n l (le_of_suc-le-suc h))
   where
     shifted : (i n : ℕ) → i + suc n ≡ suc i + n
     shifted i n = omega arith
 
-pub over-more : {A : Type 0} (f : ℕ → A) (n : ℕ) (l : List A) (v : A) → n < length l → v ≡ f n → set (over f 0 n l) n v ≡ over f 0 (n + 1) l
+pub over_more : {A : Type 0} (f : ℕ → A) (n : ℕ) (l : List A) (v : A) → n < length l → v ≡ f n → slice_set (over f 0 n l) n v ≡ over f 0 (n + 1) l
 unfolding over
-over-more f n l v h e =
-    ap (λ (x : _). set (over f 0 n l) n x) (e ∙ ap f (sym (zero-add n)))
-    ∙ over-suc f 0 n l h
+over_more f n l v h e =
+    ap (λ (x : _). slice_set (over f 0 n l) n x) (e ∙ ap f (sym (zero-add n)))
+    ∙ over_suc f 0 n l h
     ∙ ap (λ (k : ℕ). over f 0 k l) (sym (add-one n))
 
-pub length_over : {A : Type 0} (f : ℕ → A) (i n : ℕ) (l : List A) → length (over f i n l) ≡ length l
-unfolding over
-length_over f i zero l = refl
-length_over f i (suc n) [] = refl
-length_over f i (suc n) (x ∷ l) = ap suc (length_over f (suc i) n l)
-
--- ---- the test
+-- ---- every number
 gap : (i n : ℕ) → i < n → n - i ≡ suc (n - suc i)
 gap i n h = omega arith
 
@@ -50,47 +35,51 @@ every_more p i n h e =
     ∙ ap (λ (b : Bool). cond b (every p (suc i) (n - suc i)) false) e
     ∙ ap (λ (k : ℕ). every p k (n - k)) (sym (add-one i))
 
-pub every-fails : (p : ℕ → Bool) (i n : ℕ) → i < n → p i ≡ false → every p i (n - i) ≡ false
+pub every_fails : (p : ℕ → Bool) (i n : ℕ) → i < n → p i ≡ false → every p i (n - i) ≡ false
 unfolding every
-every-fails p i n h e = ap (every p i) (gap i n h) ∙ ap (λ (b : Bool). cond b (every p (suc i) (n - suc i)) false) e
+every_fails p i n h e = ap (every p i) (gap i n h) ∙ ap (λ (b : Bool). cond b (every p (suc i) (n - suc i)) false) e
 
-pub every-end : (p : ℕ → Bool) (i n : ℕ) → n ≤ i → every p i (n - i) ≡ true
+pub every_end : (p : ℕ → Bool) (i n : ℕ) → n ≤ i → every p i (n - i) ≡ true
 unfolding every
-every-end p i n h = ap (every p i) (none i n h)
+every_end p i n h = ap (every p i) (none i n h)
   where
     none : (i n : ℕ) → n ≤ i → n - i ≡ 0
     none i n h = omega arith
 
-pub every-start : (p : ℕ → Bool) (n : ℕ) → every p 0 (n - 0) ≡ every p 0 n
-every-start p n = ap (every p 0) (whole n)
+-- ---- every element: x is the one at i
+next_at : {A : Type 0} (p : ℕ → A → Bool) (i k : ℕ) (l : List A) (x : A) → i < length l → x ≡ get_or l i x → every_at p k (drop i l) ≡ cond (p k x) (every_at p (suc k) (drop (suc i) l)) false
+unfolding every_at
+next_at p i k [] x h e = absurd (not-suc-le-zero h)
+next_at p zero k (a ∷ l) x h e = ap (λ (y : _). cond (p k y) (every_at p (suc k) l) false) (sym e)
+next_at p (suc i) k (a ∷ l) x h e = next_at p i k l x (le_of_suc-le-suc h) e
+
+pub all_more : {A : Type 0} (p : ℕ → A → Bool) (i : ℕ) (l : List A) (x : A) → i < length l → x ≡ get_or l i x → p i x ≡ true → every_at p i (drop i l) ≡ every_at p (i + 1) (drop (i + 1) l)
+all_more p i l x h g e =
+    next_at p i i l x h g
+    ∙ ap (λ (b : Bool). cond b (every_at p (suc i) (drop (suc i) l)) false) e
+    ∙ ap (λ (k : ℕ). every_at p k (drop k l)) (sym (add-one i))
+
+pub all_fails : {A : Type 0} (p : ℕ → A → Bool) (i : ℕ) (l : List A) (x : A) → i < length l → x ≡ get_or l i x → p i x ≡ false → every_at p i (drop i l) ≡ false
+all_fails p i l x h g e = next_at p i i l x h g ∙ ap (λ (b : Bool). cond b (every_at p (suc i) (drop (suc i) l)) false) e
+
+pub all_end : {A : Type 0} (p : ℕ → A → Bool) (i : ℕ) (l : List A) → length l ≤ i → every_at p i (drop i l) ≡ true
+unfolding every_at
+all_end p i l h = past i i l h
   where
-    whole : (n : ℕ) → n - 0 ≡ n
-    whole n = omega arith
+    past : (i k : ℕ) (l : List _) → length l ≤ i → every_at p k (drop i l) ≡ true
+    past zero k [] h = refl
+    past (suc i) k [] h = refl
+    past zero k (a ∷ l) h = absurd (not-suc-le-zero h)
+    past (suc i) k (a ∷ l) h = past i k l (le_of_suc-le-suc h)
 
--- ---- a list judged by the case's words
-module _ (case : List ℕ) (at n : ℕ) (painted : Bool) (l : List Float) where
-  pub stands-short : length l < n → stands_in case at n painted l ≡ false
-  unfolding stands_in
-  stands-short h = ap (λ (b : Bool). cond b false (every (stands_at case at n painted l) 0 (length l))) (lt-ltb (length l) n h)
+-- ---- the same of whole numbers
+number_here : (l : List ℕ) (i : ℕ) → i < length l → slice_index l i ≡ get_or l i (slice_index l i)
+number_here [] i h = absurd (not-suc-le-zero h)
+number_here (a ∷ l) zero h = refl
+number_here (a ∷ l) (suc i) h = number_here l i (le_of_suc-le-suc h)
 
-  pub stands-is : n ≤ length l → stands_in case at n painted l ≡ every (stands_at case at n painted l) 0 (length l)
-  unfolding stands_in
-  stands-is h = ap (λ (b : Bool). cond b false (every (stands_at case at n painted l) 0 (length l))) (le-ltb (length l) n h)
+pub numbers_more : (p : ℕ → ℕ → Bool) (i : ℕ) (l : List ℕ) → i < length l → p i (slice_index l i) ≡ true → every_at p i (drop i l) ≡ every_at p (i + 1) (drop (i + 1) l)
+numbers_more p i l h e = all_more p i l (slice_index l i) h (number_here l i h) e
 
--- ---- an answer of corners, test by test
-module _ (case : List ℕ) (at number count : ℕ) (out : List Float) where
-  abbrev judged_by : Bool → Bool → Bool
-  judged_by a b = cond a (cond b (stands_in case (place_of at 4) (3 * word_at case (place_of at 3)) true out) false) false
-
-  pub corners-number : (number ≡ word_at case (place_of at 0) → ⊥) → corners_stand case at number count out ≡ false
-  unfolding corners_stand
-  corners-number h = ap (λ (a : Bool). judged_by a (counts_as number (word_at case (place_of at 3)) count)) (ne_eqb _ _ h)
-
-  pub corners-count : number ≡ word_at case (place_of at 0) → counts_as number (word_at case (place_of at 3)) count ≡ false → corners_stand case at number count out ≡ false
-  unfolding corners_stand
-  corners-count h e = ap (λ (a : Bool). judged_by a (counts_as number (word_at case (place_of at 3)) count)) (eq-eqb _ _ h) ∙ ap (judged_by true) e
-
-  pub corners-are : number ≡ word_at case (place_of at 0) → counts_as number (word_at case (place_of at 3)) count ≡ true
-      → corners_stand case at number count out ≡ stands_in case (place_of at 4) (3 * word_at case (place_of at 3)) true out
-  unfolding corners_stand
-  corners-are h e = ap (λ (a : Bool). judged_by a (counts_as number (word_at case (place_of at 3)) count)) (eq-eqb _ _ h) ∙ ap (judged_by true) e
+pub numbers_fail : (p : ℕ → ℕ → Bool) (i : ℕ) (l : List ℕ) → i < length l → p i (slice_index l i) ≡ false → every_at p i (drop i l) ≡ false
+numbers_fail p i l h e = all_fails p i l (slice_index l i) h (number_here l i h) e

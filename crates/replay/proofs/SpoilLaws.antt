@@ -1,41 +1,31 @@
--- What is taken at a turn is no later than the turn; the last bit of eight; and the ways of changing one element.
-use mathlib.Core.Path.{◌≡◌, ap, ◌∙◌}
-use mathlib.Core.Bool.{Bool, true, false, cond}
-use mathlib.Core.List.{List}
-use Prim.Native.Nat.{ℕ, ◌-◌, ◌%◌, ◌≤◌, ◌<◌}
-use native.Mathlib.Nat.{mod-le}
-use native.Mathlib.Omega.{arith}
-use borrow.Author.Tests.{eq-eqb, ne_eqb}
-use lib.Dec.{eqb}
-use lib.ListN.{length, get_or, set}
-use lib.Seq.{set_out}
-use Rattle.replay.specs.Spoil.{pick_of, hit_of}
+-- The element at a place by another one: within the list it is set, past its end the list stays.
+use Rattle.std.proofs.Common.{◌≡◌, refl, ap, ◌∙◌, List, [], ◌∷◌, ℕ, zero, suc, ◌<◌, ◌≤◌, length, get_or, slice_set}
+use native.Mathlib.Nat.{not-suc-le-zero, le_of_suc-le-suc}
+use Rattle.std.specs.Int.Bits.{bit_xor, xor_self, xor_assoc, xor_zero_r}
+use Rattle.replay.specs.Spoil.{changed_at, flipped, mask_of, byte_of}
 
-pub pick-le : (turn n : ℕ) → pick_of turn n ≤ turn
-unfolding pick_of
-pick-le turn n = either (eqb n 0)
-  where
-    either : (b : Bool) → cond b 0 (turn % n) ≤ turn
-    either true = omega arith
-    either false = mod-le turn n
+pub changed_within : {A : Type 0} (f : A → A) (l : List A) (i : ℕ) (x v : A) → i < length l → x ≡ get_or l i x → v ≡ f x → slice_set l i v ≡ changed_at f i l
+unfolding changed_at
+changed_within f [] i x v h e p = absurd (not-suc-le-zero h)
+changed_within f (a ∷ l) zero x v h e p = ap (λ (y : _). y ∷ l) (p ∙ ap f e)
+changed_within f (a ∷ l) (suc i) x v h e p = ap (λ (t : List _). a ∷ t) (changed_within f l i x v (le_of_suc-le-suc h) e p)
 
-past_three : (b : ℕ) → (b ≡ 0 → ⊥) → (b ≡ 1 → ⊥) → (b ≡ 2 → ⊥) → (b ≡ 3 → ⊥) → 4 ≤ b
-past_three b n0 n1 n2 n3 = omega arith
+pub changed_past : {A : Type 0} (f : A → A) (l : List A) (i : ℕ) → length l ≤ i → l ≡ changed_at f i l
+unfolding changed_at
+changed_past f [] i h = refl
+changed_past f (a ∷ l) zero h = absurd (not-suc-le-zero h)
+changed_past f (a ∷ l) (suc i) h = ap (λ (t : List _). a ∷ t) (changed_past f l i (le_of_suc-le-suc h))
 
-past-six : (b : ℕ) → 4 ≤ b → b < 8 → (b ≡ 4 → ⊥) → (b ≡ 5 → ⊥) → (b ≡ 6 → ⊥) → b ≡ 7
-past-six b h g n4 n5 n6 = omega arith
+-- ---- a bit that is flipped twice is as it was
+back : (a m : ℕ) → bit_xor (bit_xor a m) m ≡ a
+back a m = xor_assoc a m m ∙ ap (bit_xor a) (xor_self m) ∙ xor_zero_r a
 
-pub seven : (b : ℕ) → b < 8 → (b ≡ 0 → ⊥) → (b ≡ 1 → ⊥) → (b ≡ 2 → ⊥) → (b ≡ 3 → ⊥) → (b ≡ 4 → ⊥) → (b ≡ 5 → ⊥) → (b ≡ 6 → ⊥) → b ≡ 7
-seven b h n0 n1 n2 n3 = past-six b (past_three b n0 n1 n2 n3) h
+-- the number at i by another one and back again, where f undoes itself
+undone : (f : ℕ → ℕ) → ((n : ℕ) → f (f n) ≡ n) → (l : List ℕ) (i : ℕ) → slice_set (slice_set l i (f (get_or l i 0))) i (f (get_or (slice_set l i (f (get_or l i 0))) i 0)) ≡ l
+undone f e [] i = refl
+undone f e (a ∷ l) zero = ap (λ (n : ℕ). n ∷ l) (e a)
+undone f e (a ∷ l) (suc i) = ap (λ (t : List _). a ∷ t) (undone f e l i)
 
-module _ {A : Type 0} (d : A) (f : A → A) (h : ℕ) (l : List A) where
-  pub hit-none : h ≡ 0 → hit_of d f h l ≡ l
-  unfolding hit_of
-  hit-none e = ap (λ (b : Bool). cond b l (set l (h - 1) (f (get_or l (h - 1) d)))) (eq-eqb h 0 e)
-
-  pub hit-is : (h ≡ 0 → ⊥) → hit_of d f h l ≡ set l (h - 1) (f (get_or l (h - 1) d))
-  unfolding hit_of
-  hit-is e = ap (λ (b : Bool). cond b l (set l (h - 1) (f (get_or l (h - 1) d)))) (ne_eqb h 0 e)
-
-  pub hit-past : (h ≡ 0 → ⊥) → length l < h → hit_of d f h l ≡ l
-  hit-past e p = hit-is e ∙ set_out l (h - 1) (f (get_or l (h - 1) d)) (omega arith)
+pub flipped_twice : (l : List ℕ) (place bit : ℕ) → flipped (flipped l place bit) place bit ≡ l
+unfolding flipped
+flipped_twice l place bit = undone (λ n. bit_xor n (mask_of bit)) (λ n. back n (mask_of bit)) l (byte_of place bit)

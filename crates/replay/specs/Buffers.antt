@@ -1,9 +1,13 @@
 -- What a buffer holds before a call and what it is judged by after it: words of the case, and behind them paint or zeros.
-use Rattle.std.specs.Prelude.{Bool, true, false, cond, List, [], ◌∷◌, ℕ, zero, suc, ◌+◌, ◌-◌, ◌*◌, ◌%◌, eqb, ltb, Float, length, get_or}
-use Rattle.std.specs.Float.{nan, binary32}
-use Rattle.std.specs.Float.Ieee.{of_bits, to_bits}
+-- A buffer's numbers are known by `word`, the word that one is stored as, `number`, the number that a word stands for, and `mark`, the word of the paint at
+-- a place.
+use Rattle.std.specs.Prelude.{Bool, true, false, cond, ◌&&◌, List, [], ◌∷◌, ℕ, zero, suc, ◌+◌, ◌-◌, ◌*◌, ◌%◌, eqb, ltb, Float, length, slice_index}
+use Rattle.std.specs.Float.{binary32}
+use Rattle.std.specs.Float.Ieee.{to_bits}
 use Rattle.words.specs.Words.{word_at}
 use Rattle.replay.specs.Place.{place_of}
+use Rattle.replay.specs.declared.buffers.Fill.{Fill}
+use Rattle.replay.specs.declared.buffers.Fill.TheVariants.{Paint, Zeros}
 
 -- a list whose first n elements are those of f from i on
 unfoldable pub over : {A : Type 0} → (ℕ → A) → ℕ → ℕ → List A → List A
@@ -11,56 +15,71 @@ over f i zero l = l
 over f i (suc n) [] = []
 over f i (suc n) (x ∷ l) = f i ∷ over f (suc i) n l
 
+-- a test of each element and its place
+unfoldable pub every_at : {A : Type 0} → (ℕ → A → Bool) → ℕ → List A → Bool
+every_at p i [] = true
+every_at p i (x ∷ l) = cond (p i x) (every_at p (suc i) l) false
+
 -- p at i and at the n - 1 that follow
 unfoldable pub every : (ℕ → Bool) → ℕ → ℕ → Bool
 every p i zero = true
 every p i (suc n) = cond (p i) (every p (suc i) n) false
 
--- ---- floats: the bits of numbers from 1.5 up are the paint
-unfoldable pub mark_of : ℕ → ℕ
+-- ---- paint: the bits of numbers from 1.5 up, and small numbers
+abbrev pub mark_of : ℕ → ℕ
 mark_of i = 0x3fc0_0000 + i % 999
 
-unfoldable pub wanted_of : List ℕ → ℕ → ℕ → Bool → ℕ → ℕ
-wanted_of case at n painted i = cond (ltb i n) (word_at case (place_of at i)) (cond painted (mark_of i) 0)
+abbrev pub scratch_mark : ℕ → ℕ
+scratch_mark i = i % 999 + 1
 
-abbrev pub lent_at : List ℕ → ℕ → ℕ → Bool → ℕ → Float
-lent_at case at n painted i = of_bits binary32 (wanted_of case at n painted i)
+abbrev pub byte_mark : ℕ → ℕ
+byte_mark i = i % 250 + 3
 
-unfoldable pub lent_of : List ℕ → ℕ → ℕ → Bool → List Float → List Float
-lent_of case at n painted l = over (lent_at case at n painted) 0 (length l) l
+-- a whole number out of a word
+abbrev pub lowest : ℕ → ℕ → ℕ
+lowest limit word = word % limit
 
-abbrev pub stands_at : List ℕ → ℕ → ℕ → Bool → List Float → ℕ → Bool
-stands_at case at n painted l i = eqb (to_bits binary32 (get_or l i nan)) (wanted_of case at n painted i)
+-- ---- a buffer
+abbrev pub fill_of : (ℕ → ℕ) → Fill → ℕ → ℕ
+fill_of mark Paint i = mark i
+fill_of mark Zeros i = 0
 
-unfoldable pub stands_in : List ℕ → ℕ → ℕ → Bool → List Float → Bool
-stands_in case at n painted l = cond (ltb (length l) n) false (every (stands_at case at n painted l) 0 (length l))
+abbrev pub wanted_of : (ℕ → ℕ) → List ℕ → ℕ → ℕ → Fill → ℕ → ℕ
+wanted_of mark case at n fill i = cond (ltb i n) (word_at case (place_of at i)) (fill_of mark fill i)
 
--- ---- scratch: small numbers are the paint
-unfoldable pub scratch_of : Bool → ℕ → ℕ
-scratch_of painted i = cond painted (i % 999 + 1) 0
+abbrev pub lent_of : {A : Type 0} → (ℕ → A) → (ℕ → ℕ) → List ℕ → ℕ → ℕ → Fill → List A → List A
+lent_of number mark case at n fill l = over (λ i. number (wanted_of mark case at n fill i)) 0 (length l) l
 
-unfoldable pub painted_of : List ℕ → List ℕ
-painted_of l = over (scratch_of true) 0 (length l) l
+abbrev pub painted_of : {A : Type 0} → (ℕ → A) → (ℕ → ℕ) → List A → List A
+painted_of number mark l = over (λ i. number (mark i)) 0 (length l) l
 
-abbrev pub scratch_at : Bool → List ℕ → ℕ → Bool
-scratch_at painted l i = eqb (get_or l i 0) (scratch_of painted i)
+abbrev pub stands_in : {A : Type 0} → (A → ℕ) → (ℕ → ℕ) → List ℕ → ℕ → ℕ → Fill → List A → Bool
+stands_in word mark case at n fill l = cond (ltb (length l) n) false (every_at (λ i x. eqb (word x) (wanted_of mark case at n fill i)) 0 l)
 
-unfoldable pub scratch_stands : Bool → List ℕ → Bool
-scratch_stands painted l = every (scratch_at painted l) 0 (length l)
+-- ---- bytes: those that are given, from a place on, and zeros behind them; n of these are judged, and the others are paint
+abbrev pub given_byte : List ℕ → ℕ → ℕ → ℕ → ℕ
+given_byte case at given i = cond (ltb i given) (slice_index case (at + i)) 0
+
+abbrev pub loaded_of : List ℕ → ℕ → ℕ → List ℕ → List ℕ
+loaded_of case at given l = over (given_byte case at given) 0 (length l) l
+
+abbrev pub wanted_byte : List ℕ → ℕ → ℕ → ℕ → ℕ → ℕ
+wanted_byte case at given n i = cond (ltb i n) (given_byte case at given i) (byte_mark i)
+
+abbrev pub bytes_stand_in : List ℕ → ℕ → ℕ → ℕ → List ℕ → Bool
+bytes_stand_in case at given n l = cond (ltb (length l) n) false (every_at (λ i x. eqb x (wanted_byte case at given n i)) 0 l)
 
 -- ---- a number handed out beside the answer: the stored one; where the call is refused 0 is stored and it is still paint
-unfoldable pub counts_as : ℕ → ℕ → ℕ → Bool
-counts_as number stored count = cond (eqb number 0) (eqb count stored) (cond (eqb stored 0) (eqb count (mark_of 0)) false)
+abbrev pub counts_as : ℕ → ℕ → ℕ → Bool
+counts_as number stored count = cond (eqb number 0) (eqb count stored) (eqb stored 0 && eqb count (mark_of 0))
 
 -- an answer of a number, two words that are not ours to answer, a count and that many corners
-unfoldable pub corners_stand : List ℕ → ℕ → ℕ → ℕ → List Float → Bool
+abbrev pub corners_stand : List ℕ → ℕ → ℕ → ℕ → List Float → Bool
 corners_stand case at number count out =
-    cond (eqb number (word_at case (place_of at 0)))
-    (cond (counts_as number (word_at case (place_of at 3)) count) (stands_in case (place_of at 4) (3 * word_at case (place_of at 3)) true out) false) false
+    eqb number (word_at case (place_of at 0))
+    && counts_as number (word_at case (place_of at 3)) count
+    && stands_in (to_bits binary32) mark_of case (place_of at 4) (3 * word_at case (place_of at 3)) Paint out
 
 -- ---- words that are 0, from one number up to another
-abbrev pub zero_at : List ℕ → ℕ → ℕ → Bool
-zero_at case at i = eqb (word_at case (place_of at i)) 0
-
-unfoldable pub zeros_in : List ℕ → ℕ → ℕ → ℕ → Bool
-zeros_in case at from to = every (zero_at case at) from (to - from)
+abbrev pub zeros_in : List ℕ → ℕ → ℕ → ℕ → Bool
+zeros_in case at from to = every (λ i. eqb (word_at case (place_of at i)) 0) from (to - from)

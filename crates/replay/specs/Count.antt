@@ -19,7 +19,7 @@ Takes End buf old new = IsAtEnd old × IsAtEnd new
 Takes Broken buf old new = Unit
 
 -- one more unless all is well; no list reaches the limit
-unfoldable pub more_of : ℕ → Bool → ℕ
+abbrev pub more_of : ℕ → Bool → ℕ
 more_of n well = cond well n (cond (ltb 1000000 n) n (n + 1))
 
 abbrev pub none : Tally

@@ -1,86 +1,110 @@
 // Buffers: lent before a call with the numbers of a case or with paint, and judged after it.
-ghost use Rattle.std.specs.Prelude.{◌≡◌, eqb};
-ghost use Rattle.std.specs.Float.Ieee as Ieee;
-ghost use Rattle.std.specs.Float.{binary32};
-ghost use Rattle.words.specs.Words.{word_at};
+ghost use Rattle.std.specs.Prelude.{◌≡◌};
 ghost use Rattle.replay.specs.Place.{place_of};
-ghost use Rattle.replay.specs.Buffers.{mark_of, wanted_of, lent_of, stands_in, scratch_of, painted_of, scratch_stands, counts_as, corners_stand, zeros_in};
+ghost use Rattle.replay.specs.Buffers.{mark_of, wanted_of, lent_of, painted_of, stands_in, given_byte, loaded_of, wanted_byte, bytes_stand_in, counts_as, corners_stand};
 
-// The paint of a place, a word for each.
+use crate::{Element, Part};
+
+// What stands behind the numbers of a case.
+#[derive(Clone, Copy, Debug, PartialEq)]
+pub enum Fill {
+    Paint,
+    Zeros,
+}
+
+// The paint of a number by itself.
 pub fn mark(i: usize) -> u32
     ensures { result ≡ mark_of i }
 {
-    0x3fc0_0000 + (i % 999) as u32
+    <f32 as Element>::mark(i)
 }
 
-// The word of a buffer at place i: one of the n that stand in the case from a byte on, and behind them paint, or +0.0.
-pub fn wanted(case: &[u8], at: usize, n: usize, painted: bool, i: usize) -> u32
-    ensures { result ≡ wanted_of case.now at n painted i }
+// The word of a buffer at place i: one of the n that a part begins with, and behind them paint or 0.
+pub fn wanted<T: Element>(part: Part, n: usize, fill: Fill, i: usize) -> u32
+    ensures { result ≡ wanted_of T.mark_at part.entry.case.now part.entry.at n fill i }
 {
     if i < n {
-        return crate::word_from(case, at, i);
+        return part.word(i);
     }
-    if painted {
-        return mark(i);
+    match fill {
+        Fill::Paint => T::mark(i),
+        Fill::Zeros => 0,
     }
-    0
 }
 
-// A list lent with n numbers of the case, and paint or +0.0 behind them.
-pub fn lend(case: &[u8], at: usize, n: usize, painted: bool, list: &mut [f32])
-    ensures { list.new ≡ lent_of case.now at n painted list.old }
+// A list lent with n numbers of a part, and paint or zeros behind them.
+#[tactic(auto, using(crate::proofs::BufferLaws::over_more), unfolding(crate::specs::Buffers::over))]
+pub fn lend<T: Element>(part: Part, n: usize, fill: Fill, list: &mut [T])
+    ensures { list.new ≡ lent_of T.of_word T.mark_at part.entry.case.now part.entry.at n fill list.old }
 {
     for (i, x) in list.iter_mut().enumerate() {
-        *x = floats::f32_from_bits(wanted(case, at, n, painted, i));
+        *x = T::from_word(wanted::<T>(part, n, fill, i));
     }
 }
 
-// Whether a number is the one stored in the word number i after a place.
-pub fn float_stands(case: &[u8], at: usize, i: usize, x: f32) -> bool
-    ensures { result ≡ eqb (Ieee.to_bits binary32 x) (word_at case.now (place_of at i)) }
+// A list lent with paint alone.
+#[tactic(auto, using(crate::proofs::BufferLaws::over_more), unfolding(crate::specs::Buffers::over))]
+pub fn paint<T: Element>(list: &mut [T])
+    ensures { list.new ≡ painted_of T.of_word T.mark_at list.old }
 {
-    floats::f32_to_bits(x) == crate::word_from(case, at, i)
+    for (i, x) in list.iter_mut().enumerate() {
+        *x = T::from_word(T::mark(i));
+    }
 }
 
-// Whether a list is n numbers of the case with paint or +0.0 behind them.
-pub fn stands(case: &[u8], at: usize, n: usize, painted: bool, list: &[f32]) -> bool
-    ensures { result ≡ stands_in case.now at n painted list.now }
+// Whether a list is n numbers of a part with paint or zeros behind them.
+#[tactic(auto, using(crate::proofs::BufferLaws::all_more, crate::proofs::BufferLaws::all_fails, crate::proofs::BufferLaws::all_end))]
+pub fn stands<T: Element>(part: Part, n: usize, fill: Fill, list: &[T]) -> bool
+    ensures { result ≡ stands_in T.word_of T.mark_at part.entry.case.now part.entry.at n fill list.now }
 {
     if list.len() < n {
         return false;
     }
-    for i in 0..list.len() {
-        if floats::f32_to_bits(list[i]) != wanted(case, at, n, painted, i) {
+    for (i, x) in list.iter().enumerate() {
+        if x.to_word() != wanted::<T>(part, n, fill, i) {
             return false;
         }
     }
     true
 }
 
-// The number of scratch at place i: paint, or 0.
-fn scratch(painted: bool, i: usize) -> u16
-    ensures { result ≡ scratch_of painted i }
+// The byte number i of those that are given; 0 behind them.
+fn given_byte(part: Part, given: usize, i: usize) -> u8
+    ensures { result ≡ given_byte part.entry.case.now part.entry.at given i }
 {
-    if painted {
-        return (i % 999) as u16 + 1;
-    }
-    0
+    if i < given { part.byte(i) } else { 0 }
 }
 
-// Scratch painted, and whether it is still, or all of it 0.
-pub fn paint_u16(list: &mut [u16])
-    ensures { list.new ≡ painted_of list.old }
+// A buffer lent with the bytes that are given, and zeros behind them.
+#[tactic(auto, using(crate::proofs::BufferLaws::over_more), unfolding(crate::specs::Buffers::over))]
+pub fn load(part: Part, given: usize, bytes: &mut [u8])
+    ensures { bytes.new ≡ loaded_of part.entry.case.now part.entry.at given bytes.old }
 {
-    for (i, x) in list.iter_mut().enumerate() {
-        *x = scratch(true, i);
+    for (i, x) in bytes.iter_mut().enumerate() {
+        *x = given_byte(part, given, i);
     }
 }
 
-pub fn stands_u16(painted: bool, list: &[u16]) -> bool
-    ensures { result ≡ scratch_stands painted list.now }
+// The byte of a buffer at place i: one of the n that are stored, and behind them paint.
+fn wanted_byte(part: Part, given: usize, n: usize, i: usize) -> u8
+    ensures { result ≡ wanted_byte part.entry.case.now part.entry.at given n i }
 {
-    for i in 0..list.len() {
-        if list[i] != scratch(painted, i) {
+    if i < n {
+        return given_byte(part, given, i);
+    }
+    (i % 250) as u8 + 3
+}
+
+// Whether a buffer is n bytes of a part, of which so many are given, with paint behind them.
+#[tactic(auto, using(crate::proofs::BufferLaws::numbers_more, crate::proofs::BufferLaws::numbers_fail, crate::proofs::BufferLaws::all_end))]
+pub fn bytes_stand(part: Part, given: usize, n: usize, bytes: &[u8]) -> bool
+    ensures { result ≡ bytes_stand_in part.entry.case.now part.entry.at given n bytes.now }
+{
+    if bytes.len() < n {
+        return false;
+    }
+    for (i, x) in bytes.iter().enumerate() {
+        if *x != wanted_byte(part, given, n, i) {
             return false;
         }
     }
@@ -92,37 +116,18 @@ pub fn counts(number: u32, stored: u32, count: usize) -> bool
     ensures { result ≡ counts_as number stored count }
 {
     if number == 0 {
-        return count == stored as usize;
+        count == stored as usize
+    } else {
+        (stored == 0) & (count == mark(0) as usize)
     }
-    if stored != 0 {
-        return false;
-    }
-    count == mark(0) as usize
 }
 
-// Whether an answer is the stored one, which begins at a place with its number, who decided and why, and goes on with a count and that many corners;
+// Whether an answer is the stored one, which begins with its number, who decided and why, and goes on with a count and that many corners;
 // behind those the output is painted.
-pub fn corners_stand(case: &[u8], at: usize, number: u32, count: usize, out: &[f32]) -> bool
-    ensures { result ≡ corners_stand case.now at number count out.now }
+pub fn corners_stand(stored: Part, number: u32, count: usize, out: &[f32]) -> bool
+    ensures { result ≡ corners_stand stored.entry.case.now stored.entry.at number count out.now }
 {
-    let stored = crate::word_from(case, at, 3);
-    if number != crate::word_from(case, at, 0) {
-        return false;
-    }
-    if !counts(number, stored, count) {
-        return false;
-    }
-    stands(case, crate::place(at, 4), 3 * (stored as usize), true, out)
-}
-
-// Whether the words of a case from one number up to another are 0.
-pub fn zeros(case: &[u8], at: usize, from: usize, to: usize) -> bool
-    ensures { result ≡ zeros_in case.now at from to }
-{
-    for i in from..to {
-        if crate::word_from(case, at, i) != 0 {
-            return false;
-        }
-    }
-    true
+    number == stored.word(0)
+        && counts(number, stored.word(3), count)
+        && stands(stored.behind(4), 3 * stored.number(3), Fill::Paint, out)
 }

@@ -2,28 +2,30 @@
 // Each case is run as it is stored, with one bit of its answer flipped, and with one element of what the call wrote changed: the last two must be noticed.
 #![tactic(auto)]
 
+mod aim;
 mod buffers;
+mod element;
+mod part;
 mod spoiling;
 
-ghost use Rattle.std.specs.Prelude.{◌≡◌, ◌*◌, ℕ, List, length, IfOk, OnErr};
+ghost use Rattle.std.specs.Prelude.{◌≡◌, false, ◌*◌, ℕ, List, length, IfOk, OnErr};
 ghost use Rattle.std.specs.Io.KnownBytes.{Consumes};
-ghost use Rattle.std.specs.Float.Ieee as Ieee;
-ghost use Rattle.std.specs.Float.{binary32};
-ghost use Rattle.words.specs.Words.{word_at, long_at};
-ghost use Rattle.replay.specs.Place.{place_of, image_in, image_end};
-ghost use Rattle.replay.specs.Aim.{no_aim, aim_of, aim_in_two, aimed_at};
 ghost use Rattle.replay.specs.Count.{Within, Takes, none, more_of, counted_in, ended_of};
+ghost use Rattle.replay.specs.Spoil.{flipped};
 
+pub use aim::{Aim, within};
 pub use buffers::{
-    corners_stand, counts, float_stands, lend, mark, paint_u16, stands, stands_u16, wanted, zeros,
+    Fill, bytes_stand, corners_stand, counts, lend, load, mark, paint, stands, wanted,
 };
-pub use spoiling::{bit_for, flip, hit, hit_number, hit_u16, judged, other, pick, spoil, spoil_at};
+pub use element::{Element, hit, other};
+pub use part::{Image, Part, behind_image, place};
+pub use spoiling::{Judged, Spoilt, bit_for, flip, hit_number, pick, spoil, spoil_at};
 use std::io::Read;
 use std::rt::Files;
-use std::{fs, io};
+use std::{fmt, fs, io};
 
 // What an open list has next: a case of so many bytes, its end, or what is no whole case.
-#[derive(Drop)]
+#[derive(Clone, Copy, Debug, PartialEq)]
 pub enum Next {
     Case(usize),
     End,
@@ -61,112 +63,8 @@ fn bytes_of(words: u32) -> usize
     (words as usize) * 4
 }
 
-// The word number i after a place in the case, the long and the float that begin there; 0 past its end.
-pub fn word_from(case: &[u8], at: usize, i: usize) -> u32
-    ensures { result ≡ word_at case.now (place_of at i) }
-{
-    words::word(case, place(at, i))
-}
-
-pub fn long_from(case: &[u8], at: usize, i: usize) -> usize
-    ensures { result ≡ long_at case.now (place_of at i) }
-{
-    words::long(case, place(at, i)) as usize
-}
-
-pub fn float_from(case: &[u8], at: usize, i: usize) -> f32
-    ensures { result ≡ Ieee.of_bits binary32 (word_at case.now (place_of at i)) }
-{
-    floats::f32_from_bits(word_from(case, at, i))
-}
-
-// Where the word stands; no case is so long that it would wrap.
-pub fn place(at: usize, i: usize) -> usize
-    ensures { result ≡ place_of at i }
-{
-    if 0x1000_0000 < at {
-        return 0x1000_0000;
-    }
-    if 0x1000_0000 < i {
-        return 0x1000_0000;
-    }
-    at + 4 * i
-}
-
-// The image of a case that begins with its width, height and pitch and the number of its bytes; empty where it is not whole. What follows begins at a whole word.
-pub fn image(case: &[u8]) -> &[u8]
-    ensures { result.now ≡ image_in case.now }
-{
-    let end = 28 + words::word(case, 24) as usize;
-    if case.len() < end {
-        return &case[0..0];
-    }
-    &case[28..end]
-}
-
-pub fn behind_image(case: &[u8]) -> usize
-    ensures { result ≡ image_end case.now }
-{
-    place(28, (words::word(case, 24) as usize + 3) / 4)
-}
-
-// A bit of the word at a place of a case, which was flipped.
-#[derive(Drop)]
-pub struct Spoilt {
-    pub place: usize,
-    pub bit: usize,
-}
-
-// An element of what a call wrote, which is changed: of the part with a number, the first is 1. Part 0 is none.
-#[derive(Clone, Copy)]
-pub struct Aim {
-    pub part: u32,
-    pub at: usize,
-}
-
-impl Aim {
-    pub fn none() -> Self
-        ensures { result ≡ no_aim }
-    {
-        Aim { part: 0, at: 0 }
-    }
-
-    // The one of a turn in a part of n elements; where it has none, the first of part 1.
-    pub fn of(turn: u32, part: u32, n: usize) -> Self
-        ensures { result ≡ aim_of turn part n }
-    {
-        if n == 0 {
-            return Aim { part: 1, at: 1 };
-        }
-        Aim {
-            part,
-            at: pick(turn, n) + 1,
-        }
-    }
-
-    // Part 1 is one number, part 2 has n elements: in turns.
-    pub fn in_two(turn: u32, n: usize) -> Self
-        ensures { result ≡ aim_in_two turn n }
-    {
-        if turn % 2 == 0 {
-            return Aim::of(turn, 1, 1);
-        }
-        Aim::of(turn / 2, 2, n)
-    }
-
-    // The element of a part that is changed, 0 where none is.
-    pub fn within(self, part: u32) -> usize
-        ensures { result ≡ aimed_at self part }
-    {
-        if self.part == part {
-            return self.at;
-        }
-        0
-    }
-}
-
 // What was counted of a list: cases, wrong answers, spoilt ones that went unnoticed, and whether the list was read to its end.
-#[derive(Drop)]
+#[derive(Clone, Copy, Debug, PartialEq)]
 pub struct Tally {
     pub cases: u32,
     pub wrong: u32,
@@ -201,10 +99,8 @@ impl Tally {
         ensures { result ≡ ended_of self }
     {
         Tally {
-            cases: self.cases,
-            wrong: self.wrong,
-            blind: self.blind,
             whole: true,
+            ..self
         }
     }
 }
@@ -222,66 +118,100 @@ fn more(n: u32, well: bool) -> u32
     n + 1
 }
 
-// What was made of a list's cases, and whether the list was read to its end.
-#[derive(Drop)]
-pub struct Walked<T> {
-    pub found: T,
-    pub whole: bool,
+// What the cases of a list are tried by.
+pub trait Trial {
+    // Flips a bit of what is judged in a case.
+    fn spoil(&self, case: &mut [u8], turn: u32) -> Spoilt
+        ensures { case.new ≡ flipped case.old result.place result.bit };
+
+    // The element of what the call writes that is changed at a turn; none where it writes nothing.
+    fn aim(&self, _case: &[u8], _turn: u32) -> Option<Aim> {
+        None
+    }
+
+    // Whether the answer of the call, with an element of what was written changed where one is aimed at, is the one stored in the case.
+    fn holds(&mut self, case: &[u8], aim: Option<Aim>) -> bool;
 }
 
-// The cases of a stored list one after the other, each at the start of `case`; `each` takes what was made of those before. A list that has more cases
+// One case: as it is stored, with a bit of its answer flipped, and with an element of what was written changed.
+pub fn tried<T: Trial>(trial: &mut T, tally: Tally, case: &mut [u8]) -> Tally
+    ensures counted { result.cases ≡ more_of tally.cases false }
+    ensures as_it_was { case.new ≡ case.old }
+{
+    let turn = tally.cases;
+    let right = trial.holds(case, None);
+    let noticed = notices(trial, case, turn);
+    tally.counted(right, noticed)
+}
+
+// Whether the flipped bit and the changed element of a turn are both noticed.
+#[tactic(auto, using(crate::proofs::SpoilLaws::flipped_twice))]
+pub fn notices<T: Trial>(trial: &mut T, case: &mut [u8], turn: u32) -> bool
+    ensures { case.new ≡ case.old }
+{
+    let spoilt = trial.spoil(case, turn);
+    let taken = trial.holds(case, None);
+    flip(case, spoilt.place, spoilt.bit);
+    let missed = match trial.aim(case, turn) {
+        Some(aim) => trial.holds(case, Some(aim)),
+        None => false,
+    };
+    !taken & !missed
+}
+
+// The cases of a stored list one after the other, each at the start of `case`; `each` counts it to those before. A list that has more cases
 // than are given as the most, and one that is broken, are not read to the end.
-pub fn walk<R: Files, T: Drop, F: FnMut(T, &mut [u8]) -> T>(
+pub fn walk<R: Files, F: FnMut(Tally, &mut [u8]) -> Tally>(
     rt: &R,
     name: &str,
     case: &mut [u8],
     most: u32,
-    start: T,
     mut each: F,
-) -> io::Result<Walked<T>>
+) -> io::Result<Tally>
     requires { F.IsAlwaysCallable each }
 {
     let mut list = fs::open(rt, name)?;
-    let mut found = start;
+    let mut tally = Tally::new();
     for _ in 0..most {
         match next_case(&mut list, case)? {
-            Next::Case(n) => found = each(found, &mut case[..n]),
-            Next::End => return Ok(Walked { found, whole: true }),
+            Next::Case(n) => tally = each(tally, &mut case[..n]),
+            Next::End => return Ok(tally.ended()),
             Next::Broken => break,
         }
     }
-    Ok(Walked {
-        found,
-        whole: false,
-    })
+    Ok(tally)
 }
 
 // A stored list's cases, each tried and counted, and the line of what was counted.
-pub fn replay<R: Files + Print, F: FnMut(Tally, &mut [u8]) -> Tally>(
+pub fn replay<R: Files + Print, T: Trial>(
     rt: &R,
     name: &str,
     case: &mut [u8],
     most: u32,
-    each: F,
-) -> io::Result<()>
-    requires { F.IsAlwaysCallable each }
-{
-    let Walked { found, whole } = walk(rt, name, case, most, Tally::new(), each)?;
-    let tally = if whole { found.ended() } else { found };
-    report(rt, name.as_bytes(), tally)
+    trial: &mut T,
+) -> io::Result<()> {
+    let tally = walk(rt, name, case, most, |tally, case| {
+        tried(trial, tally, case)
+    })?;
+    report(rt, name, tally)
 }
 
 // A list's name and what was counted; a list that was not read to its end is broken.
-pub fn report(rt: &impl Print, name: &[u8], tally: Tally) -> io::Result<()> {
-    rt.write_all(name)?;
-    if !tally.whole {
-        return println!(rt; " broken");
+pub fn report(rt: &impl Print, name: &str, tally: Tally) -> io::Result<()> {
+    println!(rt; "{name} {tally}")
+}
+
+impl fmt::Display for Tally {
+    fn fmt<W: fmt::Write>(&self, f: &mut fmt::Formatter<W>) -> fmt::Result {
+        if !self.whole {
+            return write!(f, "broken");
+        }
+        let Tally {
+            cases,
+            wrong,
+            blind,
+            ..
+        } = *self;
+        write!(f, "cases {cases} wrong {wrong} blind {blind}")
     }
-    let Tally {
-        cases,
-        wrong,
-        blind,
-        ..
-    } = tally;
-    println!(rt; " cases {cases} wrong {wrong} blind {blind}")
 }

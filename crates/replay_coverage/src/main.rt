@@ -4,133 +4,127 @@
 
 mod layout;
 
-use layout::Places;
-use replay::{Aim, Tally};
+use layout::Layout;
+use replay::{Aim, Part, Spoilt, Trial};
 use std::io;
 
 // More cases than the list has, so that the loop ends.
 const MOST: u32 = 20000;
 
+// A list with its count and the counts of its tiles, as they are lent to the calls.
+#[derive(Drop)]
+struct Corners {
+    list: [f32; 12288],
+    count: usize,
+    tiles: [u16; 65],
+}
+
+// What the calls write, and what is stored of it.
+#[derive(Drop)]
+struct Covering {
+    found: Corners,
+    wanted: Corners,
+}
+
 fn main(rt: HostRuntime) -> io::Result<()> {
     let mut case = [0u8; 20000];
-    let mut list = [0f32; 12288];
-    let mut counts = [0u16; 65];
-    let mut wanted = [0f32; 12288];
-    let mut tiles = [0u16; 65];
-    replay::replay(&rt, "coverage.bin", &mut case, MOST, |tally, case| {
-        trial(tally, case, &mut list, &mut counts, &mut wanted, &mut tiles)
-    })
+    let mut covering = Covering {
+        found: none(),
+        wanted: none(),
+    };
+    replay::replay(&rt, "coverage.bin", &mut case, MOST, &mut covering)
 }
 
-// One row: as it is stored, with a bit of its answer flipped, and with an element of what was written changed.
-fn trial(
-    tally: Tally,
-    case: &mut [u8],
-    list: &mut [f32; 12288],
-    counts: &mut [u16; 65],
-    wanted: &mut [f32; 12288],
-    tiles: &mut [u16; 65],
-) -> Tally {
-    let turn = tally.cases;
-    let right = holds(case, Aim::none(), list, counts, wanted, tiles);
-    let taken = spoilt_holds(case, turn, list, counts, wanted, tiles);
-    let missed = holds(case, aim(turn), list, counts, wanted, tiles);
-    tally.counted(right, !taken & !missed)
-}
-
-// The words that are judged: all from the numbers on.
-fn spoilt_holds(
-    case: &mut [u8],
-    turn: u32,
-    list: &mut [f32; 12288],
-    counts: &mut [u16; 65],
-    wanted: &mut [f32; 12288],
-    tiles: &mut [u16; 65],
-) -> bool {
-    let places = layout::laid_out(case);
-    let at = places.numbers;
-    let spoilt = replay::spoil(case, turn, layout::words_from(case, at), at, 0, 1);
-    let taken = holds(case, Aim::none(), list, counts, wanted, tiles);
-    replay::flip(case, spoilt.place, spoilt.bit);
-    taken
-}
-
-// Part 1 is the count, part 2 the list, part 3 the counts.
-fn aim(turn: u32) -> Aim {
-    match turn % 3 {
-        0 => Aim::of(turn, 1, 1),
-        1 => Aim::of(turn / 3, 2, 12288),
-        _ => Aim::of(turn / 3, 3, 65),
+fn none() -> Corners {
+    Corners {
+        list: [0.0; 12288],
+        count: 0,
+        tiles: [0; 65],
     }
 }
 
-// Whether the answer, with an element of what was written changed, is the stored one.
-fn holds(
-    case: &[u8],
-    aim: Aim,
-    list: &mut [f32; 12288],
-    counts: &mut [u16; 65],
-    wanted: &mut [f32; 12288],
-    tiles: &mut [u16; 65],
-) -> bool {
-    let at = layout::laid_out(case);
-    if at.end != case.len() {
-        return false;
+impl Trial for Covering {
+    // The words that are judged: all from the numbers on.
+    fn spoil(&self, case: &mut [u8], turn: u32) -> Spoilt {
+        let numbers = Layout::of(case).numbers;
+        let judged = numbers.judged(layout::words_from(numbers), 0, 1);
+        replay::spoil(case, turn, judged)
     }
-    let mut count = words::long(case, 16) as usize;
-    layout::lend_list(case, at.list, list);
-    layout::lend_counts(case, 32, counts);
-    let right = run(case, at, list, &mut count, counts);
-    replay::hit(list, aim.within(2));
-    replay::hit_u16(counts, aim.within(3));
-    layout::lend_list(case, at.list_after, wanted);
-    layout::lend_counts(case, at.counts_after, tiles);
-    let counted = replay::hit_number(count, aim.within(1));
-    right
-        && counted == words::long(case, at.count_after) as usize
-        && layout::same_floats(list, wanted)
-        && layout::same_counts(counts, tiles)
+
+    // Part 1 is the count, part 2 the list, part 3 the counts.
+    fn aim(&self, _case: &[u8], turn: u32) -> Option<Aim> {
+        Some(match turn % 3 {
+            0 => Aim::of(turn, 1, 1),
+            1 => Aim::of(turn / 3, 2, 12288),
+            _ => Aim::of(turn / 3, 3, 65),
+        })
+    }
+
+    fn holds(&mut self, case: &[u8], aim: Option<Aim>) -> bool {
+        let layout = Layout::of(case);
+        if layout.end.at != case.len() {
+            return false;
+        }
+        let Covering { found, wanted } = self;
+        found.lend(Part::of(case).long(4), layout.list, Part::of(case).behind(8));
+        let right = found.run(layout);
+        replay::hit(&mut found.list, replay::within(aim, 2));
+        replay::hit(&mut found.tiles, replay::within(aim, 3));
+        found.count = replay::hit_number(found.count, replay::within(aim, 1));
+        wanted.lend(layout.count_after.long(0), layout.list_after, layout.counts_after);
+        right && found.are(wanted)
+    }
 }
 
-// The calls one after the other; whether each gave its number.
-fn run(
-    case: &[u8],
-    at: Places,
-    list: &mut [f32; 12288],
-    count: &mut usize,
-    counts: &mut [u16; 65],
-) -> bool {
-    let calls = words::word(case, 28) as usize;
-    let mut right = true;
-    for i in 0..calls {
-        let number = ask(case, layout::call(at, i), list, count, counts);
-        right = right & (number == replay::word_from(case, at.numbers, i));
+impl Corners {
+    // A stored list with its count and the counts of its tiles.
+    fn lend(&mut self, count: usize, list: Part, tiles: Part) {
+        self.count = count;
+        layout::lend_list(list, &mut self.list);
+        layout::lend_counts(tiles, &mut self.tiles);
     }
-    right
-}
 
-// One call, which begins at a place with its kind and its number.
-fn ask(
-    case: &[u8],
-    at: usize,
-    list: &mut [f32; 12288],
-    count: &mut usize,
-    counts: &mut [u16; 65],
-) -> u32 {
-    let width = words::long(case, 0) as usize;
-    let height = words::long(case, 8) as usize;
-    let number = replay::long_from(case, at, 1);
-    let x = replay::float_from(case, at, 3);
-    let y = replay::float_from(case, at, 4);
-    let strength = replay::float_from(case, at, 5);
-    match words::word(case, at) {
-        0 => chess_corners::chess_corners_coverage(width, height, list, *count, counts),
-        1 => chess_corners::chess_corners_coverage_add(
-            width, height, list, count, counts, x, y, strength,
-        ),
-        2 => chess_corners::chess_corners_coverage_replace(
-            width, height, list, *count, counts, number, x, y, strength,
-        ),
-        _ => chess_corners::chess_corners_coverage_drop(width, height, list, count, counts, number),
+    // The calls one after the other; whether each gave its number.
+    fn run(&mut self, layout: Layout) -> bool {
+        let mut right = true;
+        for i in 0..Part::of(layout.calls.case).number(7) {
+            right &= self.ask(layout.call(i)) == layout.numbers.word(i);
+        }
+        right
+    }
+
+    // One call, which begins with its kind and its number.
+    fn ask(&mut self, call: Part) -> u32 {
+        let image = Part::of(call.case);
+        let width = image.long(0);
+        let height = image.long(2);
+        let Corners { list, count, tiles } = self;
+        let number = call.long(1);
+        let x = call.float(3);
+        let y = call.float(4);
+        let strength = call.float(5);
+        match call.word(0) {
+            0 => chess_corners::chess_corners_coverage(width, height, list, *count, tiles),
+            1 => chess_corners::chess_corners_coverage_add(
+                width, height, list, count, tiles, x, y, strength,
+            ),
+            2 => chess_corners::chess_corners_coverage_replace(
+                width, height, list, *count, tiles, number, x, y, strength,
+            ),
+            _ => chess_corners::chess_corners_coverage_drop(
+                width, height, list, count, tiles, number,
+            ),
+        }
+    }
+
+    // Whether both are the same, the floats by their bits.
+    fn are(&self, wanted: &Corners) -> bool {
+        self.count == wanted.count
+            && self
+                .list
+                .iter()
+                .zip(&wanted.list)
+                .all(|(x, y)| floats::f32_to_bits(*x) == floats::f32_to_bits(*y))
+            && self.tiles == wanted.tiles
     }
 }

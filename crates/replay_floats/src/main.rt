@@ -1,131 +1,100 @@
 // Replays the stored answers of Rust's own float library (data/, written by the oracle) on the crate floats. A line a list.
 #![tactic(auto)]
 
+use replay::{Aim, Part, Spoilt, Trial};
 use std::cmp::Ordering;
-use replay::{Spoilt, Tally};
 use std::io;
+use std::num::nearest_i32_to_f32;
 
 // More cases than any list has, so that the loop ends.
 const MOST: u32 = 20000;
 
 // What a list's cases are about.
 #[derive(Clone, Copy)]
-enum Kind {
-    Floats32,
-    Ints32,
-    Floats64,
-    Order64,
-}
+struct Floats32;
+
+#[derive(Clone, Copy)]
+struct Ints32;
+
+#[derive(Clone, Copy)]
+struct Floats64;
+
+#[derive(Clone, Copy)]
+struct Order64;
 
 fn main(rt: HostRuntime) -> io::Result<()> {
-    replay_list(&rt, "floats32.bin", Kind::Floats32)?;
-    replay_list(&rt, "ints32.bin", Kind::Ints32)?;
-    replay_list(&rt, "floats64.bin", Kind::Floats64)?;
-    replay_list(&rt, "order64.bin", Kind::Order64)
-}
-
-fn replay_list(rt: &HostRuntime, name: &str, kind: Kind) -> io::Result<()> {
     let mut case = [0u8; 64];
-    replay::replay(rt, name, &mut case, MOST, |tally, case| {
-        trial(tally, kind, case)
-    })
+    replay::replay(&rt, "floats32.bin", &mut case, MOST, &mut Floats32)?;
+    replay::replay(&rt, "ints32.bin", &mut case, MOST, &mut Ints32)?;
+    replay::replay(&rt, "floats64.bin", &mut case, MOST, &mut Floats64)?;
+    replay::replay(&rt, "order64.bin", &mut case, MOST, &mut Order64)
 }
 
-// One case: as it is stored, and with a bit of its answer flipped.
-fn trial(tally: Tally, kind: Kind, case: &mut [u8]) -> Tally {
-    let right = holds(kind, case);
-    let spoilt = spoil(kind, tally.cases, case);
-    let taken = holds(kind, case);
-    replay::flip(case, spoilt.place, spoilt.bit);
-    tally.counted(right, !taken)
-}
+// A number; its floor, root and the rest, of which each word is judged.
+impl Trial for Floats32 {
+    fn spoil(&self, case: &mut [u8], turn: u32) -> Spoilt {
+        let place = Part::of(case).behind(1 + replay::pick(turn, 8)).at;
+        replay::spoil_at(case, turn, 8, place, 0)
+    }
 
-// The words behind the numbers that are put in are judged, each of them.
-fn spoil(kind: Kind, turn: u32, case: &mut [u8]) -> Spoilt {
-    match kind {
-        Kind::Floats32 => replay::spoil_at(
-            case,
-            turn,
-            8,
-            replay::place(4, replay::pick(turn, 8)),
-            0,
-        ),
-        Kind::Ints32 => replay::spoil_at(case, turn, 1, 4, 0),
-        Kind::Floats64 => spoil_narrowing(turn, case),
-        Kind::Order64 => replay::spoil_at(case, turn, 1, 16, 0),
+    fn holds(&mut self, case: &[u8], _aim: Option<Aim>) -> bool {
+        let stored = Part::of(case);
+        let x = stored.float(0);
+        stored.is_float(1, floats::floor_f32(x))
+            && stored.is_float(2, floats::round_f32(x))
+            && stored.is_float(3, floats::sqrt_f32(x))
+            && floats::f32_to_i32(x) == stored.int(4)
+            && floats::f32_to_usize(x) == stored.long(5)
+            && stored.is_float(7, floats::magnitude_f32(x))
+            && u32::from(floats::is_finite_f32(x)) == stored.word(8)
     }
 }
 
-// The low word of a NaN stands for nothing: its high word is taken.
-fn spoil_narrowing(turn: u32, case: &mut [u8]) -> Spoilt {
-    let word = replay::pick(turn, 4);
-    if word == 1 {
-        if words::word(case, 16) == 0x7ff8_0000 {
-            return replay::spoil_at(case, turn, 4, 16, 0);
-        }
+impl Trial for Ints32 {
+    fn spoil(&self, case: &mut [u8], turn: u32) -> Spoilt {
+        replay::spoil_at(case, turn, 1, 4, 0)
     }
-    replay::spoil_at(case, turn, 4, replay::place(8, word), 0)
-}
 
-fn holds(kind: Kind, case: &[u8]) -> bool {
-    match kind {
-        Kind::Floats32 => whole_numbers(case) && conversions(case),
-        Kind::Ints32 => replay::float_stands(case, 0, 1, std::num::nearest_i32_to_f32(words::int(case, 0))),
-        Kind::Floats64 => narrowing(case),
-        Kind::Order64 => order(case),
+    fn holds(&mut self, case: &[u8], _aim: Option<Aim>) -> bool {
+        let stored = Part::of(case);
+        stored.is_float(1, nearest_i32_to_f32(stored.int(0)))
     }
 }
 
-fn whole_numbers(case: &[u8]) -> bool {
-    let x = replay::float_from(case, 0, 0);
-    if !replay::float_stands(case, 0, 1, floats::floor_f32(x)) {
-        return false;
+impl Trial for Floats64 {
+    // The low word of a NaN stands for nothing: its high word is taken.
+    fn spoil(&self, case: &mut [u8], turn: u32) -> Spoilt {
+        let stored = Part::of(case);
+        let word = match replay::pick(turn, 4) {
+            1 if stored.word(4) == 0x7ff8_0000 => 2,
+            word => word,
+        };
+        let place = stored.behind(2 + word).at;
+        replay::spoil_at(case, turn, 4, place, 0)
     }
-    if !replay::float_stands(case, 0, 2, floats::round_f32(x)) {
-        return false;
-    }
-    replay::float_stands(case, 0, 3, floats::sqrt_f32(x))
-}
 
-fn conversions(case: &[u8]) -> bool {
-    let x = replay::float_from(case, 0, 0);
-    if floats::f32_to_i32(x) != words::int(case, 16) {
-        return false;
-    }
-    if floats::f32_to_usize(x) as u64 != words::long(case, 20) {
-        return false;
-    }
-    if !replay::float_stands(case, 0, 7, floats::magnitude_f32(x)) {
-        return false;
-    }
-    flag(floats::is_finite_f32(x)) == words::word(case, 32)
-}
-
-fn narrowing(case: &[u8]) -> bool {
-    let x = floats::f64_from_bits(words::long(case, 0));
-    if !replay::float_stands(case, 0, 2, floats::f64_to_f32(x)) {
-        return false;
-    }
-    if floats::f64_to_bits(floats::magnitude_f64(x)) != words::long(case, 12) {
-        return false;
-    }
-    flag(floats::is_finite_f64(x)) == words::word(case, 20)
-}
-
-fn order(case: &[u8]) -> bool {
-    let a = floats::f64_from_bits(words::long(case, 0));
-    let b = floats::f64_from_bits(words::long(case, 8));
-    rank(floats::total_cmp_magnitudes(a, b)) == words::word(case, 16)
-}
-
-fn rank(o: Ordering) -> u32 {
-    match o {
-        Ordering::Less => 0,
-        Ordering::Equal => 1,
-        Ordering::Greater => 2,
+    fn holds(&mut self, case: &[u8], _aim: Option<Aim>) -> bool {
+        let stored = Part::of(case);
+        let x = floats::f64_from_bits(words::long(case, 0));
+        stored.is_float(2, floats::f64_to_f32(x))
+            && floats::f64_to_bits(floats::magnitude_f64(x)) == words::long(case, 12)
+            && u32::from(floats::is_finite_f64(x)) == stored.word(5)
     }
 }
 
-fn flag(b: bool) -> u32 {
-    if b { 1 } else { 0 }
+impl Trial for Order64 {
+    fn spoil(&self, case: &mut [u8], turn: u32) -> Spoilt {
+        replay::spoil_at(case, turn, 1, 16, 0)
+    }
+
+    fn holds(&mut self, case: &[u8], _aim: Option<Aim>) -> bool {
+        let a = floats::f64_from_bits(words::long(case, 0));
+        let b = floats::f64_from_bits(words::long(case, 8));
+        let rank = match floats::total_cmp_magnitudes(a, b) {
+            Ordering::Less => 0,
+            Ordering::Equal => 1,
+            Ordering::Greater => 2,
+        };
+        rank == Part::of(case).word(4)
+    }
 }

@@ -2,7 +2,8 @@
 // counts as a case.
 #![tactic(auto)]
 
-use replay::Tally;
+use replay::{Fill, Tally};
+use replay_seeds::Operator;
 use std::io;
 
 // More cases than the list has, so that the loop ends.
@@ -15,15 +16,18 @@ const RECORDS: usize = 1356;
 
 fn main(rt: HostRuntime) -> io::Result<()> {
     let mut case = [0u8; 7500];
-    replay::replay(&rt, "lent.bin", &mut case, MOST, trial)
+    let tally = replay::walk(&rt, "lent.bin", &mut case, MOST, trial)?;
+    replay::report(&rt, "lent.bin", tally)
 }
 
 // The seeds of a case, each by the operator that stands before them all.
 fn trial(tally: Tally, case: &mut [u8]) -> Tally {
-    let mut columns = [0.0f32; 1125];
-    let mut overlap = [0.0f32; 225];
-    let at = replay::place(replay::behind_image(case), OPERATOR);
-    replay::lend(case, at, 1125, true, &mut columns);
-    replay::lend(case, replay::place(at, 1125), 225, true, &mut overlap);
-    replay_seeds::every(tally, case, RECORDS, true, &columns, &overlap)
+    let mut operator = Operator {
+        columns: [0.0; 1125],
+        overlap: [0.0; 225],
+    };
+    let stored = replay::behind_image(case).behind(OPERATOR);
+    replay::lend(stored, 1125, Fill::Paint, &mut operator.columns);
+    replay::lend(stored.behind(1125), 225, Fill::Paint, &mut operator.overlap);
+    replay_seeds::every(tally, case, RECORDS, Some(&operator))
 }

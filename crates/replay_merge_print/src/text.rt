@@ -1,108 +1,43 @@
-// The stored file and the stored text of a case.
-ghost use Rattle.std.specs.Prelude.{◌≤◌};
+// The stored text of a case against what merge-print would print.
 
-use replay::Spoilt;
+use refusals::Refusal;
 
-// The bytes given in the case, from its third word on, and zeros behind them.
-pub fn load(case: &[u8], given: usize, bytes: &mut [u8]) {
-    for (i, x) in bytes.iter_mut().enumerate() {
-        *x = loaded(case, given, i);
-    }
-}
-
-fn loaded(case: &[u8], given: usize, i: usize) -> u8 {
-    if given <= i {
-        return 0;
-    }
-    if case.len() < 8 {
-        return 0;
-    }
-    if case.len() - 8 <= i {
-        return 0;
-    }
-    case[8 + i]
-}
-
-// Flips a bit of what is judged: the length of the text that begins at a place, or one of its bytes.
-pub fn spoil(case: &mut [u8], turn: u32, start: usize) -> Spoilt
-    requires { (4 ≤ start) × (start ≤ 0x2_0000_0000) }
-{
-    let n = words::word(case, start - 4) as usize + 1;
-    let i = replay::pick(turn, n);
-    if i == 0 {
-        return replay::spoil_at(case, turn, n, start - 4, 0);
-    }
-    spoil_byte(case, turn, n, start, i - 1)
-}
-
-fn spoil_byte(case: &mut [u8], turn: u32, n: usize, start: usize, i: usize) -> Spoilt
-    requires { (start ≤ 0x2_0000_0000) × (i ≤ 0x1_0000_0000) }
-{
-    let place = start + i;
-    let bit = replay::bit_for(case, place, turn, n) % 8;
-    replay::flip(case, place, bit);
-    Spoilt { place, bit }
-}
-
-// The text from a place on is a line of `refused` and the number.
-pub fn refusal_stands(case: &[u8], start: usize, no: u64) -> bool {
-    last_stands(case, start, start, b"refused ", no)
+// The text is the line of a refusal.
+pub fn is_refused(text: &[u8], refusal: Refusal) -> bool {
+    is_last(text, b"refused ", u32::from(refusal) as u64) == Some(true)
 }
 
 // It is a line a corner, and a line of `total` and the count.
-pub fn corners_stand(case: &[u8], start: usize, list: &[f32], count: usize) -> bool {
-    let mut at = start;
-    for i in 0..count {
-        if list.len() / 3 <= i {
-            return false;
-        }
-        at = behind_number(case, at, list[3 * i], b' ');
-        at = behind_number(case, at, list[3 * i + 1], b' ');
-        at = behind_number(case, at, list[3 * i + 2], b'\n');
+pub fn are_corners(text: &[u8], list: &[f32], count: usize) -> bool {
+    let Some(corners) = list.get(..3 * count) else {
+        return false;
+    };
+    match behind_corners(text, corners) {
+        Some(rest) => is_last(rest, b"total ", count as u64) == Some(true),
+        None => false,
     }
-    last_stands(case, start, at, b"total ", count as u64)
 }
 
-// The last line, a word and a number, stands at a place, and the text ends with it.
-fn last_stands(case: &[u8], start: usize, at: usize, word: &[u8], n: u64) -> bool {
+// What follows the lines of the corners, if they are the stored ones.
+fn behind_corners<'a>(text: &'a [u8], corners: &[f32]) -> Option<&'a [u8]> {
+    let mut rest = text;
+    let (records, _) = corners.as_chunks::<3>();
+    for [x, y, strength] in records {
+        rest = behind_number(rest, *x, b' ')?;
+        rest = behind_number(rest, *y, b' ')?;
+        rest = behind_number(rest, *strength, b'\n')?;
+    }
+    Some(rest)
+}
+
+fn behind_number<'a>(text: &'a [u8], x: f32, end: u8) -> Option<&'a [u8]> {
+    text.strip_prefix(&merge_text::hex(floats::f32_to_bits(x), end))
+}
+
+// Whether a text is a word and a number with a line feed behind them; none where it begins otherwise.
+fn is_last(text: &[u8], word: &[u8], n: u64) -> Option<bool> {
     let mut digits = [0u8; 20];
     let k = io::decimal(n, &mut digits);
-    let number = behind(case, at, word);
-    let line_feed = behind(case, number, &digits[..k]);
-    ends(case, start, behind(case, line_feed, b"\n"))
-}
-
-// The text that begins at a place, its length before it, ends at another.
-fn ends(case: &[u8], start: usize, end: usize) -> bool {
-    if start < 4 {
-        return false;
-    }
-    if end < start {
-        return false;
-    }
-    words::word(case, start - 4) as usize == end - start
-}
-
-fn behind_number(case: &[u8], at: usize, x: f32, end: u8) -> usize {
-    let text = merge_text::hex(floats::f32_to_bits(x), end);
-    behind(case, at, &text)
-}
-
-// The place behind a text that stands at a place of the case, or 0 where it does not; at 0 there is none.
-fn behind(case: &[u8], at: usize, text: &[u8]) -> usize {
-    if at == 0 {
-        return 0;
-    }
-    if case.len() < text.len() {
-        return 0;
-    }
-    if case.len() - text.len() < at {
-        return 0;
-    }
-    for i in 0..text.len() {
-        if case[at + i] != text[i] {
-            return 0;
-        }
-    }
-    at + text.len()
+    let rest = text.strip_prefix(word)?.strip_prefix(&digits[..k])?;
+    Some(rest == b"\n".as_slice())
 }

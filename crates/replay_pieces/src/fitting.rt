@@ -4,80 +4,96 @@ ghost use Rattle.std.specs.Prelude.{◌≡◌, ◌+◌, ◌*◌, ◌≤◌, ◌<
 use crate::{moving, numbers};
 use imageview::Sizes;
 use refine_fits::fits;
-use refine_formulas::{Covariance, Jacobian, noise};
+use refine_formulas::{Jacobian, noise};
+use replay::{Aim, Part, Spoilt, Trial};
 
-// The radius, the fractions, J and M; whether it is finite, and its entries.
-pub fn covariance_holds(case: &[u8]) -> bool {
-    let mut columns = [0.0f32; 1125];
-    let mut overlap = [0.0f32; 225];
-    refine_operator::fit_operator(words::word(case, 0) as usize, &mut columns, &mut overlap);
-    let first = numbers::five(case, 12);
-    let second = numbers::five(case, 32);
-    spread_is(case, &overlap, Jacobian { first, second })
-}
+// The radius, the fractions, J and M; whether the covariance is finite, and its entries.
+#[derive(Clone, Copy)]
+pub struct Spread;
 
-fn spread_is(case: &[u8], overlap: &[f32; 225], j: Jacobian) -> bool {
-    let tx = replay::float_from(case, 4, 0);
-    let ty = replay::float_from(case, 4, 1);
-    let v = noise::covariance(overlap, tx, ty, j, moving::matrix(case, 52));
-    match v {
-        Covariance::Known { xx, xy, yy } => {
-            words::word(case, 68) == 1
-                && replay::float_stands(case, 72, 0, xx)
-                && replay::float_stands(case, 72, 1, xy)
-                && replay::float_stands(case, 72, 2, yy)
+impl Trial for Spread {
+    fn spoil(&self, case: &mut [u8], turn: u32) -> Spoilt {
+        crate::spoil_from(case, turn, 68, 4)
+    }
+
+    fn holds(&mut self, case: &[u8], _aim: Option<Aim>) -> bool {
+        let stored = Part::of(case);
+        let mut columns = [0.0f32; 1125];
+        let mut overlap = [0.0f32; 225];
+        // Where there is no operator for the radius the overlaps are zeros.
+        let _ = refine_operator::fit_operator(stored.number(0), &mut columns, &mut overlap);
+        let jacobian = Jacobian {
+            first: numbers::five(stored.behind(3)),
+            second: numbers::five(stored.behind(8)),
+        };
+        let tx = stored.float(1);
+        let ty = stored.float(2);
+        let matrix = moving::matrix(stored.behind(13));
+        match noise::covariance(&overlap, tx, ty, jacobian, matrix) {
+            Some(spread) => {
+                stored.word(17) == 1
+                    && stored.is_float(18, spread.xx)
+                    && stored.is_float(19, spread.xy)
+                    && stored.is_float(20, spread.yy)
+            }
+            None => stored.is_zero(17, 21),
         }
-        Covariance::Unknown => replay::zeros(case, 0, 17, 21),
     }
 }
 
 // The radius, the pitch and the patch, which is an image with padding behind its rows; the five coefficients, from a whole word on.
-pub fn fit_holds(case: &[u8]) -> bool {
-    let radius = words::word(case, 0) as usize;
-    let pitch = words::word(case, 4) as usize;
-    if 7 < radius {
-        return false;
+#[derive(Clone, Copy)]
+pub struct Fit;
+
+impl Trial for Fit {
+    fn spoil(&self, case: &mut [u8], turn: u32) -> Spoilt {
+        let place = coefficients(case).at;
+        crate::spoil_from(case, turn, place, 5)
     }
-    if 8192 < pitch {
-        return false;
+
+    fn holds(&mut self, case: &[u8], _aim: Option<Aim>) -> bool {
+        let radius = Part::of(case).number(0);
+        let pitch = Part::of(case).number(1);
+        if (7 < radius) | (8192 < pitch) | (pitch <= 2 * radius) {
+            return false;
+        }
+        let n = bytes_of(radius, pitch);
+        if case.len() < 8 + n {
+            return false;
+        }
+        let found = fit(&case[8..8 + n], radius, pitch);
+        numbers::are(coefficients(case), &found)
     }
-    if pitch <= 2 * radius {
-        return false;
-    }
-    let n = bytes_of(radius, pitch);
-    if case.len() < 8 + n {
-        return false;
-    }
-    fit_is(case, &case[8..8 + n], radius, pitch)
 }
 
 // Where the coefficients of a fit stand: behind the patch, at a whole word.
-pub fn coefficients(case: &[u8]) -> usize {
-    let radius = words::word(case, 0) as usize;
-    let pitch = words::word(case, 4) as usize;
-    if 7 < radius {
-        return 0;
+fn coefficients(case: &[u8]) -> Part {
+    let radius = Part::of(case).number(0);
+    let pitch = Part::of(case).number(1);
+    if (7 < radius) | (8192 < pitch) {
+        return Part::of(case);
     }
-    if 8192 < pitch {
-        return 0;
-    }
-    replay::place(8, (bytes_of(radius, pitch) + 3) / 4)
+    Part::of(case).behind(2 + (bytes_of(radius, pitch) + 3) / 4)
 }
 
 fn bytes_of(radius: usize, pitch: usize) -> usize
     requires { (radius ≤ 7) × (pitch ≤ 8192) }
-    ensures { (result ≤ 122880) × (result ≡ pitch * (2 * radius + 1)) }
+    ensures few { result ≤ 122880 }
+    ensures rows { result ≡ pitch * (2 * radius + 1) }
 {
     let side = 2 * radius + 1;
     pitch * side
 }
 
-fn fit_is(case: &[u8], patch: &[u8], radius: usize, pitch: usize) -> bool
-    requires { (radius ≤ 7) × (2 * radius < pitch) × (pitch ≤ 8192) × (length patch.now ≡ pitch * (2 * radius + 1)) }
+fn fit(patch: &[u8], radius: usize, pitch: usize) -> [f32; 5]
+    requires low_radius { radius ≤ 7 }
+    requires wide { (2 * radius < pitch) × (pitch ≤ 8192) }
+    requires whole { length patch.now ≡ pitch * (2 * radius + 1) }
 {
     let mut columns = [0.0f32; 1125];
     let mut overlap = [0.0f32; 225];
-    refine_operator::fit_operator(radius, &mut columns, &mut overlap);
+    // There is an operator for each radius up to 7.
+    let _ = refine_operator::fit_operator(radius, &mut columns, &mut overlap);
     let side = 2 * radius + 1;
     let sizes = Sizes {
         width: side,
@@ -85,7 +101,5 @@ fn fit_is(case: &[u8], patch: &[u8], radius: usize, pitch: usize) -> bool
         pitch,
         deep: false,
     };
-    let none = [0u16; 1];
-    let coefs = fits::fit_patch(patch, &none[0..0], sizes, radius, radius, radius, &columns);
-    numbers::are(case, coefficients(case), coefs)
+    fits::fit_patch(patch, &[], sizes, radius, radius, radius, &columns)
 }

@@ -1,61 +1,51 @@
 // Solving a fit: five coefficients, the margin and the least determinant; the outcome, u, the determinant and the score.
 use crate::numbers;
-use refine_formulas::{Flaw, PatchSaddle, SaddlePointConfig, Solved, solve};
+use refine_formulas::{Flaw, PatchSaddle, SaddlePointConfig, Unsolved, solve};
+use replay::{Aim, Part, Spoilt, Trial};
 
-pub fn solve_holds(case: &[u8]) -> bool {
-    let coefs = numbers::five(case, 0);
-    let solved = solve::solve(limits(case), coefs);
-    match solved {
-        Solved::Refused(flaw, det) => refused(case, flaw, det),
-        Solved::Saddle(f) => fitted(case, f),
+#[derive(Clone, Copy)]
+pub struct Solve;
+
+impl Trial for Solve {
+    fn spoil(&self, case: &mut [u8], turn: u32) -> Spoilt {
+        crate::spoil_from(case, turn, 28, 5)
+    }
+
+    fn holds(&mut self, case: &[u8], _aim: Option<Aim>) -> bool {
+        let stored = Part::of(case);
+        let limits = SaddlePointConfig {
+            radius: 0,
+            det_margin: stored.float(5),
+            max_offset: 0.0,
+            min_abs_det: stored.float(6),
+        };
+        match solve::solve(limits, numbers::five(stored)) {
+            Ok(saddle) => is_solved(stored, saddle),
+            Err(unsolved) => is_unsolved(stored, unsolved),
+        }
     }
 }
 
-fn limits(case: &[u8]) -> SaddlePointConfig {
-    SaddlePointConfig {
-        radius: 0,
-        det_margin: replay::float_from(case, 0, 5),
-        max_offset: 0.0,
-        min_abs_det: replay::float_from(case, 0, 6),
-    }
+fn is_solved(stored: Part, saddle: PatchSaddle) -> bool {
+    stored.word(7) == 0
+        && stored.is_float(8, saddle.ux)
+        && stored.is_float(9, saddle.uy)
+        && stored.is_float(10, saddle.det_h)
+        && stored.is_float(11, floats::sqrt_f32(-saddle.det_h))
+        && stored.is_float(0, saddle.a)
+        && stored.is_float(1, saddle.b)
+        && stored.is_float(2, saddle.c)
 }
 
 // The outcome names the test that refused it.
-fn told(flaw: Flaw, outcome: u32) -> bool {
-    match flaw {
-        Flaw::AboveMargin => outcome == 5,
-        Flaw::TooSmall => outcome == 6,
-        Flaw::NotFinite => outcome == 7,
-    }
-}
-
-fn refused(case: &[u8], flaw: Flaw, det: f32) -> bool {
-    if !told(flaw, words::word(case, 28)) {
-        return false;
-    }
-    if !replay::float_stands(case, 0, 10, det) {
-        return false;
-    }
-    replay::zeros(case, 0, 8, 10) && words::word(case, 44) == 0
-}
-
-fn fitted(case: &[u8], f: PatchSaddle) -> bool {
-    if words::word(case, 28) != 0 {
-        return false;
-    }
-    if !replay::float_stands(case, 0, 8, f.ux) {
-        return false;
-    }
-    if !replay::float_stands(case, 0, 9, f.uy) {
-        return false;
-    }
-    if !replay::float_stands(case, 0, 10, f.det_h) {
-        return false;
-    }
-    if !replay::float_stands(case, 0, 11, floats::sqrt_f32(-f.det_h)) {
-        return false;
-    }
-    replay::float_stands(case, 0, 0, f.a)
-        && replay::float_stands(case, 0, 1, f.b)
-        && replay::float_stands(case, 0, 2, f.c)
+fn is_unsolved(stored: Part, unsolved: Unsolved) -> bool {
+    let outcome = match unsolved.flaw {
+        Flaw::AboveMargin => 5,
+        Flaw::TooSmall => 6,
+        Flaw::NotFinite => 7,
+    };
+    stored.word(7) == outcome
+        && stored.is_float(10, unsolved.det_h)
+        && stored.is_zero(8, 10)
+        && stored.word(11) == 0
 }

@@ -2,175 +2,125 @@
 // lent operator, and fourteen words for each seed.
 #![tactic(auto)]
 
-mod answers;
+mod answer;
 
-ghost use Rattle.std.specs.Prelude.{◌≡◌, ◌≤◌, length};
+ghost use Rattle.std.specs.Prelude.{◌≡◌, ◌≤◌};
 
-use replay::{Aim, Tally};
+use answer::Answer;
+use replay::{Aim, Image, Part, Spoilt, Tally, Trial};
 
-// Every seed of a case whose records begin some words behind its image, by the call that is lent the operator or by the one that builds its own.
-pub fn every(
-    start: Tally,
-    case: &mut [u8],
-    before: usize,
-    lent: bool,
-    columns: &[f32; 1125],
-    overlap: &[f32; 225],
-) -> Tally {
-    let at = replay::place(replay::behind_image(case), before);
-    let k = number(case);
+// The operator that is lent to a call.
+#[derive(Drop)]
+pub struct Operator {
+    pub columns: [f32; 1125],
+    pub overlap: [f32; 225],
+}
+
+// A seed whose record begins at a byte of its case, refined by the operator where one is lent, and else by the call that builds its own.
+#[derive(Clone, Copy)]
+struct Seed<'a> {
+    at: usize,
+    operator: Option<&'a Operator>,
+}
+
+// Every seed of a case whose records begin some words behind its image, each counted as a case; the case is as it was.
+pub fn every(start: Tally, case: &mut [u8], before: usize, operator: Option<&Operator>) -> Tally
+    ensures { case.new ≡ case.old }
+{
+    let records = replay::behind_image(case).behind(before).at;
     let mut tally = start;
-    for i in 0..k {
-        tally = trial(
-            tally,
-            case,
-            replay::place(at, 14 * i),
-            lent,
-            columns,
-            overlap,
-        );
+    for i in 0..count(case) {
+        let mut seed = Seed {
+            at: replay::place(records, 14 * i),
+            operator,
+        };
+        tally = replay::tried(&mut seed, tally, case);
     }
     tally
 }
 
 // How many seeds there are; no case has more than a hundred.
-fn number(case: &[u8]) -> usize
+fn count(case: &[u8]) -> usize
     ensures { result ≤ 100 }
 {
-    let k = replay::word_from(case, replay::behind_image(case), 5) as usize;
-    if 100 < k {
-        return 100;
-    }
-    k
+    replay::behind_image(case).number(5).min(100)
 }
 
-// One seed: as its answer is stored, with a bit of it flipped, and with an element of what was written changed.
-fn trial(
-    tally: Tally,
-    case: &mut [u8],
-    at: usize,
-    lent: bool,
-    columns: &[f32; 1125],
-    overlap: &[f32; 225],
-) -> Tally {
-    let turn = tally.cases;
-    let right = holds(case, at, Aim::none(), lent, columns, overlap);
-    let spoilt = replay::spoil(case, turn, 10, at, 2, 5);
-    let taken = holds(case, at, Aim::none(), lent, columns, overlap);
-    replay::flip(case, spoilt.place, spoilt.bit);
+impl<'a> Trial for Seed<'a> {
+    // The words that are judged: the number, and behind who decided and why all that an answer gives.
+    fn spoil(&self, case: &mut [u8], turn: u32) -> Spoilt {
+        let judged = self.record(case).judged(10, 2, 5);
+        replay::spoil(case, turn, judged)
+    }
+
     // Part 1 is the place, part 2 the state, part 3 the covariance.
-    let aim = Aim::of(turn / 3, 1 + turn % 3, 3);
-    let missed = holds(case, at, aim, lent, columns, overlap);
-    tally.counted(right, !taken & !missed)
-}
-
-// Whether the answer, with an element of what was written changed, is the stored one.
-fn holds(
-    case: &[u8],
-    at: usize,
-    aim: Aim,
-    lent: bool,
-    columns: &[f32; 1125],
-    overlap: &[f32; 225],
-) -> bool {
-    let mut place = [0.0f32; 3];
-    let mut covariance = [0.0f32; 3];
-    replay::lend(case, 0, 0, true, &mut place);
-    replay::lend(case, 0, 0, true, &mut covariance);
-    let mut state = [replay::mark(0), replay::mark(1), replay::mark(2)];
-    let number = ask(
-        case,
-        at,
-        lent,
-        columns,
-        overlap,
-        &mut place,
-        &mut state,
-        &mut covariance,
-    );
-    let mut found = copied(&place);
-    let mut spread = copied(&covariance);
-    replay::hit(&mut found, aim.within(1));
-    replay::hit(&mut spread, aim.within(3));
-    answers::are(case, at, number, &found, &state, aim.within(2), &spread)
-}
-
-// The same numbers, of a length that is known.
-fn copied(a: &[f32; 3]) -> [f32; 3]
-    ensures { 3 ≡ length result }
-{
-    [a[0], a[1], a[2]]
-}
-
-fn ask(
-    case: &[u8],
-    at: usize,
-    lent: bool,
-    columns: &[f32; 1125],
-    overlap: &[f32; 225],
-    place: &mut [f32; 3],
-    state: &mut [u32; 3],
-    covariance: &mut [f32; 3],
-) -> u32 {
-    if lent {
-        return ask_with(case, at, columns, overlap, place, state, covariance);
+    fn aim(&self, _case: &[u8], turn: u32) -> Option<Aim> {
+        Some(Aim::of(turn / 3, 1 + turn % 3, 3))
     }
-    ask_alone(case, at, place, state, covariance)
+
+    fn holds(&mut self, case: &[u8], aim: Option<Aim>) -> bool {
+        let record = self.record(case);
+        let mut answer = match self.operator {
+            Some(operator) => ask_with(case, record, operator),
+            None => ask(case, record),
+        };
+        answer.change(aim);
+        answer.stands(record)
+    }
+}
+
+impl<'a> Seed<'a> {
+    // The words of a seed.
+    fn record<'b>(&self, case: &'b [u8]) -> Part<'b> {
+        Part { case, at: self.at }
+    }
 }
 
 // The calls, with the image, the settings and the seed of the case. A radius below zero becomes one above every limit.
-fn ask_alone(
-    case: &[u8],
-    at: usize,
-    place: &mut [f32; 3],
-    state: &mut [u32; 3],
-    covariance: &mut [f32; 3],
-) -> u32 {
+fn ask(case: &[u8], record: Part) -> Answer {
+    let image = Image::of(case);
     let settings = replay::behind_image(case);
-    chess_corners::chess_corners_refine(
-        replay::image(case),
-        words::long(case, 0) as usize,
-        words::long(case, 8) as usize,
-        words::long(case, 16) as usize,
-        replay::word_from(case, settings, 0) as usize,
-        replay::float_from(case, settings, 1),
-        replay::float_from(case, settings, 2),
-        replay::float_from(case, settings, 3),
-        replay::float_from(case, at, 0),
-        replay::float_from(case, at, 1),
-        replay::word_from(case, settings, 4),
-        place,
-        state,
-        covariance,
-    )
+    let mut answer = Answer::painted();
+    answer.number = chess_corners::chess_corners_refine(
+        image.samples,
+        image.width,
+        image.height,
+        image.pitch,
+        settings.number(0),
+        settings.float(1),
+        settings.float(2),
+        settings.float(3),
+        record.float(0),
+        record.float(1),
+        settings.word(4),
+        &mut answer.place,
+        &mut answer.state,
+        &mut answer.covariance,
+    );
+    answer
 }
 
-fn ask_with(
-    case: &[u8],
-    at: usize,
-    columns: &[f32; 1125],
-    overlap: &[f32; 225],
-    place: &mut [f32; 3],
-    state: &mut [u32; 3],
-    covariance: &mut [f32; 3],
-) -> u32 {
+fn ask_with(case: &[u8], record: Part, operator: &Operator) -> Answer {
+    let image = Image::of(case);
     let settings = replay::behind_image(case);
-    chess_corners::chess_corners_refine_with(
-        replay::image(case),
-        words::long(case, 0) as usize,
-        words::long(case, 8) as usize,
-        words::long(case, 16) as usize,
-        replay::word_from(case, settings, 0) as usize,
-        replay::float_from(case, settings, 1),
-        replay::float_from(case, settings, 2),
-        replay::float_from(case, settings, 3),
-        replay::float_from(case, at, 0),
-        replay::float_from(case, at, 1),
-        replay::word_from(case, settings, 4),
-        columns,
-        overlap,
-        place,
-        state,
-        covariance,
-    )
+    let mut answer = Answer::painted();
+    answer.number = chess_corners::chess_corners_refine_with(
+        image.samples,
+        image.width,
+        image.height,
+        image.pitch,
+        settings.number(0),
+        settings.float(1),
+        settings.float(2),
+        settings.float(3),
+        record.float(0),
+        record.float(1),
+        settings.word(4),
+        &operator.columns,
+        &operator.overlap,
+        &mut answer.place,
+        &mut answer.state,
+        &mut answer.covariance,
+    );
+    answer
 }

@@ -2,12 +2,10 @@
 // On standard error a line for each dropped one and a last line with both counts; or the number of a refusal, and nothing is written to standard output.
 #![tactic(auto)]
 
-ghost use Rattle.std.specs.Prelude.{◌*◌, ◌≤◌, length};
-
-use salvage::Salvage;
-use salvage_text::Size;
+use salvage::Saved;
+use salvage_text::{Counts, Dropped, Refused};
 use std::env::{Env, FillError};
-use std::io::{Read, Write};
+use std::io::Write;
 use std::process::ExitCode;
 use std::{fmt, io};
 
@@ -29,12 +27,12 @@ impl fmt::Display for Failure {
     }
 }
 
-// The file has room for one record more than is taken, so that more are refused; the outputs have room for whatever goes into them.
 fn main(rt: HostRuntime) -> ExitCode {
-    let mut file = [0u8; 49164];
-    let mut out = [0u8; 49152];
-    let mut faults = [0u16; 8194];
-    match run(&rt, &mut file, &mut out, &mut faults) {
+    let told = match sizes(&rt) {
+        Some((width, height)) => run(&rt, width, height),
+        None => print_usage(&mut rt.stderr()).map_err(Failure::Errors),
+    };
+    match told {
         Ok(()) => ExitCode::SUCCESS,
         Err(failure) => {
             // Where that line cannot be written either, the status is all that is left to tell.
@@ -44,27 +42,12 @@ fn main(rt: HostRuntime) -> ExitCode {
     }
 }
 
-fn run(
-    rt: &HostRuntime,
-    file: &mut [u8],
-    out: &mut [u8],
-    faults: &mut [u16],
-) -> Result<(), Failure> {
-    let errors = &mut rt.stderr();
+// The width and the height, where the command line has both and no word more.
+fn sizes(rt: &impl Env) -> Option<(usize, usize)> {
     if is_there(rt, 3) {
-        return print_usage(errors);
+        return None;
     }
-    let Size::Pixels(width) = size_at(rt, 1) else {
-        return print_usage(errors);
-    };
-    let Size::Pixels(height) = size_at(rt, 2) else {
-        return print_usage(errors);
-    };
-    let n = input::read_input(&mut rt.reader(), file).map_err(Failure::Input)?;
-    match salvage::salvage_corners(&file[..n], width, height, out, faults) {
-        Salvage::Saved { kept, dropped } => print_saved(rt, errors, out, kept, faults, dropped),
-        Salvage::Refused(refusal) => print_refused(errors, u32::from(refusal)),
-    }
+    Some((size_at(rt, 1)?, size_at(rt, 2)?))
 }
 
 // Whether the command line has a word there.
@@ -72,56 +55,45 @@ fn is_there(rt: &impl Env, i: usize) -> bool {
     !matches!(rt.arg(i, &mut []), Err(FillError::NotPresent))
 }
 
-// A word of the command line as a size; one that is not there is none, and one that is longer than any size is none either.
-fn size_at(rt: &impl Env, i: usize) -> Size {
+// A word of the command line as a size; one that is longer than any size is none.
+fn size_at(rt: &impl Env, i: usize) -> Option<usize> {
     let mut word = [0u8; 4096];
-    match rt.arg(i, &mut word) {
-        Ok(n) => salvage_text::size_of(&word[..n]),
-        Err(_) => Size::Missing,
+    let n = rt.arg(i, &mut word).ok()?;
+    salvage_text::size_of(&word[..n])
+}
+
+// The file has room for one record more than is taken, so that more are refused; the outputs have room for whatever goes into them.
+fn run(rt: &HostRuntime, width: usize, height: usize) -> Result<(), Failure> {
+    let mut file = [0u8; 49164];
+    let mut out = [0u8; 49152];
+    let mut faults = [0u16; 8194];
+    let errors = &mut rt.stderr();
+    let n = input::read_input(&mut rt.reader(), &mut file).map_err(Failure::Input)?;
+    match salvage::salvage_corners(&file[..n], width, height, &mut out, &mut faults) {
+        Ok(Saved { kept, dropped }) => {
+            rt.write_all(&out[..12 * kept]).map_err(Failure::Output)?;
+            print_faults(errors, &faults[..2 * dropped]).map_err(Failure::Errors)?;
+            write!(errors, "{}", Counts { kept, dropped }).map_err(Failure::Errors)
+        }
+        Err(refusal) => {
+            write!(errors, "{}", Refused(u32::from(refusal))).map_err(Failure::Errors)
+        }
     }
 }
 
-fn print_saved<W: Write>(
-    rt: &impl Print,
-    errors: &mut W,
-    out: &[u8],
-    kept: usize,
-    faults: &[u16],
-    dropped: usize,
-) -> Result<(), Failure>
-    requires { (12 * kept ≤ length out.now) × (2 * dropped ≤ length faults.now) }
-{
-    let end = 12 * kept;
-    rt.write_all(&out[..end]).map_err(Failure::Output)?;
-    print_faults(errors, faults, dropped).map_err(Failure::Errors)?;
-    let mut text = [0u8; 64];
-    let n = salvage_text::last_line(kept, dropped, &mut text);
-    errors.write_all(&text[..n]).map_err(Failure::Errors)
-}
-
-fn print_faults<W: Write>(errors: &mut W, faults: &[u16], dropped: usize) -> io::Result<()>
-    requires { 2 * dropped ≤ length faults.now }
-{
-    for i in 0..dropped {
-        print_fault(errors, faults[2 * i], faults[2 * i + 1])?;
+// A line for each pair.
+fn print_faults<W: Write>(errors: &mut W, faults: &[u16]) -> io::Result<()> {
+    let (pairs, _) = faults.as_chunks::<2>();
+    for [number, fault] in pairs {
+        let dropped = Dropped {
+            number: *number,
+            fault: *fault,
+        };
+        write!(errors, "{dropped}")?;
     }
     Ok(())
 }
 
-fn print_fault<W: Write>(errors: &mut W, number: u16, fault: u16) -> io::Result<()> {
-    let mut text = [0u8; 64];
-    let n = salvage_text::fault_line(number, fault, &mut text);
-    errors.write_all(&text[..n])
-}
-
-fn print_refused<W: Write>(errors: &mut W, no: u32) -> Result<(), Failure> {
-    let mut text = [0u8; 64];
-    let n = salvage_text::refused_line(no, &mut text);
-    errors.write_all(&text[..n]).map_err(Failure::Errors)
-}
-
-fn print_usage<W: Write>(errors: &mut W) -> Result<(), Failure> {
-    errors
-        .write_all(b"usage: salvage-print WIDTH HEIGHT, both in decimal digits\n")
-        .map_err(Failure::Errors)
+fn print_usage<W: Write>(errors: &mut W) -> io::Result<()> {
+    writeln!(errors, "usage: salvage-print WIDTH HEIGHT, both in decimal digits")
 }

@@ -1,4 +1,3 @@
--- Laws of sizes and of lines; closed cases.
+-- Laws of sizes; closed cases.
 pub mod SizeLaws
-pub mod LineLaws
 pub mod Cases

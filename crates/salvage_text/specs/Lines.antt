@@ -1,14 +1,6 @@
 -- The lines in ASCII, each with its line feed: `NUMBER cut`, `NUMBER not finite` or `NUMBER outside`; `kept A dropped B`; `refused N`.
-use Rattle.std.specs.Prelude.{cond, List, [], ◌∷◌, ◌++◌, ℕ, zero, suc, ◌+◌, ◌/◌, ◌%◌, ltb, eqb}
-
--- a number of at most so many decimal digits, the highest first and no zero in front
-unfoldable pub decimal_from : ℕ → ℕ → List ℕ
-decimal_from zero n = []
-decimal_from (suc digits) n = cond (ltb n 10) ((48 + n) ∷ []) (decimal_from digits (n / 10) ++ ((48 + n % 10) ∷ []))
-
--- numbers below 10 ^ 20
-abbrev pub decimal_of : ℕ → List ℕ
-decimal_of n = decimal_from 20 n
+use Rattle.std.specs.Prelude.{cond, List, [], ◌∷◌, ◌++◌, ℕ, eqb}
+use Rattle.std.specs.Fmt.{decimal}
 
 -- " cut\n", " not finite\n" and " outside\n"
 abbrev pub cut_text : List ℕ
@@ -24,15 +16,15 @@ abbrev pub reason_of : ℕ → List ℕ
 reason_of fault = cond (eqb fault 1) cut_text (cond (eqb fault 2) not_finite_text outside_text)
 
 abbrev pub fault_line : ℕ → ℕ → List ℕ
-fault_line number fault = decimal_of number ++ reason_of fault
+fault_line number fault = decimal number ++ reason_of fault
 
 -- "kept ", " dropped "
 abbrev pub last_line : ℕ → ℕ → List ℕ
 last_line kept dropped =
-    (107 ∷ 101 ∷ 112 ∷ 116 ∷ 32 ∷ []) ++ decimal_of kept
-    ++ (32 ∷ 100 ∷ 114 ∷ 111 ∷ 112 ∷ 112 ∷ 101 ∷ 100 ∷ 32 ∷ []) ++ decimal_of dropped
+    (107 ∷ 101 ∷ 112 ∷ 116 ∷ 32 ∷ []) ++ decimal kept
+    ++ (32 ∷ 100 ∷ 114 ∷ 111 ∷ 112 ∷ 112 ∷ 101 ∷ 100 ∷ 32 ∷ []) ++ decimal dropped
     ++ (10 ∷ [])
 
 -- "refused "
 abbrev pub refused_line : ℕ → List ℕ
-refused_line n = (114 ∷ 101 ∷ 102 ∷ 117 ∷ 115 ∷ 101 ∷ 100 ∷ 32 ∷ []) ++ decimal_of n ++ (10 ∷ [])
+refused_line n = (114 ∷ 101 ∷ 102 ∷ 117 ∷ 115 ∷ 101 ∷ 100 ∷ 32 ∷ []) ++ decimal n ++ (10 ∷ [])

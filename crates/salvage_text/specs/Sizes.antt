@@ -1,8 +1,6 @@
 -- A word of the command line as a width or height: decimal digits and nothing else, at least one. All sizes above the greatest, 4,096, are refused alike:
 -- 4,097 stands for each of them.
-use Rattle.std.specs.Prelude.{Bool, true, ◌&&◌, cond, List, [], ◌∷◌, ℕ, ◌+◌, ◌-◌, ◌*◌, min, leb}
-use Rattle.salvage_text.specs.declared.Size.{Size}
-use Rattle.salvage_text.specs.declared.Size.TheVariants.{Pixels, Missing}
+use Rattle.std.specs.Prelude.{Bool, true, ◌&&◌, cond, List, [], ◌∷◌, ℕ, ◌+◌, ◌-◌, ◌*◌, min, leb, Option, None, Some}
 
 abbrev pub most : ℕ
 most = 4097
@@ -20,7 +18,7 @@ unfoldable pub value_from : ℕ → List ℕ → ℕ
 value_from n [] = n
 value_from n (b ∷ l) = value_from (n * 10 + (b - 48)) l
 
-unfoldable pub size_of : List ℕ → Size
+unfoldable pub size_of : List ℕ → Option ℕ
 unfolding are_digits value_from
-size_of [] = Missing
-size_of (b ∷ l) = cond (are_digits (b ∷ l)) (Pixels (min most (value_from 0 (b ∷ l)))) Missing
+size_of [] = None
+size_of (b ∷ l) = cond (are_digits (b ∷ l)) (Some (min most (value_from 0 (b ∷ l)))) None

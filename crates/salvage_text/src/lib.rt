@@ -4,12 +4,5 @@
 mod lines;
 mod sizes;
 
-pub use lines::{fault_line, last_line, refused_line};
+pub use lines::{Counts, Dropped, Refused};
 pub use sizes::size_of;
-
-// What a word of the command line stands for: a width or height, or nothing that could be one.
-#[derive(Drop)]
-pub enum Size {
-    Pixels(usize),
-    Missing,
-}

@@ -2,32 +2,29 @@
 ghost use Rattle.std.specs.Prelude.{◌≡◌, ◌+◌, ◌-◌, ◌*◌, ◌≤◌, min};
 ghost use Rattle.salvage_text.specs.Sizes.{is_digit, most, size_of};
 
-use crate::Size;
-
-// Every size above the greatest is refused alike, so reading stops to count there.
-pub fn size_of(word: &[u8]) -> Size
+/// The width or height that a word of the command line stands for, if it is one. Every size above the greatest is refused alike, so reading stops to
+/// count there.
+#[tactic(auto, using(crate::proofs::SizeLaws::no_word, crate::proofs::SizeLaws::whole_word, crate::proofs::SizeLaws::one_digit, crate::proofs::SizeLaws::no_digit, crate::proofs::SizeLaws::at_end, crate::proofs::SizeLaws::from_digit))]
+pub fn size_of(word: &[u8]) -> Option<usize>
     ensures { result ≡ size_of word.now }
 {
-    if word.len() == 0 {
-        return Size::Missing;
+    if word.is_empty() {
+        return None;
     }
     let mut size = 0;
-    let mut i = 0;
-    while i < word.len() {
-        let digit = word[i];
-        if !is_digit(digit) {
-            return Size::Missing;
+    for digit in word {
+        if !is_digit(*digit) {
+            return None;
         }
-        size = with_digit(size, digit);
-        i += 1;
+        size = with_digit(size, *digit);
     }
-    Size::Pixels(size)
+    Some(size)
 }
 
 fn is_digit(byte: u8) -> bool
     ensures { result ≡ is_digit byte }
 {
-    (48 <= byte) & (byte <= 57)
+    (b'0' <= byte) & (byte <= b'9')
 }
 
 // A number with one digit more behind it.
@@ -35,9 +32,5 @@ fn with_digit(size: usize, digit: u8) -> usize
     requires { (size ≤ most) × (48 ≤ digit) }
     ensures { result ≡ min most (size * 10 + (digit - 48)) }
 {
-    let n = size * 10 + (digit - 48) as usize;
-    if 4097 < n {
-        return 4097;
-    }
-    n
+    (size * 10 + (digit - b'0') as usize).min(4097)
 }

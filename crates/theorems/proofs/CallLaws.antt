@@ -12,6 +12,7 @@ use lib.ListN.{length, drop, replicate}
 use lib.Seq.{take_at, take_all}
 use lib.Ieee.{Float}
 use lib.Ieee.Scale.{finite}
+use Rattle.std.specs.Prelude.{Ok}
 use Rattle.shapes.proofs.ListLaws.{length-tabulated}
 use Rattle.shapes.specs.Numbers.{plus_zero}
 use Rattle.refusals.specs.declared.Refusal.{Refusal}
@@ -34,11 +35,9 @@ use Rattle.refine_formulas.specs.declared.SaddlePointConfig.{SaddlePointConfig}
 use Rattle.refine_seed.specs.Refine.{good_limits}
 use Rattle.refine_list.specs.declared.Refinements.TheVariants.{Refined}
 use Rattle.refine_list.specs.Refining as L
-use Rattle.merge.specs.declared.Merge.TheVariants.{Merged}
 use Rattle.merge.specs.Call as M
 use Rattle.merge.specs.Claims.{Source}
 use Rattle.merge_theorems.proofs.Clinics.{gridded-promised, scanned-promised}
-use Rattle.board.specs.declared.Tie.TheVariants.{Tied}
 use Rattle.board.specs.Call as B
 use Rattle.theorems.specs.Claims.{whole}
 use Rattle.theorems.specs.WholeRoad.{records}
@@ -163,7 +162,7 @@ pub record Again (before after : List Corner) (j : ℕ) : Type 0 where
   pub within : from < length before
   pub same : corner_at after j ≡ corner_at before from
 
-module _ {list : List Float} {radius : Float} {heads links : List ℕ} {c : ℕ} {list' : List Float} {heads' links' : List ℕ} (d : M.Done list radius heads links (Merged c) list' heads' links') (full : length list ≡ 3 * (length list / 3)) where
+module _ {list : List Float} {radius : Float} {heads links : List ℕ} {c : ℕ} {list' : List Float} {heads' links' : List ℕ} (d : M.Done list radius heads links (Ok c) list' heads' links') (full : length list ≡ 3 * (length list / 3)) where
   abbrev way : M.Way
   way = M.way_of list radius (length heads) (length links)
 
@@ -197,7 +196,7 @@ module _ {list : List Float} {radius : Float} {heads links : List ℕ} {c : ℕ}
           from-source _ kept (let q = d.answers ∙ p.answers in cc) (d.leaves-list ∙ p.leaves) p.uninvented
 
 -- ---- tying: the answers are the corners of the way
-module _ {rows columns : ℕ} {places : List Float} {limit : Float} {list : List Float} {answers answers' : List ℕ} (d : B.Done rows columns places limit list answers Tied answers') where
+module _ {rows columns : ℕ} {places : List Float} {limit : Float} {list : List Float} {answers answers' : List ℕ} (d : B.Done rows columns places limit list answers (Ok tt) answers') where
   pub ties : B.way_of rows columns places limit list (length answers) ≡ B.tied answers'
   ties = by (B.way_of rows columns places limit list (length answers)) refl
     where

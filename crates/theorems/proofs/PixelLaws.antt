@@ -22,7 +22,7 @@ use Rattle.pixel_response.specs.Near.{Near}
 use Rattle.response.specs.Region.{is_empty, width_of, height_of, ring_fits, ring_sample, cross_sample}
 use Rattle.response.specs.Demand.{column_at, row_at, fits_at, gain_at, loss_at, DemandThree}
 use Rattle.peaks.specs.Peak.{Scan, value_at, border, inside, side, cells, middle, neighbour, beats, highest}
-use Rattle.peaks.proofs.CallLaws.{scan_for}
+use Rattle.peaks.specs.Sound.{scan_for}
 use Rattle.peaks.proofs.WindowLaws.{beats-lower}
 use Rattle.theorems.specs.Claims.{whole, Exceeds}
 

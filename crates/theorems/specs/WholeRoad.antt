@@ -2,7 +2,7 @@
 -- of the answers where the last of them is accepted. The proof is in proofs/WholeRoad.antt.
 -- Which fault is shut out where: response and peaks, that a corner starts from a pixel without a cross-like mark (N of its pixel is above zero); refining, that it comes
 -- from anywhere but such a pixel; merging, that it is averaged or made up (it is one of the refined list, bit for bit); tying, that one is missing or serves two places.
-use Rattle.std.specs.Prelude.{◌≡◌, true, List, ℕ, ◌*◌, ◌<◌, ℤ, pos, get_or, take, Float}
+use Rattle.std.specs.Prelude.{◌≡◌, true, List, ℕ, ◌*◌, ◌<◌, ℤ, pos, get_or, take, Float, Ok}
 use Rattle.std.specs.Float.{binary32}
 use Rattle.std.specs.Float.Ieee.{of_int}
 use Rattle.imageview.specs.Image.{Image}
@@ -20,9 +20,7 @@ use Rattle.refine_list.specs.declared.Refinements.TheVariants.{Refined}
 use Rattle.refine_list.specs.Refining.{spot_for}
 use Rattle.refine_list.specs.Refining as L
 use Rattle.refine_seed.specs.declared.Spot.TheVariants.{At}
-use Rattle.merge.specs.declared.Merge.TheVariants.{Merged}
 use Rattle.merge.specs.Call as M
-use Rattle.board.specs.declared.Tie.TheVariants.{Tied}
 use Rattle.board.specs.Call as B
 use Rattle.board_theorems.specs.Claims.{Serves}
 use Rattle.theorems.specs.Claims.{whole, Positive}
@@ -76,9 +74,9 @@ pub record Road (s : Settings) (img : Image) (left : Left) : Type 0 where
   pub heads' : List ℕ
   pub links : List ℕ
   pub links' : List ℕ
-  pub merging : M.Done (records left.refined left.moved) s.within heads links (Merged left.merged) left.kept heads' links'
+  pub merging : M.Done (records left.refined left.moved) s.within heads links (Ok left.merged) left.kept heads' links'
   pub answers_before : List ℕ
-  pub tying : B.Done s.rows s.columns s.places s.limit (records left.merged left.kept) answers_before Tied left.answers
+  pub tying : B.Done s.rows s.columns s.places s.limit (records left.merged left.kept) answers_before (Ok tt) left.answers
 
 -- the corner that place k was given
 abbrev pub given : Left → ℕ → Corner

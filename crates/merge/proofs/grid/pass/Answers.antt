@@ -1,39 +1,32 @@
--- `merge::grid::pass` meets its contract: the corners that are left, merged into the kept ones, give what all of them give, and the chains are those of the kept ones.
+-- One corner more, and none left.
 use mathlib.Core.Path.{refl, ◌∙◌}
-use native.Mathlib.Nat.{le_refl}
+use native.Mathlib.Omega.{arith}
 use Rattle.corners.proofs.CornerLaws.{length-corners}
 use Rattle.corners.specs.Corners.{corners_of}
 use Rattle.merge.specs.Steps.{meets_in}
-use Rattle.merge.proofs.StepLaws.{pass-start, pass-turn, pass-end}
-use native.Mathlib.Omega.{arith}
+use Rattle.merge.proofs.StepLaws.{pass_start, pass_turn, pass_end}
+use Rattle.merge.proofs.ChainLaws.{still_lent}
 use Rattle.merge.proofs.grid.pass.Goals as goal
 
 pub loop-i-init : goal.loop-i-init
 loop-i-init c =
     let a = c.args in
-    (le_refl 0, omega arith, refl, refl, refl, c.requires.fact_2, pass-start (meets_in a.cells a.r2) (corners_of a.corners.now))
-
-pub step-count-requires : goal.step-count-requires
-step-count-requires c = let l = c.loop-i in record { fact_1 = l.invariant.5; fact_2 = (omega arith, omega arith, omega arith, omega arith) }
+    record { fewer = omega arith; same_length = refl; lent = record { same_heads = refl; same_links = refl; as_many_heads = refl; as_many_links = refl }; chained = c.requires.none_kept; so_far = pass_start (meets_in a.cells a.r2) (corners_of a.corners.now) }
 
 pub loop-i-preserved : goal.loop-i-preserved
 loop-i-preserved c =
-    let l = c.loop-i in
-    let i = l.invariant in
-    let turned = pass-turn (omega (arith, length-corners l.corners)) c.step-count.ensures.stepped in
-    (c.step-count.ensures.stepped.bound, omega arith, c.step-count.auto.corners ∙ i.2, c.step-count.auto.heads ∙ i.3, c.step-count.auto.links ∙ i.4, c.step-count.ensures.chained, turned ∙ i.6)
+    let i = c.loop-i.invariant in
+    let step = c.step-count in
+    record {
+      fewer = step.ensures.stepped.no_more_than_read;
+      same_length = step.auto.corners ∙ i.same_length;
+      lent = still_lent step.ensures.lent i.lent;
+      chained = step.ensures.chained;
+      so_far = pass_turn (omega (arith, length-corners c.loop-i.corners)) step.ensures.stepped ∙ i.so_far;
+    }
 
-pub shape_of-corners : goal.shape_of-corners
-shape_of-corners c = c.loop-i.invariant.2
-
-pub shape_of-heads : goal.shape_of-heads
-shape_of-heads c = c.loop-i.invariant.3
-
-pub shape_of-links : goal.shape_of-links
-shape_of-links c = c.loop-i.invariant.4
-
-pub returns : goal.returns
-returns c =
+pub returns-clause-passed : goal.returns-clause-passed
+returns-clause-passed c =
     let l = c.loop-i in
     let a = c.args in
-    record { kept = pass-end (meets_in a.cells a.r2) l.i l.count (corners_of l.corners) (omega (arith, length-corners l.corners)) ∙ l.invariant.6; there = omega arith }
+    record { kept = pass_end (meets_in a.cells a.r2) l.i l.count (corners_of l.corners) (omega (arith, length-corners l.corners)) ∙ l.invariant.so_far; there = omega arith }

@@ -9,10 +9,8 @@ use Rattle.refine_list.proofs.ListLaws.{empty, nowhere}
 use Rattle.refine_list.proofs.RepeatLaws.{usable}
 use Rattle.refine_list.proofs.list.refine_list.Goals as goal
 
-pub refine_all-requires : goal.refine_all-requires
-refine_all-requires c =
-    let b = c.build-operator.ensures in
-    record { corners_in_bounds_1 = c.requires.fact_1; corners_in_bounds_2 = usable c.args.cfg _ _ b c.in-Built.is; corners_in_bounds_3 = c.requires.fact_2; repeats = b.repeats }
+pub refine_all-requires-clause-usable : goal.refine_all-requires-clause-usable
+refine_all-requires-clause-usable c = usable c.args.cfg _ _ c.build-operator.ensures c.in-Built.is
 
 pub returns-in-Singular : goal.returns-in-Singular
 returns-in-Singular c =

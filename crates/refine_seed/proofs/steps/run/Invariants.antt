@@ -9,12 +9,12 @@ abbrev pub invariant-steps : goal.invariant-steps
 invariant-steps g l = record {
   holds : Holds l.image l.columns.numbers.now l.cfg.radius l.nearby;
   few : l.tries ≤ 4 * l.step;
-  is : ended_of (run_of (task_at l.image l.columns.numbers.now l.cfg l.seed) l.fn.first) ≡ from_step (task_at l.image l.columns.numbers.now l.cfg l.seed) (16 - l.step) l.fit l.ox l.oy l.by l.tries
+  is : ended_of (run_of (task_at l.image l.columns.numbers.now l.cfg l.seed) l.fn.first) ≡ from_step (task_at l.image l.columns.numbers.now l.cfg l.seed) (16 - l.step) l.fit l.ox l.oy l.by l.tries;
 }
 
 abbrev pub invariant-loop-half : goal.invariant-loop-half
 invariant-loop-half g l = record {
   holds : Holds l.image l.columns.numbers.now l.cfg.radius l.nearby;
   few : l.tries ≤ 4 * l.step + l.half;
-  is : ended_of (run_of (task_at l.image l.columns.numbers.now l.cfg l.seed) l.fn.first) ≡ from_candidate (task_at l.image l.columns.numbers.now l.cfg l.seed) (15 - l.step) (4 - l.half) l.fit l.ox l.oy l.by l.scale l.tries
+  is : ended_of (run_of (task_at l.image l.columns.numbers.now l.cfg l.seed) l.fn.first) ≡ from_candidate (task_at l.image l.columns.numbers.now l.cfg l.seed) (15 - l.step) (4 - l.half) l.fit l.ox l.oy l.by l.scale l.tries;
 }

@@ -1,9 +1,10 @@
--- `replay::stands` meets its contract: what is left to test decides as the whole does.
-use mathlib.Core.Path.{◌≡◌}
-use Prim.Native.Nat.{◌-◌}
-use lib.ListN.{length}
-use Rattle.replay.specs.Buffers.{every, stands_at}
+-- What is left to test decides as the whole does.
+use Rattle.std.proofs.Common.{◌≡◌, drop}
+use Rattle.std.specs.Prelude.{eqb}
+use Rattle.replay.specs.Buffers.{every_at, wanted_of}
 use Rattle.replay.proofs.buffers.stands.Given as goal
 
 abbrev pub invariant-loop-i : goal.invariant-loop-i
-invariant-loop-i l = every (stands_at l.case l.at l.n l.painted l.list) l.i (length l.list - l.i) ≡ every (stands_at l.case l.at l.n l.painted l.list) 0 (length l.list)
+invariant-loop-i g l =
+    every_at (λ i x. eqb (g.T.Element.word_of x) (wanted_of g.T.Element.mark_at l.part.case.now l.part.at l.n l.fill i)) l.i (drop l.i l.list)
+    ≡ every_at (λ i x. eqb (g.T.Element.word_of x) (wanted_of g.T.Element.mark_at l.part.case.now l.part.at l.n l.fill i)) 0 l.list
