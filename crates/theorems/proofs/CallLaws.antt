@@ -22,7 +22,6 @@ use Rattle.imageview.specs.Image.{Image, is_image, in_range, sizes_fit}
 use Rattle.corners.specs.declared.Corner.{Corner}
 use Rattle.corners.specs.Corners.{too_many, corners_of, flat, corner_at}
 use Rattle.corners.specs.Corners as C
-use Rattle.response.specs.declared.Response.TheVariants.{Written}
 use Rattle.response.specs.Region.{Region, clamped, is_empty, width_of, height_of, ring_within, written}
 use Rattle.response.specs.Demand.{PixelsBelow, DemandThree}
 use Rattle.response.specs.Call as R
@@ -69,7 +68,7 @@ whole-clamped img =
     ∙ ap (λ (c : ℕ). region 0 0 c (min img.height img.height)) (min-eq_left (le_refl img.width))
     ∙ ap (λ (d : ℕ). region 0 0 img.width d) (min-eq_left (le_refl img.height))
 
-module _ {img : Image} {ring : List ℤ} {radius : ℕ} {out : List Float} {width height : ℕ} {values : List Float} (d : R.Done img ring radius (whole img) out (Written width height) values) where
+module _ {img : Image} {ring : List ℤ} {radius : ℕ} {out : List Float} {width height : ℕ} {values : List Float} (d : R.Done img ring radius (whole img) out (Ok (record { width = width; height = height })) values) where
   response-tests : Goes R.refused (R.wrote (clamped img (whole img))) (R.way_of img ring radius (whole img) (length out))
   unfolding R.way_of
   response-tests =
@@ -89,7 +88,7 @@ module _ {img : Image} {ring : List ℤ} {radius : ℕ} {out : List Float} {widt
   sized c = ap length (d.leaves ∙ ap (R.out_after img ring radius out) responds) ∙ length-tabulated (width_of (whole img) * height_of (whole img)) _ ∙ area-is c
 
   pub keeps : PixelsBelow 256 img → DemandThree 256 img ring radius (whole img) values
-  keeps b = bytes-keep img ring radius (whole img) (whole img) out (Written width height) values b d responds
+  keeps b = bytes-keep img ring radius (whole img) (whole img) out (Ok (record { width = width; height = height })) values b d responds
 
 -- ---- the peaks: each record is that of a pixel
 module _ {s : Scan} {out : List Float} {n : ℕ} {out' : List Float} (d : P.Done s out (Found n) out') where

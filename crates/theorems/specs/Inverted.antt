@@ -1,11 +1,12 @@
 -- A board printed inverted, white on black, and a pixel whose 21 samples are all moved by one number: N is the same, the written values have the same sign,
 -- and they differ by at most 1/1024 for bytes and 1/64 for twelve bits. That their bits are the same is not claimed. The proofs are in proofs/Inverted.antt.
-use Rattle.std.specs.Prelude.{◌≡◌, Bool, true, false, List, ℕ, ◌+◌, ◌-◌, ◌*◌, ◌^◌, ◌≤◌, ◌<◌, ℤ, length, get_or, Float}
+use Rattle.std.specs.Prelude.{◌≡◌, Bool, true, false, List, ℕ, ◌+◌, ◌-◌, ◌*◌, ◌^◌, ◌≤◌, ◌<◌, ℤ, length, get_or, Float, Result}
 use Rattle.std.specs.Float.Ieee.{lt}
 use Rattle.std.specs.Float.Ieee.Exact.{HasValue}
 use Rattle.shapes.specs.Numbers.{plus_zero}
 use Rattle.imageview.specs.Image.{Image, pixel}
-use Rattle.response.specs.declared.Response.{Response}
+use Rattle.refusals.specs.declared.Refusal.{Refusal}
+use Rattle.response.specs.declared.Extent.{Extent}
 use Rattle.response.specs.Region.{Region, ring_sample, cross_sample}
 use Rattle.response.specs.Call.{wrote, way_of, Done}
 use Rattle.response.specs.Demand.{PixelsBelow, column_at, row_at, fits_at, gain_at, loss_at}
@@ -45,11 +46,11 @@ pub record Inverts (m : ℕ) (a b : Image) : Type 0 where
 pub record BothWrote (a b : Image) (ring : List ℤ) (radius : ℕ) (c : Region) (out out' : List Float) : Type 0 where
   pub region : Region
   pub old : List Float
-  pub answer : Response
+  pub answer : Result Extent Refusal
   pub done : Done a ring radius region old answer out
   pub way : way_of a ring radius region (length old) ≡ wrote c
   pub old' : List Float
-  pub answer' : Response
+  pub answer' : Result Extent Refusal
   pub done' : Done b ring radius region old' answer' out'
   pub way' : way_of b ring radius region (length old') ≡ wrote c
 

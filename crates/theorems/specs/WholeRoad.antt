@@ -9,7 +9,6 @@ use Rattle.imageview.specs.Image.{Image}
 use Rattle.corners.specs.declared.Corner.{Corner}
 use Rattle.corners.specs.Corners.{corners_of, corner_at}
 use Rattle.corners.specs.Corners as C
-use Rattle.response.specs.declared.Response.TheVariants.{Written}
 use Rattle.response.specs.Call as R
 use Rattle.response.specs.Demand.{PixelsBelow}
 use Rattle.peaks.specs.declared.Peaks.TheVariants.{Found}
@@ -65,7 +64,7 @@ pub record Road (s : Settings) (img : Image) (left : Left) : Type 0 where
   pub out : List Float
   pub width : ℕ
   pub height : ℕ
-  pub responded : R.Done img s.ring s.radius (whole img) out (Written width height) left.values
+  pub responded : R.Done img s.ring s.radius (whole img) out (Ok (record { width = width; height = height })) left.values
   pub peaks_out : List Float
   pub peaked : P.Done (scan_of s img left.values) peaks_out (Found left.peaks) left.scanned
   pub refine_out : List Float

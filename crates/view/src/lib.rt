@@ -9,7 +9,6 @@ ghost use Rattle.refine_seed.specs.Refine.{refine_of};
 ghost use Rattle.view.specs.Seen.{image_in, image_of_slice};
 
 pub use imageview::ImageView;
-
 use imageview::Sample;
 use refine_formulas::SaddlePointConfig;
 use refine_seed::{Estimate, Unrefined};
