@@ -140,6 +140,15 @@ impl<'a, S: Sample> Image<'a, S> {
         self.view.pitch
     }
 
+    /// The view that passed its test.
+    pub fn view(&self) -> ImageView<'a, S>
+        ensures image { shown S.levels S.deep result ≡ self.now }
+        ensures count { length result.data.now ≡ length self.now.samples }
+        ensures measured { IsMeasured self.now }
+    {
+        self.view
+    }
+
     /// The samples, row after row, with the padding.
     pub fn samples(&self) -> &'a [S]
         ensures samples { S.levels result.now ≡ self.now.samples }

@@ -13,7 +13,7 @@ ghost use Rattle.refine_patch.specs.StepsRows.{centres_of, sums_after};
 mod each;
 mod stores;
 
-use imageview::{Image, Sample};
+use imageview::{ImageView, Sample};
 use refine_formulas::Corners;
 use std::simd::prelude::*;
 
@@ -47,33 +47,33 @@ struct Sums {
 
 // Writes coefficient c of patch l to `out` at `to + 4 · c + l`.
 pub fn fit_four<S: Sample>(
-    image: &Image<S>,
+    view: ImageView<S>,
     columns: &Columns,
     at: Firsts,
     out: &mut [f32],
     to: usize,
 )
     requires out_len { (length out.old ≡ 40) × (to ≤ 20) }
-    requires patches_inside { PatchesInside (length image.now.samples) image.now.pitch columns.now.radius at }
-    ensures { out.new ≡ four_written (λ c l. coefficient_from image.now.samples image.now.pitch columns.now.numbers.now columns.now.radius (lane_of at l) c) to out.old }
+    requires patches_inside { PatchesInside (length view.data.now) view.pitch columns.now.radius at }
+    ensures { out.new ≡ four_written (λ c l. coefficient_from (S.levels view.entry.data.now) view.entry.pitch columns.now.numbers.now columns.now.radius (lane_of at l) c) to out.old }
 {
-    if reach(image.count(), image.pitch(), columns.radius, at) {
-        fit_rows(image, columns, at, out, to);
+    if reach(view.data.len(), view.pitch, columns.radius, at) {
+        fit_rows(view, columns, at, out, to);
     } else {
-        each::fit_each(image, columns, at, out, to);
+        each::fit_each(view, columns, at, out, to);
     }
 }
 
 // The same where some more samples than its own lie behind each row.
-fn fit_rows<S: Sample>(image: &Image<S>, columns: &Columns, at: Firsts, out: &mut [f32], to: usize)
+fn fit_rows<S: Sample>(view: ImageView<S>, columns: &Columns, at: Firsts, out: &mut [f32], to: usize)
     requires out_len { (length out.old ≡ 40) × (to ≤ 20) }
-    requires patches_inside { PatchesInside (length image.now.samples) image.now.pitch columns.now.radius at }
-    requires reaches { Reaches (length image.now.samples) image.now.pitch columns.now.radius at }
-    ensures { out.new ≡ four_written (λ c l. coefficient_from image.now.samples image.now.pitch columns.now.numbers.now columns.now.radius (lane_of at l) c) to out.old }
+    requires patches_inside { PatchesInside (length view.data.now) view.pitch columns.now.radius at }
+    requires reaches { Reaches (length view.data.now) view.pitch columns.now.radius at }
+    ensures { out.new ≡ four_written (λ c l. coefficient_from (S.levels view.entry.data.now) view.entry.pitch columns.now.numbers.now columns.now.radius (lane_of at l) c) to out.old }
 {
-    let middle = columns.radius * image.pitch() + columns.radius;
-    let centre = centres(image.samples(), at, middle);
-    let sums = sum_rows(image, columns, at, centre);
+    let middle = columns.radius * view.pitch + columns.radius;
+    let centre = centres(view.data, at, middle);
+    let sums = sum_rows(view, columns, at, centre);
     stores::store(out, to, sums);
 }
 
@@ -159,18 +159,18 @@ fn gather<S: Sample>(samples: &[S], at: Firsts, count: usize, row: &mut [u16; 11
 
 // So many rows, sample after sample: what is read of a row past its own samples is written over by the next row.
 fn gather_rows<S: Sample>(
-    image: &Image<S>,
+    view: ImageView<S>,
     at: Firsts,
     radius: usize,
     rows: usize,
     row: &mut [u16; 112],
 )
     requires row_len { (length row.old ≡ 112) × (radius ≤ 7) × (rows ≤ rows_of radius) }
-    requires rows_reach { RowsReach (length image.now.samples) image.now.pitch radius at rows }
-    ensures { Rows image.now.samples image.now.pitch (side radius) at rows row.new }
+    requires rows_reach { RowsReach (length view.data.now) view.pitch radius at rows }
+    ensures { Rows (S.levels view.entry.data.now) view.entry.pitch (side radius) at rows row.new }
 {
-    let pitch = image.pitch();
-    let samples = image.samples();
+    let pitch = view.pitch;
+    let samples = view.data;
     for j in 0..rows {
         let to = 4 * (j * (2 * radius + 1));
         gather(samples, moved(at, j * pitch), wide_of(radius), row, to);
@@ -298,22 +298,22 @@ fn no_sums() -> Sums
 }
 
 // The sums of all samples, some rows at a time.
-fn sum_rows<S: Sample>(image: &Image<S>, columns: &Columns, at: Firsts, centre: f32x4) -> Sums
-    requires patches_inside { PatchesInside (length image.now.samples) image.now.pitch columns.now.radius at }
-    requires reaches { Reaches (length image.now.samples) image.now.pitch columns.now.radius at }
-    requires of_centres { centre ≡ centres_of image.now.samples at (columns.now.radius * image.now.pitch + columns.now.radius) }
-    ensures { result ≡ sums_after image.now.samples image.now.pitch columns.now.numbers.now columns.now.radius at (samples columns.now.radius) }
+fn sum_rows<S: Sample>(view: ImageView<S>, columns: &Columns, at: Firsts, centre: f32x4) -> Sums
+    requires patches_inside { PatchesInside (length view.data.now) view.pitch columns.now.radius at }
+    requires reaches { Reaches (length view.data.now) view.pitch columns.now.radius at }
+    requires of_centres { centre ≡ centres_of (S.levels view.data.now) at (columns.now.radius * view.pitch + columns.now.radius) }
+    ensures { result ≡ sums_after (S.levels view.entry.data.now) view.entry.pitch columns.now.numbers.now columns.now.radius at (samples columns.now.radius) }
 {
     let radius = columns.radius;
     let side = 2 * radius + 1;
     let most = rows_of(radius);
-    let pitch = image.pitch();
+    let pitch = view.pitch;
     let mut row = [0u16; 112];
     let mut sums = no_sums();
     let mut j: usize = 0;
     while j < side {
         let rows = std::cmp::min(most, side - j);
-        gather_rows(image, moved(at, j * pitch), radius, rows, &mut row);
+        gather_rows(view, moved(at, j * pitch), radius, rows, &mut row);
         sums = add_rows(sums, columns, &row, rows * side, centre, j * side);
         j += rows;
     }

@@ -10,8 +10,8 @@ pub returns : goal.returns
 returns g c =
     let a = c.args in
     let k = a.columns.now in
-    let img = a.image.now in
+    let list = g.S.Sample.levels a.view.data.now in
     let sums = c.sum_rows-sums in
     c.store.ensures
-    ∙ blocks-done img.samples img.pitch k.numbers.now k.radius a.at sums.result a.to a.out.now sums.ensures
-    ∙ blocks-written (λ c l. coefficient_from img.samples img.pitch k.numbers.now k.radius (lane_of a.at l) c) a.to a.out.now c.requires.out_len.0 c.requires.out_len.1
+    ∙ blocks-done list a.view.pitch k.numbers.now k.radius a.at sums.result a.to a.out.now sums.ensures
+    ∙ blocks-written (λ c l. coefficient_from list a.view.pitch k.numbers.now k.radius (lane_of a.at l) c) a.to a.out.now c.requires.out_len.0 c.requires.out_len.1

@@ -13,9 +13,9 @@ pub loop-j-preserved : goal.loop-j-preserved
 loop-j-preserved g c =
     let a = c.args in
     let l = c.loop-j in
-    let list = a.image.now.samples in
+    let list = (g.S.Sample.levels a.view.data.now) in
     let row = c.gather.new.row in
     let n = c.wide_of in
     let to = 4 * (l.j * Basis.side a.radius) in
-    let read = subst (λ (m : Firsts). Gathered list m n.result to l.row row) (c.moved.ensures ∙ ap (λ (p : ℕ). moved_by a.at (l.j * p)) c.pitch-pitch.ensures.pitch) (subst (λ (s : List ℕ). Gathered s c.moved.result n.result to l.row row) c.samples-samples.ensures.samples c.gather.ensures) in
-    rows_more list a.image.now.pitch (Basis.side a.radius) a.at n.result l.j l.row row (omega (arith, n.ensures, wide-least a.radius c.requires.row_len.1)) l.invariant read
+    let read = subst (λ (m : Firsts). Gathered list m n.result to l.row row) c.moved.ensures c.gather.ensures in
+    rows_more list a.view.pitch (Basis.side a.radius) a.at n.result l.j l.row row (omega (arith, n.ensures, wide-least a.radius c.requires.row_len.1)) l.invariant read

@@ -4,4 +4,4 @@ use Rattle.refine_patch.specs.StepsFour.{Rows}
 use Rattle.refine_patch.proofs.gather_rows.Given as goal
 
 abbrev pub invariant-loop-j : goal.invariant-loop-j
-invariant-loop-j g l = Rows l.image.samples l.image.pitch (Basis.side l.radius) l.at l.j l.row
+invariant-loop-j g l = Rows (g.S.Sample.levels l.view.data.now) l.view.pitch (Basis.side l.radius) l.at l.j l.row

@@ -6,4 +6,4 @@ use Rattle.refine_patch.specs.StepsRows.{term}
 use Rattle.refine_patch.proofs.each.coefficient.Given as goal
 
 abbrev pub invariant-loop-k : goal.invariant-loop-k
-invariant-loop-k g l = l.sum ≡ turns l.k (term l.image.samples l.image.pitch l.columns.numbers.now l.columns.radius l.first l.c) plus_zero
+invariant-loop-k g l = l.sum ≡ turns l.k (term (g.S.Sample.levels l.view.data.now) l.view.pitch l.columns.numbers.now l.columns.radius l.first l.c) plus_zero

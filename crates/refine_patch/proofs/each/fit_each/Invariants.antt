@@ -6,4 +6,4 @@ use Rattle.refine_patch.specs.StepsFour.{lane_of, blocks}
 use Rattle.refine_patch.proofs.each.fit_each.Given as goal
 
 abbrev pub invariant-loop-c : goal.invariant-loop-c
-invariant-loop-c g v = (length v.out ≡ 40) × (v.out ≡ blocks v.c (λ c l. coefficient_from v.image.samples v.image.pitch v.columns.numbers.now v.columns.radius (lane_of v.at l) c) v.to v.initial.out)
+invariant-loop-c g v = (length v.out ≡ 40) × (v.out ≡ blocks v.c (λ c l. coefficient_from (g.S.Sample.levels v.view.data.now) v.view.pitch v.columns.numbers.now v.columns.radius (lane_of v.at l) c) v.to v.initial.out)
