@@ -1,17 +1,18 @@
 -- The cells of the 21 places: their components, coordinates moved by them, and the places one after the other.
 use mathlib.Core.Path.{◌≡◌, refl, sym, ap, ◌∙◌, subst}
-use mathlib.Core.Bool.{Bool, true, false, cond, ◌&&◌, and-false}
+use mathlib.Core.Bool.{Bool, true, false, cond, ◌&&◌, ◌||◌, and-false}
+use mathlib.Core.Logic.{⊎_elim}
 use mathlib.Core.List.{List, ◌++◌}
 use Prim.Native.Nat.{ℕ, suc, ◌+◌, ◌-◌, ◌*◌, ◌≤◌, ◌<◌}
 use native.Mathlib.Nat.{suc-mul, mul-le-mul_right, not-suc-le-zero}
 use native.Mathlib.Omega.{arith}
-use lib.Dec.{ltb, leb}
+use lib.Dec.{ltb, leb, lit<}
 use lib.IntN.{ℤ, pos, negsuc}
 use lib.ListN.{length, get_or, set, get_or-append}
 use lib.Seq.{get_or-append-add, get_or-set_same, get_or-set_other}
-use borrow.Author.Tests.{ltb-true}
+use borrow.Author.Tests.{ltb-true, leb-true, le-ltb}
 use Rattle.shapes.specs.Tests.{every}
-use Rattle.shapes.proofs.TestLaws.{both, second-of, every_more, every-none, every-miss}
+use Rattle.shapes.proofs.TestLaws.{both, either, second-of, every_more, every-none, every-miss}
 use Rattle.response.specs.Region.{moved}
 use Rattle.response.proofs.PassLaws.{last_or}
 use Rattle.gradient.specs.Stencil.{cross_pairs, component, stays_on, stencil_stays, cell_of}
@@ -82,6 +83,19 @@ module _ (side : ℕ) (ring : List ℤ) (x y : ℕ) where
   pub leaves_line : (k : ℕ) → k < 21 → None ≡ moved_by y (component ring (2 * k + 1)) side → false ≡ stencil_stays side ring x y
   unfolding stencil_stays
   leaves_line k h e = sym (every-miss (stays side ring x y) 21 k h (ap (λ (b : Bool). stays_on side x (component ring (2 * k)) && b) (left-by side y (component ring (2 * k + 1)) e) ∙ and-false (stays_on side x (component ring (2 * k)))))
+
+  -- the cell itself is a place
+  pub outside : length ring ≡ 32 → (leb side x || leb side y) ≡ true → false ≡ stencil_stays side ring x y
+  outside l t =
+      let c = cross_component ring (2 * 16) l (omega arith) in
+      let d = cross_component ring (2 * 16 + 1) l (omega arith) in
+      ⊎_elim
+      (λ e. leaves_column 16 (lit< tt) (gone x e ∙ ap (λ (z : ℤ). moved_by x z side) (sym c)))
+      (λ e. leaves_line 16 (lit< tt) (gone y e ∙ ap (λ (z : ℤ). moved_by y z side) (sym d)))
+      (either (leb side x) (leb side y) t)
+    where
+      gone : (n : ℕ) → leb side n ≡ true → None ≡ moved_by n (pos 0) side
+      gone n e = sym (ap (λ (b : Bool). cond b (Some (n + 0)) None) (le-ltb (n + 0) side (let h : side ≤ n = leb-true side n e in omega arith)))
 
   -- one place more
   pub upto_more : (k column line : ℕ) (cells : List ℕ) → k < length cells → Upto side ring x y k cells → Some column ≡ moved_by x (component ring (2 * k)) side → Some line ≡ moved_by y (component ring (2 * k + 1)) side → Upto side ring x y (k + 1) (set cells k (line * side + column))

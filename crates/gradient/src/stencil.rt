@@ -13,6 +13,9 @@ pub fn cells_of(ring: &[i32; 32], side: usize, x: usize, y: usize) -> Option<[us
     ensures are { IfSome result (λ cells. (k : ℕ) → k < 21 → get_or cells k 0 ≡ cell_of side ring.now x y k) }
     ensures within { IfSome result (λ cells. Within cells (side * side)) }
 {
+    if (side <= x) | (side <= y) {
+        return None;
+    }
     let mut cells = [0usize; 21];
     for k in 0..21 {
         let column = moved_by(x, component(ring, 2 * k), side)?;
@@ -33,8 +36,9 @@ fn component(ring: &[i32; 32], i: usize) -> i32
 
 // A coordinate moved by a component, where that stays on the tile.
 fn moved_by(at: usize, by: i32, side: usize) -> Option<usize>
+    requires { at < 4294967296 }
     ensures { result ≡ moved_by at by side }
 {
-    let to = at.checked_add_signed(by as isize)?;
+    let to = usize::try_from(at as i64 + i64::from(by)).ok()?;
     if to < side { Some(to) } else { None }
 }

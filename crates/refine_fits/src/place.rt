@@ -62,6 +62,7 @@ fn window_near(cx: u16, cy: u16, ox: f32, oy: f32) -> Window
 }
 
 // The window at any offset.
+#[inline(always)]
 fn window_far(cx: u16, cy: u16, ox: f32, oy: f32) -> Window
     ensures { result ≡ window_of (window_place (pos cx) (pos cy) ox oy) }
 {
@@ -74,7 +75,8 @@ fn window_far(cx: u16, cy: u16, ox: f32, oy: f32) -> Window
     }
 }
 
-// The window at an offset from the centre.
+// The window at an offset from the centre. Put into its caller, as the candidate is.
+#[inline(always)]
 pub fn window_at(cx: u16, cy: u16, ox: f32, oy: f32) -> Window
     ensures { result ≡ window_of (window_place (pos cx) (pos cy) ox oy) }
 {

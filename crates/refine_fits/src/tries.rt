@@ -36,6 +36,8 @@ pub fn near_seed(cfg: SaddlePointConfig, seed: Seed, x: f32, y: f32) -> bool
 }
 
 // A candidate window at an offset from the centre, with the four fits about it: its saddle, where it is taken in place of the saddle f.
+// Put into its caller, which is made for each width of samples: a call copies the fits.
+#[inline(always)]
 pub fn candidate(
     cfg: SaddlePointConfig,
     seed: Seed,

@@ -1,4 +1,5 @@
 -- `gradient::stencil::cells_of` meets its contract: one law for each way out, and for one place more.
+use borrow.Author.Rules.{rules}
 use mathlib.Core.Path.{refl, sym, ap, ◌∙◌}
 use native.Mathlib.Omega.{arith}
 use lib.IntN.{ℤ}
@@ -7,8 +8,11 @@ use mir.ValLaws.{to_z-of_z}
 use Rattle.std.specs.Prelude.{is_some}
 use lib.ListN.{length-set}
 use Rattle.gradient.specs.Steps.{moved_by}
-use Rattle.gradient.proofs.StencilLaws.{upto_none, upto_more, all_stay, leaves_column, leaves_line}
+use Rattle.gradient.proofs.StencilLaws.{outside, upto_none, upto_more, all_stay, leaves_column, leaves_line}
 use Rattle.gradient.proofs.stencil.cells_of.Goals as goal
+
+pub returns-then-side-x-clause-decides : goal.returns-then-side-x-clause-decides
+returns-then-side-x-clause-decides c = let a = c.args in outside a.side a.ring.now a.x a.y (search rules) c.if-side-x.true
 
 pub loop-k-init : goal.loop-k-init
 loop-k-init c = let a = c.args in (refl, upto_none a.side a.ring.now a.x a.y _)
