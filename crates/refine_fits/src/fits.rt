@@ -81,7 +81,8 @@ pub fn fit_about<S: Sample>(
     requires low { to ≤ 20 }
     ensures { Laid image.now columns.now.numbers.now columns.now.radius base.x base.y to flat.old flat.new }
 {
-    let pitch = image.pitch();
+    let view = image.view();
+    let pitch = view.pitch;
     let at = first_place(image, base.x, base.y, columns.radius);
     let firsts = Firsts {
         a: at,
@@ -89,5 +90,5 @@ pub fn fit_about<S: Sample>(
         c: at + pitch,
         d: at + pitch + 1,
     };
-    refine_patch::fit_four(image, columns, firsts, flat, to);
+    refine_patch::fit_four(view, columns, firsts, flat, to);
 }

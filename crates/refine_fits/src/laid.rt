@@ -1,7 +1,7 @@
 // The fits about two bases in one flat array, where they are used: those of the first base at 0, those of the last one at 20. From the third base on they come by
 // way of the kept fits.
 ghost use Rattle.std.specs.Prelude.{◌≡◌, ◌+◌, ◌<◌, ◌≤◌, pos, Some, None, length};
-ghost use Rattle.imageview.specs.Steps.{IsTested};
+ghost use Rattle.imageview.specs.Steps.{IsMeasured};
 ghost use Rattle.refine_fits.specs.Windows.{four, corners_at};
 ghost use Rattle.refine_fits.specs.StepsAdding.{FourWithin, has_room};
 ghost use Rattle.refine_fits.specs.StepsCache.{Kept};
@@ -107,7 +107,7 @@ impl IntegerFits {
 fn has_room<S: Sample>(image: &Image<S>, base: Base, radius: usize) -> bool
     requires { radius ≤ 7 }
     ensures room { result ≡ has_room radius base.x base.y image.now.width image.now.height }
-    ensures tested { IsTested image.now }
+    ensures measured { IsMeasured image.now }
 {
     let x = usize::from(base.x);
     let y = usize::from(base.y);

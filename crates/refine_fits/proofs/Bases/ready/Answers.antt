@@ -20,4 +20,4 @@ add-requires-clause-within g c =
     let a = c.args in
     let s = a.columns.now in
     let b = c.in_ok-base.base in
-    roomy a.image.now s.numbers.now s.radius b.x b.y (record { image = c.has_room.ensures.tested.stands; small = c.requires.small }) (sym c.has_room.ensures.room ∙ c.if-not-has_room.false)
+    roomy a.image.now s.numbers.now s.radius b.x b.y (record { image = c.has_room.ensures.measured.stands; small = c.requires.small }) (sym c.has_room.ensures.room ∙ c.if-not-has_room.false)

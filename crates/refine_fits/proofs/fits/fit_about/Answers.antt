@@ -2,6 +2,7 @@
 use mathlib.Core.Path.{sym, ap, ◌∙◌, subst}
 use Prim.Native.Nat.{ℕ}
 use lib.ListN.{length}
+use Rattle.imageview.specs.Image.{Image}
 use Rattle.refine_patch.specs.StepsFrom.{coefficient_from, four_written}
 use Rattle.refine_patch.specs.StepsFour.{lane_of, PatchesInside}
 use Rattle.refine_fits.proofs.BaseLaws.{from, inside-four, laid-about, firsts-are}
@@ -13,7 +14,9 @@ fit_four-requires-clause-patches_inside g c =
     let img = a.image.now in
     let r = a.columns.now.radius in
     let at = c.first_place-at in
-    subst (λ (p : ℕ). PatchesInside (length img.samples) img.pitch r (from at.result p)) (sym c.pitch-pitch.ensures.pitch) (inside-four img r a.base.x a.base.y at.result c.requires.within at.ensures)
+    let v = c.view-view in
+    subst (λ (n : ℕ). PatchesInside n v.result.pitch r (from at.result v.result.pitch)) (sym v.ensures.count)
+    (subst (λ (p : ℕ). PatchesInside (length img.samples) p r (from at.result p)) (sym (ap (λ (i : Image). i.pitch) v.ensures.image)) (inside-four img r a.base.x a.base.y at.result c.requires.within at.ensures))
 
 pub returns : goal.returns
 returns g c =
@@ -23,5 +26,5 @@ returns g c =
     let at = c.first_place-at in
     laid-about img s.numbers.now s.radius a.base.x a.base.y a.to a.flat.now c.fit_four.new.out c.requires.within c.requires.low
     (c.fit_four.ensures
-    ∙ ap (λ (p : ℕ). four_written (λ i l. coefficient_from img.samples img.pitch s.numbers.now s.radius (lane_of (from at.result p) l) i) a.to a.flat.now) c.pitch-pitch.ensures.pitch
+    ∙ ap (λ (v : Image). four_written (λ i l. coefficient_from v.samples v.pitch s.numbers.now s.radius (lane_of (from at.result v.pitch) l) i) a.to a.flat.now) c.view-view.ensures.image
     ∙ firsts-are img s.numbers.now s.radius a.base.x a.base.y at.result a.to a.flat.now at.ensures)
