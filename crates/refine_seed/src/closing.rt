@@ -10,12 +10,11 @@ ghost use Rattle.refine_seed.specs.PixelSlope.{slope_at};
 ghost use Rattle.refine_seed.specs.Run.{run_of};
 ghost use Rattle.refine_seed.specs.StepsEnding as Ending;
 
-use super::{Estimate, Noise, Opened, Spot};
+use super::{Estimate, Noise, Opened, Spot, Task};
 use crate::steps;
-use imageview::{Image, Sample};
-use refine_fits::{Seed, fits};
-use refine_formulas::{PatchSaddle, SaddlePointConfig, Slope, noise, sensitivity};
-use refine_patch::Columns;
+use imageview::Sample;
+use refine_fits::fits;
+use refine_formulas::{PatchSaddle, Slope, noise, sensitivity};
 
 // The estimate, with the covariance where it is wanted and the run converged.
 pub fn closed(opened: Opened, overlap: &[f32; 225], wanted: bool) -> Estimate
@@ -34,61 +33,70 @@ pub fn closed(opened: Opened, overlap: &[f32; 225], wanted: bool) -> Estimate
     }
 }
 
-// Where the first fit is settled: the slope is that of the centre pixel.
-pub fn at_centre<S: Sample>(
-    image: &Image<S>,
-    columns: &Columns,
-    seed: Seed,
-    here: [f32; 5],
-    first: PatchSaddle,
-) -> Opened
-    requires within { PatchWithin image.now columns.now.radius seed.centre_x seed.centre_y }
-    requires fitted { here ≡ coefficients image.now columns.now.numbers.now columns.now.radius seed.centre_x seed.centre_y }
-    ensures { result ≡ Ending.opened_there seed first (slope_at image.now columns.now.numbers.now columns.now.radius (pos seed.centre_x) (pos seed.centre_y)) }
-{
-    // a window that is moved by nothing
-    let middle = Spot::middle_of(seed).moved(0.0, 0.0);
-    let slope = slope_at(image, columns, seed, here);
-    match slope {
-        Some(slope) => {
-            let noise = Noise {
-                tx: 0.0,
-                ty: 0.0,
-                fit: first,
-                moves: steps::moves_of(first, slope),
-            };
-            settled_in(middle, noise, 0)
+impl<'a, S: Sample> Task<'a, S> {
+    // Where the first fit, which is `here`, is settled: the slope is that of the centre pixel.
+    pub fn at_centre(&self, here: [f32; 5], first: PatchSaddle) -> Opened
+        requires fitted { here ≡ coefficients self.now.image.now self.now.columns.now.numbers.now self.now.columns.now.radius self.now.seed.centre_x self.now.seed.centre_y }
+        ensures { result ≡ Ending.opened_there self.now.seed first (slope_at self.now.image.now self.now.columns.now.numbers.now self.now.columns.now.radius (pos self.now.seed.centre_x) (pos self.now.seed.centre_y)) }
+    {
+        // a window that is moved by nothing
+        let middle = Spot::middle_of(self.seed).moved(0.0, 0.0);
+        let slope = self.slope(here);
+        match slope {
+            Some(slope) => {
+                let noise = Noise {
+                    tx: 0.0,
+                    ty: 0.0,
+                    fit: first,
+                    moves: steps::moves_of(first, slope),
+                };
+                settled_in(middle, noise, 0)
+            }
+            None => unsettled_in(middle, first, 0),
         }
-        None => unsettled_in(middle, first, 0),
     }
-}
 
-// Where the first fit, whose saddle is `first`, is not settled: from there by steps.
-pub fn stepped<S: Sample>(
-    image: &Image<S>,
-    columns: &Columns,
-    cfg: SaddlePointConfig,
-    seed: Seed,
-    first: PatchSaddle,
-) -> Opened
-    requires within { PatchWithin image.now cfg.radius seed.centre_x seed.centre_y }
-    requires radius { columns.now.radius ≡ cfg.radius }
-    requires unsettled { Solve.settled first ≡ false }
-    ensures { result ≡ (let e = Ending.ended_of (run_of (task_at image.now columns.now.numbers.now cfg seed) first) in Ending.opened_on seed first e.tries e.settled) }
-{
-    let ended = steps::run(image, columns, cfg, seed, first);
-    let middle = Spot::middle_of(seed);
-    match ended.settled {
-        Some(w) => {
-            let noise = Noise {
-                tx: w.tx,
-                ty: w.ty,
-                fit: w.fit,
-                moves: w.moves(),
-            };
-            settled_in(middle.moved(w.ox, w.oy), noise, ended.tries)
+    // Where the first fit, whose saddle is `first`, is not settled: from there by steps.
+    pub fn stepped(&self, first: PatchSaddle) -> Opened
+        requires unsettled { Solve.settled first ≡ false }
+        ensures { result ≡ (let e = Ending.ended_of (run_of (task_at self.now.image.now self.now.columns.now.numbers.now self.now.cfg self.now.seed) first) in Ending.opened_on self.now.seed first e.tries e.settled) }
+    {
+        let ended = self.run(first);
+        let middle = Spot::middle_of(self.seed);
+        match ended.settled {
+            Some(w) => {
+                let noise = Noise {
+                    tx: w.tx,
+                    ty: w.ty,
+                    fit: w.fit,
+                    moves: w.moves(),
+                };
+                settled_in(middle.moved(w.ox, w.oy), noise, ended.tries)
+            }
+            None => unsettled_in(middle, first, ended.tries),
         }
-        None => unsettled_in(middle, first, ended.tries),
+    }
+
+    // The slope at the centre pixel, whose fit is `here`: where there is one along both axes.
+    fn slope(&self, here: [f32; 5]) -> Option<Slope>
+        requires fitted { here ≡ coefficients self.now.image.now self.now.columns.now.numbers.now self.now.columns.now.radius self.now.seed.centre_x self.now.seed.centre_y }
+        ensures { result ≡ slope_at self.now.image.now self.now.columns.now.numbers.now self.now.columns.now.radius (pos self.now.seed.centre_x) (pos self.now.seed.centre_y) }
+    {
+        let image = self.image;
+        let columns = self.columns;
+        let cx = self.seed.centre_x as usize;
+        let cy = self.seed.centre_y as usize;
+        let in_row = |k: usize|
+            requires { PatchWithin image.now columns.now.radius k cy }
+            ensures { result ≡ coefficients image.entry.now columns.entry.now.numbers.now columns.entry.now.radius k cy }
+        { fits::fit_patch(image, k, cy, columns) };
+        let in_column = |k: usize|
+            requires { PatchWithin image.now columns.now.radius cx k }
+            ensures { result ≡ coefficients image.entry.now columns.entry.now.numbers.now columns.entry.now.radius cx k }
+        { fits::fit_patch(image, cx, k, columns) };
+        let x = along(cx, image.width(), columns.radius, here, in_row)?;
+        let y = along(cy, image.height(), columns.radius, here, in_column)?;
+        Some(Slope { x, y })
     }
 }
 
@@ -126,32 +134,6 @@ fn estimate_in(middle: Spot, fit: PatchSaddle, converged: bool, tries: u32) -> E
         tries,
         covariance: None,
     }
-}
-
-// The slope at a seed's centre pixel, whose fit is `here`: where there is one along both axes.
-fn slope_at<S: Sample>(
-    image: &Image<S>,
-    columns: &Columns,
-    seed: Seed,
-    here: [f32; 5],
-) -> Option<Slope>
-    requires within { PatchWithin image.now columns.now.radius seed.centre_x seed.centre_y }
-    requires fitted { here ≡ coefficients image.now columns.now.numbers.now columns.now.radius seed.centre_x seed.centre_y }
-    ensures { result ≡ slope_at image.now columns.now.numbers.now columns.now.radius (pos seed.centre_x) (pos seed.centre_y) }
-{
-    let cx = seed.centre_x as usize;
-    let cy = seed.centre_y as usize;
-    let in_row = |k: usize|
-        requires { PatchWithin image.now columns.now.radius k cy }
-        ensures { result ≡ coefficients image.entry.now columns.entry.now.numbers.now columns.entry.now.radius k cy }
-    { fits::fit_patch(image, k, cy, columns) };
-    let in_column = |k: usize|
-        requires { PatchWithin image.now columns.now.radius cx k }
-        ensures { result ≡ coefficients image.entry.now columns.entry.now.numbers.now columns.entry.now.radius cx k }
-    { fits::fit_patch(image, cx, k, columns) };
-    let x = along(cx, image.width(), columns.radius, here, in_row)?;
-    let y = along(cy, image.height(), columns.radius, here, in_column)?;
-    Some(Slope { x, y })
 }
 
 // The slope at the pixel k along an axis of `length` pixels, whose fits `fit` works out: from the next fit, or from the one before where the next leaves the image.

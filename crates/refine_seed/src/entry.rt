@@ -10,7 +10,7 @@ ghost use Rattle.refine_seed.specs.StepsEnding.{open_of, open_with, ClosesFresh}
 ghost use Rattle.refine_seed.specs.StepsSpot.{seed_alone};
 ghost use Rattle.refine_operator.specs.Call.{way_of};
 
-use super::{Estimate, Opened, Unrefined, Why};
+use super::{Estimate, Opened, Task, Unrefined, Why};
 use crate::closing;
 use imageview::{Image, ImageView, Sample};
 use refine_fits::{Seed, fits, tries};
@@ -178,23 +178,30 @@ fn open_seed<S: Sample>(
         fourfold: false,
         radius: cfg.radius,
     };
-    let here = first_fit(image, &columns, seed);
+    let task = Task {
+        image: &*image,
+        columns: &columns,
+        cfg,
+        seed,
+    };
+    let here = task.first_fit();
     let first = solve::solve(cfg, here)?;
     if !tries::near_seed(cfg, seed, first.ux, first.uy) {
         return Err(Unrefined::Unmoved(Why::Rejected, first.det_h));
     }
     if solve::settled(first) {
-        return Ok(closing::at_centre(image, &columns, seed, here, first));
+        return Ok(task.at_centre(here, first));
     }
-    Ok(closing::stepped(image, &columns, cfg, seed, first))
+    Ok(task.stepped(first))
 }
 
-// The fit about a seed's centre pixel. By itself, so that the stack holds what is handed to it only while it lasts.
-fn first_fit<S: Sample>(image: &Image<S>, columns: &Columns, seed: Seed) -> [f32; 5]
-    requires { PatchWithin image.now columns.now.radius seed.centre_x seed.centre_y }
-    ensures { result ≡ coefficients image.now columns.now.numbers.now columns.now.radius seed.centre_x seed.centre_y }
-{
-    let x = usize::from(seed.centre_x);
-    let y = usize::from(seed.centre_y);
-    fits::fit_patch(image, x, y, columns)
+impl<'a, S: Sample> Task<'a, S> {
+    // The fit about a seed's centre pixel. By itself, so that the stack holds what is handed to it only while it lasts.
+    fn first_fit(&self) -> [f32; 5]
+        ensures { result ≡ coefficients self.now.image.now self.now.columns.now.numbers.now self.now.columns.now.radius self.now.seed.centre_x self.now.seed.centre_y }
+    {
+        let x = usize::from(self.seed.centre_x);
+        let y = usize::from(self.seed.centre_y);
+        fits::fit_patch(self.image, x, y, self.columns)
+    }
 }

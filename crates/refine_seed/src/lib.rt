@@ -2,13 +2,18 @@
 #![tactic(auto)]
 
 ghost use Rattle.std.specs.Prelude.{◌≡◌};
+ghost use Rattle.refine_fits.specs.StepsAdding.{PatchWithin};
 ghost use Rattle.refine_seed.specs.Refine.{why_number, unbuilt};
 ghost use Rattle.refine_seed.specs.declared.Why.TheVariants.{Flawed};
 ghost use Rattle.refine_seed.specs.declared.Unrefined.TheVariants.{Unmoved, Refused};
 
-use refine_fits::{Bases, IntegerFits};
-use refine_formulas::{Corners, Covariance, Flaw, Matrix, PatchSaddle, Unsolved};
+use imageview::{Image, Sample};
+use refine_fits::{Bases, IntegerFits, Seed};
+use refine_formulas::{
+    Corners, Covariance, Flaw, Matrix, PatchSaddle, SaddlePointConfig, Unsolved,
+};
 use refine_operator::OperatorError;
+use refine_patch::Columns;
 use refusals::Refusal;
 
 mod closing;
@@ -18,6 +23,17 @@ mod steps;
 
 pub use entry::{good_limits, old_number, refine, refine_with};
 pub use spots::{first_place, spot_with};
+
+// A seed whose patch lies in its image, with the settings and an operator's columns for their radius: all that stays the same over its run.
+#[derive(Drop)]
+struct Task<'a, S: Sample> {
+    image: &'a Image<'a, S>,
+    columns: &'a Columns<'a>,
+    cfg: SaddlePointConfig,
+    seed: Seed,
+    ghost radius: { columns.now.radius ≡ cfg.radius },
+    ghost within: { PatchWithin image.now columns.now.radius seed.centre_x seed.centre_y },
+}
 
 // Where the steps ended: after how many tries, and in which window they settled, if they did.
 #[derive(Clone, Copy, Debug, PartialEq)]

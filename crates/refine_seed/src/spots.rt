@@ -9,8 +9,8 @@ ghost use Rattle.refine_seed.specs.Spot.{spot_at};
 ghost use Rattle.refine_seed.specs.StepsEnding.{middle_of, moved, open_of, opened_from};
 ghost use Rattle.refine_seed.specs.StepsSpot.{Ready, seed_alone, first_for, Fitted, spot_in, Lands};
 
-use super::Spot;
-use crate::{entry, steps};
+use super::{Spot, Task};
+use crate::entry;
 use imageview::{Image, Sample};
 use refine_fits::{Seed, fits, laid, tries};
 use refine_formulas::{PatchSaddle, SaddlePointConfig, solve};
@@ -84,7 +84,7 @@ fn spot_of_seed<S: Sample>(
     flat: &[f32; 40],
     at: usize,
 ) -> Option<Spot>
-    requires within { PatchWithin image.now cfg.radius seed.centre_x seed.centre_y }
+    requires within { PatchWithin image.now columns.now.radius seed.centre_x seed.centre_y }
     requires radius { columns.now.radius ≡ cfg.radius }
     requires fitted { coefs_in flat.now at ≡ coefficients image.now columns.now.numbers.now cfg.radius seed.centre_x seed.centre_y }
     requires stands { at ≤ 23 }
@@ -94,30 +94,30 @@ fn spot_of_seed<S: Sample>(
     if !tries::near_seed(cfg, seed, first.ux, first.uy) {
         return None;
     }
-    Some(spot_from(image, columns, cfg, seed, first))
+    let task = Task {
+        image: &*image,
+        columns: &*columns,
+        cfg,
+        seed,
+    };
+    Some(task.spot(first))
 }
 
-// From the first fit's saddle.
-#[tactic(auto, using(crate::proofs::ClosingLaws::spot_there))]
-fn spot_from<S: Sample>(
-    image: &Image<S>,
-    columns: &Columns,
-    cfg: SaddlePointConfig,
-    seed: Seed,
-    first: PatchSaddle,
-) -> Spot
-    requires within { PatchWithin image.now cfg.radius seed.centre_x seed.centre_y }
-    requires radius { columns.now.radius ≡ cfg.radius }
-    ensures { result ≡ spot_at (opened_from (task_at image.now columns.now.numbers.now cfg seed) seed first).estimate }
-{
-    let middle = Spot::middle_of(seed);
-    if solve::settled(first) {
-        // a window that is moved by nothing
-        return middle.moved(0.0, 0.0).moved(first.ux, first.uy);
-    }
-    let ended = steps::run(image, columns, cfg, seed, first);
-    match ended.settled {
-        Some(w) => middle.moved(w.ox, w.oy).moved(w.fit.ux, w.fit.uy),
-        None => middle.moved(first.ux, first.uy),
+impl<'a, S: Sample> Task<'a, S> {
+    // From the first fit's saddle.
+    #[tactic(auto, using(crate::proofs::ClosingLaws::spot_there))]
+    fn spot(&self, first: PatchSaddle) -> Spot
+        ensures { result ≡ spot_at (opened_from (task_at self.now.image.now self.now.columns.now.numbers.now self.now.cfg self.now.seed) self.now.seed first).estimate }
+    {
+        let middle = Spot::middle_of(self.seed);
+        if solve::settled(first) {
+            // a window that is moved by nothing
+            return middle.moved(0.0, 0.0).moved(first.ux, first.uy);
+        }
+        let ended = self.run(first);
+        match ended.settled {
+            Some(w) => middle.moved(w.ox, w.oy).moved(w.fit.ux, w.fit.uy),
+            None => middle.moved(first.ux, first.uy),
+        }
     }
 }

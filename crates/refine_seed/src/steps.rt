@@ -2,69 +2,59 @@
 ghost use Rattle.std.specs.Prelude.{◌≡◌, false};
 ghost use Rattle.refine_formulas.specs.Sensitivity as Sensitivity;
 ghost use Rattle.refine_formulas.specs.Solve as Solve;
-ghost use Rattle.refine_fits.specs.StepsAdding.{Sound};
 ghost use Rattle.refine_fits.specs.StepsCache.{Fresh};
 ghost use Rattle.refine_fits.specs.Candidate.{task_at, candidate};
 ghost use Rattle.refine_seed.specs.Run.{run_of};
 ghost use Rattle.refine_seed.specs.StepsEnding.{Holds, HoldsNone, ended_of, taken_of, moves_of, next_move};
 
-use super::{Ended, Nearby, Taken};
-use imageview::{Image, Sample};
-use refine_fits::{Bases, IntegerFits, Seed, laid, place, tries};
-use refine_formulas::{
-    Matrix, Move, PatchSaddle, SaddlePointConfig, Slope, between, sensitivity, solve,
-};
-use refine_patch::Columns;
+use super::{Ended, Nearby, Taken, Task};
+use imageview::Sample;
+use refine_fits::{Bases, IntegerFits, laid, place, tries};
+use refine_formulas::{Matrix, Move, PatchSaddle, Slope, between, sensitivity, solve};
 
-// From the first fit's saddle, which is not settled: at most 16 steps, each of at most four candidates, one half as far on as the one before it.
-pub fn run<S: Sample>(
-    image: &Image<S>,
-    columns: &Columns,
-    cfg: SaddlePointConfig,
-    seed: Seed,
-    first: PatchSaddle,
-) -> Ended
-    requires sound { Sound image.now cfg.radius }
-    requires radius { columns.now.radius ≡ cfg.radius }
-    requires unsettled { Solve.settled first ≡ false }
-    ensures { result ≡ ended_of (run_of (task_at image.now columns.now.numbers.now cfg seed) first) }
-{
-    let mut nearby = Nearby::new();
-    let mut fit = first;
-    let mut ox = 0.0f32;
-    let mut oy = 0.0f32;
-    let mut by = Move {
-        x: first.ux,
-        y: first.uy,
-    };
-    let mut tries = 0u32;
-    'steps: for step in 0..16usize {
-        let mut scale = 1.0f32;
-        for half in 0..4usize {
-            tries += 1;
-            let nx = ox + scale * by.x;
-            let ny = oy + scale * by.y;
-            let Some(taken) = nearby.candidate(image, columns, cfg, seed, fit, nx, ny) else {
-                scale *= 0.5;
-                continue;
-            };
-            if solve::settled(taken.fit) {
-                return Ended {
-                    tries,
-                    settled: Some(taken),
+impl<'a, S: Sample> Task<'a, S> {
+    // From the first fit's saddle, which is not settled: at most 16 steps, each of at most four candidates, one half as far on as the one before it.
+    pub fn run(&self, first: PatchSaddle) -> Ended
+        requires unsettled { Solve.settled first ≡ false }
+        ensures { result ≡ ended_of (run_of (task_at self.now.image.now self.now.columns.now.numbers.now self.now.cfg self.now.seed) first) }
+    {
+        let mut nearby = Nearby::new();
+        let mut fit = first;
+        let mut ox = 0.0f32;
+        let mut oy = 0.0f32;
+        let mut by = Move {
+            x: first.ux,
+            y: first.uy,
+        };
+        let mut tries = 0u32;
+        'steps: for step in 0..16usize {
+            let mut scale = 1.0f32;
+            for half in 0..4usize {
+                tries += 1;
+                let nx = ox + scale * by.x;
+                let ny = oy + scale * by.y;
+                let Some(taken) = nearby.candidate(self, fit, nx, ny) else {
+                    scale *= 0.5;
+                    continue;
                 };
+                if solve::settled(taken.fit) {
+                    return Ended {
+                        tries,
+                        settled: Some(taken),
+                    };
+                }
+                fit = taken.fit;
+                ox = taken.ox;
+                oy = taken.oy;
+                by = taken.next_move();
+                continue 'steps;
             }
-            fit = taken.fit;
-            ox = taken.ox;
-            oy = taken.oy;
-            by = taken.next_move();
-            continue 'steps;
+            break;
         }
-        break;
-    }
-    Ended {
-        tries,
-        settled: None,
+        Ended {
+            tries,
+            settled: None,
+        }
     }
 }
 
@@ -81,28 +71,28 @@ impl Nearby {
     }
 
     // The candidate window at (ox, oy), where it is taken in place of that of the saddle `fit`.
-    fn candidate<S: Sample>(
+    fn candidate<'a, S: Sample>(
         &mut self,
-        image: &Image<S>,
-        columns: &Columns,
-        cfg: SaddlePointConfig,
-        seed: Seed,
+        task: &Task<'a, S>,
         fit: PatchSaddle,
         ox: f32,
         oy: f32,
     ) -> Option<Taken>
-        requires sound { Sound image.now cfg.radius }
-        requires radius { columns.now.radius ≡ cfg.radius }
-        requires holds { Holds image.now columns.now.numbers.now cfg.radius self.old }
-        ensures holds { Holds image.now columns.now.numbers.now cfg.radius self.new }
-        ensures taken { result ≡ taken_of (candidate (task_at image.now columns.now.numbers.now cfg seed) fit ox oy) }
+        requires holds { Holds task.now.image.now task.now.columns.now.numbers.now task.now.columns.now.radius self.old }
+        ensures holds { Holds task.now.image.now task.now.columns.now.numbers.now task.now.columns.now.radius self.new }
+        ensures taken { result ≡ taken_of (candidate (task_at task.now.image.now task.now.columns.now.numbers.now task.now.cfg task.now.seed) fit ox oy) }
     {
+        let seed = task.seed;
         let w = place::window_at(seed.centre_x, seed.centre_y, ox, oy);
-        let to = self
-            .bases
-            .ready(&mut self.kept, image, w.base, columns, &mut self.flat)?;
+        let to = self.bases.ready(
+            &mut self.kept,
+            task.image,
+            w.base,
+            task.columns,
+            &mut self.flat,
+        )?;
         let corners = laid::corners_at(&self.flat, to);
-        let fit = tries::candidate(cfg, seed, fit, ox, oy, corners, w.tx, w.ty)?;
+        let fit = tries::candidate(task.cfg, seed, fit, ox, oy, corners, w.tx, w.ty)?;
         Some(Taken {
             ox,
             oy,

@@ -1,5 +1,6 @@
 -- `refine_seed::spots::spot_with` meets its contract: a seed that passed its tests goes on, any other goes nowhere.
-use Rattle.std.specs.Prelude.{Option, List, Bool, Float}
+use Rattle.std.specs.Prelude.{Option, List, Bool, Float, ℕ}
+use Rattle.refine_fits.specs.StepsAdding.{PatchWithin}
 use mathlib.Core.Path.{◌≡◌, sym, ◌∙◌, subst}
 use Rattle.refine_seed.specs.declared.Spot.{Spot}
 use Rattle.refine_seed.specs.Refine.{refine_lent}
@@ -27,7 +28,8 @@ returns-then-cfg-eq0 g c =
 pub spot_of_seed-requires-clause-within : goal.spot_of_seed-requires-clause-within
 spot_of_seed-requires-clause-within g c =
     let a = c.args in
-    good-within a.image.now a.cfg a.x a.y c.in_ok-seed.seed (sym (sym (placed _ _ c.in_ok-seed.ensures.value) ∙ c.place_seed.ensures ∙ alone a.image.now a.cfg a.x a.y c.requires.ready))
+    subst (λ (r : ℕ). PatchWithin a.image.now r c.in_ok-seed.seed.centre_x c.in_ok-seed.seed.centre_y) (sym c.requires.radius)
+    (good-within a.image.now a.cfg a.x a.y c.in_ok-seed.seed (sym (sym (placed _ _ c.in_ok-seed.ensures.value) ∙ c.place_seed.ensures ∙ alone a.image.now a.cfg a.x a.y c.requires.ready)))
 
 pub spot_of_seed-requires-clause-fitted : goal.spot_of_seed-requires-clause-fitted
 spot_of_seed-requires-clause-fitted g c =

@@ -1,19 +1,19 @@
--- `refine_seed::steps::run` meets its contract: each candidate is one law, and so is each way out.
+-- `refine_seed::Task::run` meets its contract: each candidate is one law, and so is each way out.
 use Rattle.std.proofs.Common.{◌≡◌, ◌+◌, ◌-◌, ◌*◌, ◌≤◌, sym, ap, arith}
 use lib.Ieee.{of_bits}
 use mathlib.Core.Path.{◌∙◌}
 use Rattle.refine_fits.specs.Candidate.{task_at}
 use Rattle.refine_seed.proofs.StepLaws.{first_step, goes_half, goes_on, ends_there, ends-unsettled}
-use Rattle.refine_seed.proofs.steps.run.Goals as goal
+use Rattle.refine_seed.proofs.Task.run.Goals as goal
 
 pub steps-init : goal.steps-init
 unfolding of_bits
 steps-init g c =
     let a = c.args in
     record {
-      holds = c.new-nearby.ensures.is a.image.now a.columns.now.numbers.now a.cfg.radius;
+      holds = c.new-nearby.ensures.is a.self.now.image.now a.self.now.columns.now.numbers.now a.self.now.columns.now.radius;
       few = omega arith;
-      is = first_step (task_at a.image.now a.columns.now.numbers.now a.cfg a.seed) a.first c.requires.unsettled;
+      is = first_step (task_at a.self.now.image.now a.self.now.columns.now.numbers.now a.self.now.cfg a.self.now.seed) a.first c.requires.unsettled;
     }
 
 pub loop-half-preserved : goal.loop-half-preserved
