@@ -8,26 +8,33 @@ use lib.IntN.{ℤ}
 use lib.Ieee.{Float}
 use Rattle.corners.specs.Corners.{most_corners}
 use Rattle.imageview.specs.Image.{Image, is_size}
+use Rattle.refusals.specs.declared.Refusal.{Refusal}
 use Rattle.refusals.specs.declared.Refusal.TheVariants.{BadImage, TooMany, NoSuchCorner}
 use Rattle.response.specs.declared.Response.{Response}
 use Rattle.response.specs.Region.{Region}
 use Rattle.response.specs.Call as R
+use Rattle.merge.specs.declared.Merge.{Merge}
+use Rattle.merge.specs.declared.Heads.{Heads}
+use Rattle.merge.specs.Call as M
 use Rattle.refine_formulas.specs.declared.SaddlePointConfig.{SaddlePointConfig}
 use Rattle.refine_list.specs.declared.Refinements.{Refinements}
 use Rattle.refine_list.specs.Refining as L
 use Rattle.peaks.specs.declared.Peaks.{Peaks}
 use Rattle.peaks.specs.Peak.{Scan}
 use Rattle.peaks.specs.Call as P
+use Rattle.board.specs.declared.Tie.{Tie}
+use Rattle.board.specs.Call as B
+use Rattle.std.specs.Prelude.{Result}
 use Rattle.graymap.specs.declared.Graymap.{Graymap}
+use Rattle.graymap.specs.declared.Unread.{Unread}
 use Rattle.graymap.specs.Call as G
-use Rattle.salvage.specs.declared.Salvage.{Salvage}
+use Rattle.salvage.specs.declared.Saved.{Saved}
 use Rattle.salvage.specs.Call as S
-use Rattle.coverage.specs.declared.Coverage.{Coverage}
 use Rattle.coverage.specs.Call as C
 use Rattle.gradient.specs.declared.Gradient.{Gradient}
 use Rattle.gradient.specs.Call as D
 use Rattle.chess_corners.specs.Fallback.{Counted}
-use Rattle.chess_corners.specs.Face.{Extent, Responded, Refining, Scanning, Reading, ReadingDeep, Salvaging, Covering, Grading, Facts, width_after, height_after, records_after, peaks_after, facts_after, kept_after, dropped_after, held_after}
+use Rattle.chess_corners.specs.Face.{Extent, Responded, Merging, Wanting, Refining, Scanning, Tying, Reading, ReadingDeep, Salvaging, Covering, Grading, Facts, width_after, height_after, count_after, heads_after, records_after, peaks_after, place_after, facts_after, kept_after, dropped_after, held_after}
 
 -- ---- what is told of an answer that is known, and what a call does whose answer is told
 pub extent : (answer known : Response) (w h n : ℕ) → answer ≡ known → n ≡ R.number_of known → Extent answer w h n (width_after w known) (height_after h known)
@@ -40,6 +47,22 @@ responded {w = w} {h = h} d t = record {
   leaves = d.leaves;
   width = t.width ∙ ap (width_after w) d.answers;
   height = t.height ∙ ap (height_after h) d.answers;
+}
+
+pub merging : {list : List Float} {radius : Float} {heads links : List ℕ} {answer : Merge} {list' : List Float} {heads' links' : List ℕ} (count : ℕ) (known : Merge) (n : ℕ)
+    → n ≡ M.number_of known → answer ≡ known → M.Done list radius heads links answer list' heads' links' → Merging list radius heads links count n list' heads' links' (count_after count known)
+merging count known n q e d = record {
+  says = q ∙ ap M.number_of (sym e ∙ d.answers);
+  leaves-list = d.leaves-list;
+  leaves-heads = d.leaves-heads;
+  leaves-links = d.leaves-links;
+  counts = ap (count_after count) (sym e ∙ d.answers);
+}
+
+pub wanting : {list : List Float} {radius : Float} {answer : Heads} (heads : ℕ) (known : Heads) (n : ℕ) → n ≡ M.heads_number_of known → answer ≡ known → answer ≡ M.heads_of list radius → Wanting list radius heads n (heads_after heads known)
+wanting heads known n q e d = record {
+  says = q ∙ ap M.heads_number_of (sym e ∙ d);
+  tells = ap (heads_after heads) (sym e ∙ d);
 }
 
 pub refining : {img : Image} {cfg : SaddlePointConfig} {corners out : List Float} {answer : Refinements} {out' : List Float} {count n count' : ℕ}
@@ -57,53 +80,19 @@ scanning count known n q e d = record {
   counts = ap (peaks_after count) (sym e ∙ d.answers);
 }
 
-pub reading : (answer known : Graymap) (old : Facts) (n : ℕ) → answer ≡ known → n ≡ G.number_of known → Reading answer old n (facts_after old known)
-reading answer known old n e q = subst (λ (a : Graymap). Reading a old n (facts_after old known)) (sym e) (record { says = q; facts = refl })
+pub tying : {rows columns : ℕ} {places : List Float} {limit : Float} {list : List Float} {answers : List ℕ} {answer : Tie} {answers' : List ℕ} (place : ℕ) (known : Tie) (n : ℕ)
+    → n ≡ B.number_of known → answer ≡ known → B.Done rows columns places limit list answers answer answers' → Tying rows columns places limit list answers place n answers' (place_after place known)
+tying place known n q e d = record {
+  says = q ∙ ap B.number_of (sym e ∙ d.says);
+  leaves = d.leaves;
+  names = ap (place_after place) (sym e ∙ d.says);
+}
 
-pub reading-of : {answer whole : Graymap} {old new : Facts} {n : ℕ} → answer ≡ whole → Reading answer old n new → Reading whole old n new
-reading-of {old = old} {new = new} {n = n} e t = subst (λ (a : Graymap). Reading a old n new) e t
+pub reading-of : {answer whole : Result Graymap Unread} {old new : Facts} {n : ℕ} → answer ≡ whole → Reading answer old n new → Reading whole old n new
+reading-of {old = old} {new = new} {n = n} e t = subst (λ (a : Result Graymap Unread). Reading a old n new) e t
 
-pub reading-deep : {file out : List ℕ} {answer : Graymap} {out' : List ℕ} {old new : Facts} {n : ℕ} → G.Done file out answer out' → Reading answer old n new → ReadingDeep file out old n out' new
+pub reading-deep : {file out : List ℕ} {answer : Result Graymap Unread} {out' : List ℕ} {old new : Facts} {n : ℕ} → G.Done file out answer out' → Reading answer old n new → ReadingDeep file out old n out' new
 reading-deep d t = record { tells = reading-of d.answers t; leaves = d.leaves }
-
-pub salvaging : {width height : ℕ} {file out faults : List ℕ} {answer : Salvage} {out' faults' : List ℕ} (kept dropped : ℕ) (known : Salvage) (n : ℕ)
-    → n ≡ S.number_of known → answer ≡ known → S.Done width height file out faults answer out' faults' → Salvaging width height file out faults kept dropped n out' faults' (kept_after kept known) (dropped_after dropped known)
-salvaging kept dropped known n q e d = record {
-  says = q ∙ ap S.number_of (sym e ∙ d.answers);
-  leaves-out = d.leaves-out;
-  leaves-faults = d.leaves-faults;
-  keeps = ap (kept_after kept) (sym e ∙ d.answers);
-  drops = ap (dropped_after dropped) (sym e ∙ d.answers);
-}
-
-pub covering : {way : C.Way} {list : List Float} {counts : List ℕ} {answer : Coverage} {list' : List Float} {counts' : List ℕ} (count : ℕ) (known : Coverage) (n : ℕ)
-    → n ≡ C.number_of known → answer ≡ known → C.Done way list counts answer list' counts' → Covering way list counts count n list' counts' (held_after count known)
-covering count known n q e d = record {
-  says = q ∙ ap C.number_of (sym e ∙ d.answers);
-  leaves-list = d.leaves-list;
-  leaves-counts = d.leaves-counts;
-  holds = ap (held_after count) (sym e ∙ d.answers);
-}
-
--- ---- a call that neither adds nor drops holds as many as before, whichever test ends it
-pub still : {way : C.Way} {list : List Float} {counts : List ℕ} {count n : ℕ} {list' : List Float} {counts' : List ℕ} {m : ℕ}
-    → count ≡ held_after count (C.answer_of way) → Covering way list counts count n list' counts' m → Covering way list counts count n list' counts' count
-still h c = record { says = c.says; leaves-list = c.leaves-list; leaves-counts = c.leaves-counts; holds = h }
-
-pub still-tested : (w h n : ℕ) (rest : C.Way) → n ≡ held_after n (C.answer_of rest) → n ≡ held_after n (C.answer_of (C.tested w h n rest))
-still-tested w h n rest e = go (is_size w h) (ltb most_corners n)
-  where
-    go : (s m : Bool) → n ≡ held_after n (C.answer_of (cond (not s) (C.refused BadImage) (cond m (C.refused TooMany) rest)))
-    go false m = refl
-    go true true = refl
-    go true false = e
-
-pub still-listed : (k n : ℕ) (rest : C.Way) → n ≡ held_after n (C.answer_of rest) → n ≡ held_after n (C.answer_of (C.in_list k n rest))
-still-listed k n rest e = go (ltb k n)
-  where
-    go : (l : Bool) → n ≡ held_after n (C.answer_of (cond l rest (C.refused NoSuchCorner)))
-    go true = e
-    go false = refl
 
 pub grading : {a : D.Asked} {grid : List Float} {answer : Gradient} {grid' : List Float} (known : Gradient) (n : ℕ) → n ≡ D.number_of known → answer ≡ known → D.Done a grid answer grid' → Grading a grid n grid'
 grading known n q e d = record {

@@ -1,12 +1,15 @@
 -- The exported face: each function returns the number of the wrapped call's answer, 0 where it is done, and writes its further answers
 -- through references only then; tying writes the place at fault with 33 and 34, reading a graymap the pixel with 24. The lent buffers are as the wrapped call leaves them.
-use Rattle.std.specs.Prelude.{◌≡◌, true, List, ℕ, ℤ, length, Float, Result, Ok, Err}
+use Rattle.std.specs.Prelude.{◌≡◌, Result, Ok, Err, true, List, ℕ, ℤ, length, Float}
 use Rattle.imageview.specs.Image.{Image}
-use Rattle.refusals.specs.declared.Refusal.{Refusal}
 use Rattle.response.specs.declared.Response.{Response}
 use Rattle.response.specs.declared.Response.TheVariants.{Written}
 use Rattle.response.specs.Region.{Region}
 use Rattle.response.specs.Call as R
+use Rattle.merge.specs.declared.Merge.{Merge}
+use Rattle.merge.specs.declared.Merge.TheVariants.{Merged}
+use Rattle.merge.specs.declared.Heads.{Heads}
+use Rattle.merge.specs.declared.Heads.TheVariants.{Wanted}
 use Rattle.merge.specs.Call as M
 use Rattle.refine_formulas.specs.declared.SaddlePointConfig.{SaddlePointConfig}
 use Rattle.refine_list.specs.declared.Refinements.{Refinements}
@@ -16,17 +19,16 @@ use Rattle.peaks.specs.declared.Peaks.{Peaks}
 use Rattle.peaks.specs.declared.Peaks.TheVariants.{Found}
 use Rattle.peaks.specs.Peak.{Scan}
 use Rattle.peaks.specs.Call as P
-use Rattle.board.specs.declared.Untied.{Untied}
-use Rattle.board.specs.declared.Untied.TheVariants.{NoCorner, UsedTwice}
+use Rattle.board.specs.declared.Tie.{Tie}
+use Rattle.board.specs.declared.Tie.TheVariants.{Tied, NoCorner, UsedTwice}
 use Rattle.board.specs.Call as B
 use Rattle.graymap.specs.declared.Graymap.{Graymap}
-use Rattle.graymap.specs.declared.Graymap.TheVariants.{Read, Above}
+use Rattle.graymap.specs.declared.Unread.{Unread}
+use Rattle.graymap.specs.declared.Unread.TheVariants.{Above}
 use Rattle.graymap.specs.Call as G
-use Rattle.salvage.specs.declared.Salvage.{Salvage}
-use Rattle.salvage.specs.declared.Salvage.TheVariants.{Saved}
+use Rattle.refusals.specs.declared.Refusal.{Refusal}
+use Rattle.salvage.specs.declared.Saved.{Saved}
 use Rattle.salvage.specs.Call as S
-use Rattle.coverage.specs.declared.Coverage.{Coverage}
-use Rattle.coverage.specs.declared.Coverage.TheVariants.{Counted}
 use Rattle.coverage.specs.Call as C
 use Rattle.gradient.specs.Call as D
 
@@ -52,9 +54,9 @@ pub record Responded (img : Image) (ring : List ℤ) (radius : ℕ) (r : Region)
   pub height : h' ≡ height_after h (R.answer_of (R.way_of img ring radius r (length out)))
 
 -- ---- the merge: the count of kept corners
-abbrev pub count_after : ℕ → Result ℕ Refusal → ℕ
-count_after old (Ok n) = n
-count_after old (Err r) = old
+abbrev pub count_after : ℕ → Merge → ℕ
+count_after old (Merged n) = n
+count_after old (Merge.Refused r) = old
 
 pub record Merging (list : List Float) (radius : Float) (heads links : List ℕ) (count : ℕ) (number : ℕ) (list' : List Float) (heads' links' : List ℕ) (count' : ℕ) : Type 0 where
   pub says : number ≡ M.number_of (M.answer_of list (M.way_of list radius (length heads) (length links)))
@@ -64,12 +66,12 @@ pub record Merging (list : List Float) (radius : Float) (heads links : List ℕ)
   pub counts : count' ≡ count_after count (M.answer_of list (M.way_of list radius (length heads) (length links)))
 
 -- ---- the heads that a merge wants
-abbrev pub heads_after : ℕ → Result ℕ Refusal → ℕ
-heads_after old (Ok n) = n
-heads_after old (Err r) = old
+abbrev pub heads_after : ℕ → Heads → ℕ
+heads_after old (Wanted n) = n
+heads_after old (Heads.Refused r) = old
 
 pub record Wanting (list : List Float) (radius : Float) (heads : ℕ) (number : ℕ) (heads' : ℕ) : Type 0 where
-  pub says : number ≡ M.number_of (M.heads_of list radius)
+  pub says : number ≡ M.heads_number_of (M.heads_of list radius)
   pub tells : heads' ≡ heads_after heads (M.heads_of list radius)
 
 -- ---- refining a list: the count of records written
@@ -93,11 +95,11 @@ pub record Scanning (s : Scan) (out : List Float) (count : ℕ) (number : ℕ) (
   pub counts : count' ≡ peaks_after count (P.answer_of (P.way_of s (length out)))
 
 -- ---- tying corners to places: the place at fault
-abbrev pub place_after : ℕ → Result Unit Untied → ℕ
-place_after old (Ok done) = old
-place_after old (Err (NoCorner k)) = k
-place_after old (Err (UsedTwice k)) = k
-place_after old (Err (Untied.Refused r)) = old
+abbrev pub place_after : ℕ → Tie → ℕ
+place_after old Tied = old
+place_after old (NoCorner k) = k
+place_after old (UsedTwice k) = k
+place_after old (Tie.Refused r) = old
 
 pub record Tying (rows columns : ℕ) (places : List Float) (limit : Float) (list : List Float) (answers : List ℕ) (place : ℕ) (number : ℕ) (answers' : List ℕ) (place' : ℕ) : Type 0 where
   pub says : number ≡ B.number_of (B.answer_of (B.way_of rows columns places limit list (length answers)))
@@ -112,12 +114,12 @@ pub record Facts : Type 0 where
   pub start : ℕ
   pub pixel : ℕ
 
-abbrev pub facts_after : Facts → Graymap → Facts
-facts_after old (Read w h m start) = record { width = w; height = h; maximum = m; start = start; pixel = old.pixel }
-facts_after old (Above k) = record { width = old.width; height = old.height; maximum = old.maximum; start = old.start; pixel = k }
-facts_after old (Graymap.Refused r) = old
+abbrev pub facts_after : Facts → Result Graymap Unread → Facts
+facts_after old (Ok g) = record { width = g.width; height = g.height; maximum = g.maximum; start = g.start; pixel = old.pixel }
+facts_after old (Err (Above k)) = record { width = old.width; height = old.height; maximum = old.maximum; start = old.start; pixel = k }
+facts_after old (Err (Unread.Refused r)) = old
 
-pub record Reading (answer : Graymap) (old : Facts) (number : ℕ) (new : Facts) : Type 0 where
+pub record Reading (answer : Result Graymap Unread) (old : Facts) (number : ℕ) (new : Facts) : Type 0 where
   pub says : number ≡ G.number_of answer
   pub facts : new ≡ facts_after old answer
 
@@ -127,13 +129,13 @@ pub record ReadingDeep (file out : List ℕ) (old : Facts) (number : ℕ) (out' 
   pub leaves : out' ≡ G.out_after file out (G.room_for (length out) (G.read_of true file))
 
 -- ---- salvaging a corner file: how many records were kept and how many dropped
-abbrev pub kept_after : ℕ → Salvage → ℕ
-kept_after old (Saved k d) = k
-kept_after old (Salvage.Refused r) = old
+abbrev pub kept_after : ℕ → Result Saved Refusal → ℕ
+kept_after old (Ok s) = s.kept
+kept_after old (Err r) = old
 
-abbrev pub dropped_after : ℕ → Salvage → ℕ
-dropped_after old (Saved k d) = d
-dropped_after old (Salvage.Refused r) = old
+abbrev pub dropped_after : ℕ → Result Saved Refusal → ℕ
+dropped_after old (Ok s) = s.dropped
+dropped_after old (Err r) = old
 
 pub record Salvaging (width height : ℕ) (file out faults : List ℕ) (kept dropped : ℕ) (number : ℕ) (out' faults' : List ℕ) (kept' dropped' : ℕ) : Type 0 where
   pub says : number ≡ S.number_of (S.answer_of (S.way_of width height file (length out) (length faults)))
@@ -143,9 +145,9 @@ pub record Salvaging (width height : ℕ) (file out faults : List ℕ) (kept dro
   pub drops : dropped' ≡ dropped_after dropped (S.answer_of (S.way_of width height file (length out) (length faults)))
 
 -- ---- coverage: the count of the list, which adding and dropping change
-abbrev pub held_after : ℕ → Coverage → ℕ
-held_after old (Counted n) = n
-held_after old (Coverage.Refused r) = old
+abbrev pub held_after : ℕ → Result ℕ Refusal → ℕ
+held_after old (Ok n) = n
+held_after old (Err r) = old
 
 pub record Covering (way : C.Way) (list : List Float) (counts : List ℕ) (count : ℕ) (number : ℕ) (list' : List Float) (counts' : List ℕ) (count' : ℕ) : Type 0 where
   pub says : number ≡ C.number_of (C.answer_of way)

@@ -4,9 +4,7 @@ ghost use Rattle.gradient.specs.Call.{asked_of};
 ghost use Rattle.chess_corners.specs.Face.{Salvaging, Covering, Grading};
 
 use corners::Corner;
-use coverage::Coverage;
 use gradient::{Gradient, Scale};
-use salvage::Salvage;
 
 // The records of a corner file that can be used, as they are, and the fault of each other one; 0, 10, 16 or 15.
 #[unsafe(no_mangle)]
@@ -23,15 +21,12 @@ pub extern "C" fn chess_corners_salvage(
 {
     let answer = salvage::salvage_corners(file, width, height, out, faults);
     match answer {
-        Salvage::Saved {
-            kept: saved,
-            dropped: lost,
-        } => {
-            *kept = saved;
-            *dropped = lost;
+        Ok(saved) => {
+            *kept = saved.kept;
+            *dropped = saved.dropped;
             0
         }
-        Salvage::Refused(refusal) => u32::from(refusal),
+        Err(refusal) => u32::from(refusal),
     }
 }
 
@@ -48,8 +43,8 @@ pub extern "C" fn chess_corners_coverage(
 {
     let answer = coverage::coverage_afresh(width, height, list, count, counts);
     match answer {
-        Coverage::Counted(_) => 0,
-        Coverage::Refused(refusal) => u32::from(refusal),
+        Ok(_) => 0,
+        Err(refusal) => u32::from(refusal),
     }
 }
 
@@ -70,11 +65,11 @@ pub extern "C" fn chess_corners_coverage_add(
     let corner = Corner { x, y, strength };
     let answer = coverage::add_corner(width, height, list, *count, counts, corner);
     match answer {
-        Coverage::Counted(longer) => {
+        Ok(longer) => {
             *count = longer;
             0
         }
-        Coverage::Refused(refusal) => u32::from(refusal),
+        Err(refusal) => u32::from(refusal),
     }
 }
 
@@ -96,8 +91,8 @@ pub extern "C" fn chess_corners_coverage_replace(
     let other = Corner { x, y, strength };
     let answer = coverage::replace_corner(width, height, list, count, counts, number, other);
     match answer {
-        Coverage::Counted(_) => 0,
-        Coverage::Refused(refusal) => u32::from(refusal),
+        Ok(_) => 0,
+        Err(refusal) => u32::from(refusal),
     }
 }
 
@@ -115,11 +110,11 @@ pub extern "C" fn chess_corners_coverage_drop(
 {
     let answer = coverage::drop_corner(width, height, list, *count, counts, number);
     match answer {
-        Coverage::Counted(left) => {
+        Ok(left) => {
             *count = left;
             0
         }
-        Coverage::Refused(refusal) => u32::from(refusal),
+        Err(refusal) => u32::from(refusal),
     }
 }
 

@@ -2,7 +2,7 @@
 ghost use Rattle.chess_corners.specs.Face.{Reading, Extent};
 ghost use Rattle.chess_corners.specs.Fallback.{Counted};
 
-use graymap::Graymap;
+use graymap::{Graymap, Unread};
 use refine_list::Refinements;
 use response::Response;
 
@@ -35,7 +35,7 @@ pub fn tell_count(answer: Refinements, count: &mut usize) -> u32
 
 // What was read of a graymap, or the pixel above its maximum.
 pub fn tell_graymap(
-    answer: Graymap,
+    answer: Result<Graymap, Unread>,
     width: &mut usize,
     height: &mut usize,
     maximum: &mut usize,
@@ -45,22 +45,17 @@ pub fn tell_graymap(
     ensures { Reading answer (record { width = width.old; height = height.old; maximum = maximum.old; start = start.old; pixel = pixel.old }) result (record { width = width.new; height = height.new; maximum = maximum.new; start = start.new; pixel = pixel.new }) }
 {
     match answer {
-        Graymap::Read {
-            width: w,
-            height: h,
-            maximum: m,
-            start: at,
-        } => {
-            *width = w;
-            *height = h;
-            *maximum = m;
-            *start = at;
+        Ok(graymap) => {
+            *width = graymap.width;
+            *height = graymap.height;
+            *maximum = graymap.maximum;
+            *start = graymap.start;
             0
         }
-        Graymap::Above(at) => {
+        Err(Unread::Above(at)) => {
             *pixel = at;
             24
         }
-        Graymap::Refused(refusal) => u32::from(refusal),
+        Err(Unread::Refused(refusal)) => u32::from(refusal),
     }
 }

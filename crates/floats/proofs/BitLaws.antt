@@ -1,10 +1,9 @@
 -- Bit patterns: the value behind a pattern with no sign as a fraction, the sign, and which patterns are a NaN's.
-use Rattle.std.proofs.Common.{◌≡◌, ℕ, zero, suc, ◌+◌, ◌*◌, ◌/◌, ◌%◌, ◌^◌, ◌<◌, ◌≤◌, Bool, true, false, cond, not, T, eqb, ltb, leb, sym, refl, ap, ◌∙◌, subst, true≢false, lt_of_lt_of_le, le-add_right, mul_comm, mul-one, lit≤, le→leb, eqb→eq, lt→ltb, nltb→le}
+use Rattle.std.proofs.Common.{◌≡◌, ℕ, zero, suc, ◌+◌, ◌*◌, ◌/◌, ◌%◌, ◌^◌, ◌<◌, ◌≤◌, Bool, false, cond, not, T, eqb, leb, sym, refl, ap, ◌∙◌, subst, true≢false, lt_of_lt_of_le, le-add_right, mul_comm, mul-one, lit≤, le→leb, eqb→eq, nltb→le}
 use lib.Dec.{not_T}
 use lib.Arith.{digits_div, digits_mod, digits_lt, lt→nleb, le→nltb}
 use lib.Ieee.{Float, nan, inf, fin, Format, binary32, binary64, prec, low, hid, ones, top, odd, of_bits, to_bits, of_fields, neg, ne, is_nan, nan_bits, fits}
 use lib.Ieee.Bits.{is_false, is_true, cond_no, of_bits-to_bits, nan_bits_is, nan_bits_above}
-use lib.Ieee.Compare.{differs_from_itself}
 use lib.Ieee.Exact.{HasValue, odd_sign}
 use Rattle.floats.proofs.Fractions.{neg-odd, neg-cond}
 
@@ -78,20 +77,3 @@ sign-bits f b h =
     ∙ ap (λ (s : Bool). of_fields f s (b % top f / hid f) (b % hid f)) (sym (is_true (leb (top f) (top f + b)) (le→leb (top f) (top f + b) (le-add_right (top f) b))))
     ∙ ap (λ (z : ℕ). of_fields f (leb (top f) (top f + b)) (z / hid f) (b % hid f)) (sym (native.Mathlib.Nat.add-mod_left (top f) b))
     ∙ ap (λ (z : ℕ). of_fields f (leb (top f) (top f + b)) ((top f + b) % top f / hid f) z) (sym (ap (λ (z : ℕ). z % hid f) (native.Mathlib.Nat.add_comm (top f) b) ∙ native.Mathlib.Nat.add-mul-mod_self_left b (hid f) (suc (ones f))))
-
--- a pattern above infinity's, its sign left out, is a NaN's
-is-nan : (x : Float) → T (is_nan x) → nan ≡ x
-unfolding is_nan
-is-nan nan t = refl
-is-nan (inf s) t = absurd t
-is-nan (fin s m e) t = absurd t
-
-pub nan-bits : (f : Format) (n : ℕ) → ones f * hid f < n % top f → nan ≡ of_bits f n
-nan-bits f n h = is-nan (of_bits f n) (subst T (nan_bits-above' f n) (lt→ltb (ones f * hid f) (n % top f) h))
-  where
-    nan_bits-above' : (f : Format) (n : ℕ) → ltb (ones f * hid f) (n % top f) ≡ is_nan (of_bits f n)
-    nan_bits-above' f n = sym (nan_bits_above f n) ∙ nan_bits_is f n
-
--- and a value that differs from itself is one
-pub not-number : (f : Format) (x : Float) → ne x x ≡ true → to_bits f nan ≡ to_bits f x
-not-number f x h = ap (to_bits f) (sym (differs_from_itself x (subst T (sym h) tt)))

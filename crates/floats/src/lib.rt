@@ -140,42 +140,30 @@ pub fn sqrt_f32(x: f32) -> f32
     0.0 / 0.0
 }
 
-// The bit pattern of x. A NaN has none of its own: it is written as the quiet one with no sign and no payload.
+// The bit pattern of x. A NaN has none of its own: it is written as the quiet one with no sign and no payload. The four are std's, by the names that README has.
 pub fn f32_to_bits(x: f32) -> u32
     ensures { result ≡ Ieee.to_bits binary32 x }
 {
-    if x != x {
-        return 0x7fc0_0000;
-    }
-    f32::to_bits(x)
+    std::num::f32_to_bits_with_nan(x)
 }
 
 pub fn f64_to_bits(x: f64) -> u64
     ensures { result ≡ Ieee.to_bits binary64 x }
 {
-    if x != x {
-        return 0x7ff8_0000_0000_0000;
-    }
-    f64::to_bits(x)
+    std::num::f64_to_bits_with_nan(x)
 }
 
 // The value of a bit pattern, every NaN's too.
 pub fn f32_from_bits(bits: u32) -> f32
     ensures { result ≡ Ieee.of_bits binary32 bits }
 {
-    if 0x7f80_0000 < bits % 0x8000_0000 {
-        return 0.0 / 0.0;
-    }
-    f32::from_bits(bits)
+    std::num::f32_from_bits_with_nan(bits)
 }
 
 pub fn f64_from_bits(bits: u64) -> f64
     ensures { result ≡ Ieee.of_bits binary64 bits }
 {
-    if 0x7ff0_0000_0000_0000 < bits % 0x8000_0000_0000_0000 {
-        return 0.0 / 0.0;
-    }
-    f64::from_bits(bits)
+    std::num::f64_from_bits_with_nan(bits)
 }
 
 // How |a| and |b| compare, as `a.abs().total_cmp(&b.abs())` has it.

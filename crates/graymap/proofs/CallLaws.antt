@@ -4,21 +4,19 @@ use mathlib.Core.Logic.{⊎_elim}
 use mathlib.Core.Bool.{Bool, true, false, not, ◌&&◌, cond, and-false, false≢true}
 use mathlib.Core.List.{List}
 use Prim.Native.Nat.{ℕ, ◌-◌, ◌*◌, ◌≤◌, ◌<◌}
-use native.Mathlib.Nat.{le_trans, mul-le-mul_left, mul-le-mul_right}
 use native.Mathlib.Omega.{arith}
-use lib.Dec.{leb, ltb, eqb}
+use lib.Dec.{leb, ltb}
 use lib.ListN.{length, take, drop, length-drop}
 use lib.Seq.{take_all}
-use borrow.Author.Tests.{leb-true, lt-leb, lt-ltb, le-ltb, eq-eqb, ne_eqb}
-use Rattle.shapes.specs.Lists.{tabulated}
-use Rattle.shapes.proofs.TestLaws.{first_of, second-of}
+use borrow.Author.Tests.{leb-true, lt-leb, le-ltb}
+use Rattle.shapes.proofs.TestLaws.{second-of}
 use Rattle.imageview.specs.Image.{most, is_size}
-use Rattle.refusals.specs.declared.Refusal.TheVariants.{NoMagic, BadHeader, BadGraymapSize, TooShort, LeftOver, BadBuffer}
+use Rattle.refusals.specs.declared.Refusal.TheVariants.{NoMagic, BadHeader, BadGraymapSize, TooShort, LeftOver}
 use Rattle.graymap.specs.Grammar.{magic_in, no_header, header, header_in}
-use Rattle.graymap.specs.Call.{Reading, read, above_at, refused, first_above, is_maximum, bytes_of, sample_in, pixels_of, sized_of, magic_of, read_of, room_for, out_after, Done}
+use Rattle.graymap.specs.Call.{Reading, read, above_at, refused, first_above, is_maximum, bytes_of, sample_in, pixels_of, sized_of, magic_of, read_of}
 use Rattle.graymap.specs.Steps.{has_magic, cut, cut_at}
 use Rattle.graymap.proofs.CutLaws.{cut_below, cut-above, sides}
-use Rattle.graymap.proofs.HeaderLaws.{magic-is, magic-none, place_of, Whole}
+use Rattle.graymap.proofs.HeaderLaws.{magic-is, magic-none, Whole}
 
 -- ---- the tests past the header
 module _ (deep : Bool) (count w h m : ℕ) (l : List ℕ) where
@@ -30,9 +28,6 @@ module _ (deep : Bool) (count w h m : ℕ) (l : List ℕ) where
 
   bad-sizes : is_size w h ≡ false → sized_of deep count (header w h m l) ≡ cond (not (is_maximum deep m)) (refused BadHeader) (refused BadGraymapSize)
   bad-sizes e = ap (λ (b : Bool). cond (not (is_maximum deep m)) (refused BadHeader) (cond (not b) (refused BadGraymapSize) (pixels_of deep count w h m l))) e
-
-  pub bad-size : is_maximum deep m ≡ true → is_size w h ≡ false → sized_of deep count (header w h m l) ≡ refused BadGraymapSize
-  bad-size t e = bad-sizes e ∙ ap (λ (b : Bool). cond (not b) (refused BadHeader) (refused BadGraymapSize)) t
 
   pub good-size : is_maximum deep m ≡ true → is_size w h ≡ true → sized_of deep count (header w h m l) ≡ pixels_of deep count w h m l
   good-size t e = good-maximum t ∙ ap (λ (b : Bool). cond (not b) (refused BadGraymapSize) (pixels_of deep count w h m l)) e
@@ -109,21 +104,9 @@ pub below-cut : (deep : Bool) (m : ℕ) → is_maximum deep m ≡ true → m < c
 below-cut deep m e = ⊎_elim (λ l. l) (λ g. absurd (false≢true (sym (much deep m g) ∙ e))) (sides m cut_at)
 
 -- ---- the pixels
-pub area-most : (w h : ℕ) → is_size w h ≡ true → w * h ≤ most * most
-area-most w h e =
-    let a = leb 1 w in
-    let b = leb w most in
-    let c = leb 1 h in
-    let d = leb h most in
-    le_trans (mul-le-mul_right h (leb-true w most (second-of a b (first_of (a && b) c (first_of (a && b && c) d e)))))
-    (mul-le-mul_left most (leb-true h most (second-of (a && b && c) d e)))
-
 -- a part that runs to the end is all that is left, and where it begins
 pub whole_part : (file : List ℕ) (start : ℕ) → take (length file - start) (drop start file) ≡ drop start file
 whole_part file start = take_all (length file - start) (drop start file) (let n = length-drop start file in omega arith)
-
-pub part-place : (file : List ℕ) (start : ℕ) → start ≤ length file → start ≡ length file - length (take (length file - start) (drop start file))
-part-place file start h = place_of file start h ∙ ap (λ (l : List ℕ). length file - length l) (sym (whole_part file start))
 
 module _ (deep : Bool) (count w h m : ℕ) (left : List ℕ) (size : ℕ) (sizes : size ≡ bytes_of deep (w * h)) where
   abbrev first : ℕ
@@ -136,9 +119,6 @@ module _ (deep : Bool) (count w h m : ℕ) (left : List ℕ) (size : ℕ) (sizes
   over_by : (b : Bool) → ltb size (length left) ≡ b → b ≡ ltb (bytes_of deep (w * h)) (length left)
   over_by b o = sym o ∙ ap (λ (k : ℕ). ltb k (length left)) sizes
 
-  pub too_short : length left < size → refused TooShort ≡ pixels_of deep count w h m left
-  too_short g = ap (λ (b : Bool). judge b (ltb first (w * h)) (ltb (bytes_of deep (w * h)) (length left))) (sym (lt-ltb _ _ (subst (λ (k : ℕ). length left < k) sizes g)))
-
   module _ (long : size ≤ length left) where
     past-short : judge false (ltb first (w * h)) (ltb (bytes_of deep (w * h)) (length left)) ≡ pixels_of deep count w h m left
     past-short = ap (λ (b : Bool). judge b (ltb first (w * h)) (ltb (bytes_of deep (w * h)) (length left))) (sym (le-ltb _ _ (subst (λ (k : ℕ). k ≤ length left) sizes long)))
@@ -147,36 +127,6 @@ module _ (deep : Bool) (count w h m : ℕ) (left : List ℕ) (size : ℕ) (sizes
       above-by : (b : Bool) → ltb k (w * h) ≡ b → judge false b (ltb (bytes_of deep (w * h)) (length left)) ≡ pixels_of deep count w h m left
       above-by b g = ap (λ (b : Bool). judge false b (ltb (bytes_of deep (w * h)) (length left))) (sym g ∙ ap (λ (j : ℕ). ltb j (w * h)) e) ∙ past-short
 
-      pub one-above : ltb k (w * h) ≡ true → above_at k ≡ pixels_of deep count w h m left
-      one-above g = ap above_at e ∙ above-by true g
-
       module _ (g : ltb k (w * h) ≡ false) where
-        pub left_over : ltb size (length left) ≡ true → refused LeftOver ≡ pixels_of deep count w h m left
-        left_over o = ap (λ (b : Bool). judge false false b) (over_by true o) ∙ above-by false g
-
         pub all_read : (start : ℕ) → start ≡ count - length left → ltb size (length left) ≡ false → read w h m start ≡ pixels_of deep count w h m left
         all_read start p o = ap (read w h m) p ∙ ap (λ (b : Bool). judge false false b) (over_by false o) ∙ above-by false g
-
--- ---- the second call: what was read, the room for it, and what is left in the buffer
-module _ (file out : List ℕ) where
-  pub done : (x : Reading) → read_of true file ≡ x → (r : Reading) (out' : List ℕ) → r ≡ room_for (length out) x → out' ≡ out_after file out (room_for (length out) x) → Done file out r out'
-  done x e r out' p q =
-      record { answers = p ∙ ap (room_for (length out)) (sym e); leaves = q ∙ ap (λ (y : Reading). out_after file out (room_for (length out) y)) (sym e) }
-
-  module _ (w h m start : ℕ) (e : read_of true file ≡ read w h m start) where
-    abbrev room : Bool → Reading
-    room b = cond b (read w h m start) (refused BadBuffer)
-
-    pub bad-buffer : (length out ≡ w * h → ⊥) → Done file out (refused BadBuffer) out
-    bad-buffer n =
-        let t : false ≡ eqb (length out) (w * h) = sym (ne_eqb (length out) (w * h) n) in
-        done (read w h m start) e (refused BadBuffer) out (ap room t) (ap (λ (b : Bool). out_after file out (room b)) t)
-
-    pub written : (left out' : List ℕ) → length out ≡ w * h → left ≡ drop start file → out' ≡ tabulated (length out) (sample_in true left) → Done file out (read w h m start) out'
-    written left out' n p q =
-        let t : true ≡ eqb (length out) (w * h) = sym (eq-eqb (length out) (w * h) n) in
-        done (read w h m start) e (read w h m start) out' (ap room t)
-        (q
-        ∙ ap (λ (k : ℕ). tabulated k (sample_in true left)) n
-        ∙ ap (λ (l : List ℕ). tabulated (w * h) (sample_in true l)) p
-        ∙ ap (λ (b : Bool). out_after file out (room b)) t)

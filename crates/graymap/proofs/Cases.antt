@@ -5,7 +5,7 @@ use mathlib.Core.List.{[], ◌∷◌}
 use Rattle.shapes.specs.Lists.{tabulated}
 use Rattle.refusals.specs.declared.Refusal.TheVariants.{NoMagic, BadHeader, BadGraymapSize, TooShort, LeftOver, BadBuffer}
 use Rattle.graymap.specs.Grammar.{gap, digits, number_in, header_in}
-use Rattle.graymap.specs.Call.{Reading, read, above_at, refused, first_above, read_of, room_for, out_after}
+use Rattle.graymap.specs.Call.{read, above_at, refused, first_above, read_of, room_for, out_after}
 
 -- P5 2 1 255 and a line feed; the first pixel is `#`
 accepted : read_of false (80 ∷ 53 ∷ 32 ∷ 50 ∷ 32 ∷ 49 ∷ 32 ∷ 50 ∷ 53 ∷ 53 ∷ 10 ∷ 35 ∷ 7 ∷ []) ≡ read 2 1 255 11

@@ -3,7 +3,7 @@ use Rattle.std.specs.Prelude.{◌≡◌, Bool, true, false, not, ◌&&◌, ◌||
 use Rattle.shapes.specs.Turns.{turns}
 use Rattle.graymap.specs.declared.header.Found.{Found}
 use Rattle.graymap.specs.declared.header.Heading.{Heading}
-use Rattle.graymap.specs.Grammar.{is_space, ends_line, gap, Number, missing, number, number_in, Magic, no_magic, magic, magic_in, Header, no_header, header}
+use Rattle.graymap.specs.Grammar.{is_space, ends_line, gap, Number, missing, number, Magic, no_magic, magic, magic_in, Header, no_header, header}
 
 -- ---- the magic
 abbrev pub is_magic : Magic → Bool

@@ -97,14 +97,12 @@ fn digits_from(file: &[u8], from: usize) -> Option<Found>
     ensures { result ≡ found_of (length file.now) (digits 0 false (drop from file.now)) }
 {
     let mut value = 0;
-    let mut some = false;
     for i in from..file.len() {
         let b = file[i];
         if !bytes::is_digit(b) {
-            return ended(value, some, b, i + 1);
+            return ended(value, from < i, b, i + 1);
         }
         value = with_digit(value, b);
-        some = true;
     }
     None
 }

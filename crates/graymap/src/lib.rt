@@ -78,7 +78,7 @@ fn part_from(file: &[u8], start: usize) -> &[u8]
     &file[0..0]
 }
 
-// Either call's reading: `deep` says that a sample takes two bytes.
+// Either call's reading: `deep` says that a sample takes two bytes. A bool and no type parameter: the definitions ask it too (`read_of deep`).
 fn read_as(file: &[u8], deep: bool) -> Result<Graymap, Unread>
     ensures { result ≡ read_of deep file.now }
 {

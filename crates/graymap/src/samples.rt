@@ -59,6 +59,7 @@ fn first_from(samples: &[u8], maximum: u8, from: usize, n: usize) -> usize
 }
 
 // The number of the first of n samples of two bytes above the maximum, or n.
+// Beside `first_from`, which begins anywhere: with the sample as a closure both loops would be one line shorter and each call a line longer.
 #[tactic(auto, using(crate::proofs::SampleLaws::above_none, crate::proofs::SampleLaws::above_passed, crate::proofs::SampleLaws::above_found))]
 pub fn first_above_deep(left: &[u8], maximum: u16, n: usize) -> usize
     requires { 2 * n ≤ length left.now }

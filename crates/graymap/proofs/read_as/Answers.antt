@@ -1,9 +1,7 @@
 -- `graymap::read_as` meets its contract: the magic, the header, and what is judged with its numbers cut.
-use mathlib.Core.Path.{◌≡◌, sym, ◌∙◌}
-use mathlib.Core.Bool.{true}
+use mathlib.Core.Path.{sym, ◌∙◌}
 use lib.ListN.{length, drop}
 use Rattle.graymap.specs.Grammar.{header_in}
-use Rattle.graymap.specs.Steps.{has_magic}
 use Rattle.graymap.proofs.HeaderLaws.{none-given, given}
 use Rattle.graymap.proofs.CallLaws.{no-magic, no-heading, heading}
 use Rattle.graymap.proofs.read_as.Goals as goal
