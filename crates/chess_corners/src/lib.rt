@@ -104,7 +104,7 @@ pub extern "C" fn chess_corners_peaks(
             *count = found;
             0
         }
-        Peaks::Refused(refusal) => refusals::number(refusal),
+        Peaks::Refused(refusal) => u32::from(refusal),
     }
 }
 

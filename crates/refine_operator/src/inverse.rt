@@ -8,7 +8,7 @@ ghost use Rattle.refine_operator.specs.Inverse.{exchanged, swapped, scaled, clea
 ghost use Rattle.refine_operator.specs.Steps.{Better, Pivot, reduced_by, reduced_at, Continued};
 
 use crate::{basis, normal};
-use floats::Order;
+use std::cmp::Ordering;
 
 // The inverse of a radius' normal matrix, right of what is then the identity; false where there is none.
 pub fn inverse_of(radius: usize, m: &mut [f64; 72]) -> bool
@@ -34,9 +34,9 @@ fn better_of(m: &[f64; 72], col: usize, best: usize, p: usize) -> usize
     let a = entry(m, 12 * best + col);
     let b = entry(m, 12 * p + col);
     match floats::total_cmp_magnitudes(a, b) {
-        Order::Less => p,
-        Order::Equal => p,
-        Order::Greater => best,
+        Ordering::Less => p,
+        Ordering::Equal => p,
+        Ordering::Greater => best,
     }
 }
 
