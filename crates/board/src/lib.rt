@@ -1,5 +1,5 @@
 // Each predicted place of a board is tied to the nearest corner of a list: accepted only if every place has a corner within the limit and no corner serves two
-// places. So a list that lacks a corner is refused with the place that lacks it.
+// places. So a list that lacks a corner is refused with the place that lacks it. Places and corners are flat lists, since C lends them so (chess_corners_tie).
 #![tactic(auto)]
 
 mod near;

@@ -1,5 +1,5 @@
 // The nearest corner of a list to a place.
-ghost use Rattle.std.specs.Prelude.{◌≡◌, ◌+◌, ◌*◌, ◌/◌, ◌≤◌, ◌<◌, length};
+ghost use Rattle.std.specs.Prelude.{◌≡◌, ◌+◌, ◌/◌, ◌≤◌, ◌<◌, length};
 ghost use Rattle.std.specs.Float.Ieee.{lt};
 ghost use Rattle.shapes.specs.Tests.{some};
 ghost use Rattle.board.specs.Nearest.{distance_to, nearer_of, nearest_of};

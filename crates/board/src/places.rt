@@ -1,5 +1,5 @@
 // The places of a board: what can be used, and each tied to its corner.
-ghost use Rattle.std.specs.Prelude.{◌≡◌, [], length, take, ◌≤◌, IfErr, OnOk};
+ghost use Rattle.std.specs.Prelude.{◌≡◌, [], length, take, IfErr, OnOk};
 ghost use Rattle.board.specs.Call.{is_board, is_limit, all_finite, is_among, way_of, refused, tied, tie_from, answer_of, answers_after};
 ghost use Rattle.board.specs.Steps.{Fitting};
 

@@ -40,17 +40,17 @@ module _ (g : Cells) (heads notes : List ℕ) (k : ℕ) (noted : Noted g notes k
   nothing-more most test none =
       record { few = omega arith; noted = noted; finds = λ list n links h d best. none list n links h d (lowest_noted g list n d notes k best) }
 
-  pub note_no_column : (column row : ℕ) → column ≡ 0 → NotedMore 1 g heads (λ list d. in_one_cell g list d column row) notes k notes k
-  note_no_column column row e = nothing-more 1 (λ list d. in_one_cell g list d column row) (λ list n links h d best. no-column h d best column row e)
+  pub note-no-column : (column row : ℕ) → column ≡ 0 → NotedMore 1 g heads (λ list d. in_one_cell g list d column row) notes k notes k
+  note-no-column column row e = nothing-more 1 (λ list d. in_one_cell g list d column row) (λ list n links h d best. no-column h d best column row e)
 
-  pub note_past_column : (column row : ℕ) → g.across < column → NotedMore 1 g heads (λ list d. in_one_cell g list d column row) notes k notes k
-  note_past_column column row e = nothing-more 1 (λ list d. in_one_cell g list d column row) (λ list n links h d best. past-column h d best column row e)
+  pub note-past-column : (column row : ℕ) → g.across < column → NotedMore 1 g heads (λ list d. in_one_cell g list d column row) notes k notes k
+  note-past-column column row e = nothing-more 1 (λ list d. in_one_cell g list d column row) (λ list n links h d best. past-column h d best column row e)
 
-  pub note_no_row : (column row : ℕ) → row ≡ 0 → NotedMore 3 g heads (λ list d. in_three_cells g list d column row) notes k notes k
-  note_no_row column row e = nothing-more 3 (λ list d. in_three_cells g list d column row) (λ list n links h d best. no_row h d best column row e)
+  pub note-no-row : (column row : ℕ) → row ≡ 0 → NotedMore 3 g heads (λ list d. in_three_cells g list d column row) notes k notes k
+  note-no-row column row e = nothing-more 3 (λ list d. in_three_cells g list d column row) (λ list n links h d best. no_row h d best column row e)
 
-  pub note_past_row : (column row : ℕ) → g.down < row → NotedMore 3 g heads (λ list d. in_three_cells g list d column row) notes k notes k
-  note_past_row column row e = nothing-more 3 (λ list d. in_three_cells g list d column row) (λ list n links h d best. past_row h d best column row e)
+  pub note-past-row : (column row : ℕ) → g.down < row → NotedMore 3 g heads (λ list d. in_three_cells g list d column row) notes k notes k
+  note-past-row column row e = nothing-more 3 (λ list d. in_three_cells g list d column row) (λ list n links h d best. past_row h d best column row e)
 
   -- a cell of the grid
   module _ (column row : ℕ) (low : 0 < column) (high : column ≤ g.across) (inside : row < g.down) (own : k < length notes) where
@@ -60,10 +60,10 @@ module _ (g : Cells) (heads notes : List ℕ) (k : ℕ) (noted : Noted g notes k
     before : (list : List Float) (n : ℕ) (d : Disc) (best : ℕ) → lowest_noted g list n d (set notes k (row * g.across + (column - 1))) k best ≡ lowest_noted g list n d notes k best
     before list n d best = noted-frame g list n d notes (set notes k (row * g.across + (column - 1))) k best (set_before notes k (row * g.across + (column - 1)))
 
-    pub note_empty :
+    pub note-empty :
         get_or heads (row * g.across + (column - 1)) 0 ≡ 0
         → NotedMore 1 g heads (λ list d. in_one_cell g list d column row) notes k (set notes k (row * g.across + (column - 1))) k
-    note_empty e =
+    note-empty e =
         let c = row * g.across + (column - 1) in
         record {
           few = omega arith;
@@ -72,8 +72,8 @@ module _ (g : Cells) (heads notes : List ℕ) (k : ℕ) (noted : Noted g notes k
               λ list n links h d best. before list n d best ∙ empty-in h d (lowest_noted g list n d notes k best) c cell-there e ∙ cell-one h d (lowest_noted g list n d notes k best) column row low high;
         }
 
-    pub note_full : NotedMore 1 g heads (λ list d. in_one_cell g list d column row) notes k (set notes k (row * g.across + (column - 1))) (k + 1)
-    note_full =
+    pub note-full : NotedMore 1 g heads (λ list d. in_one_cell g list d column row) notes k (set notes k (row * g.across + (column - 1))) (k + 1)
+    note-full =
         record {
           few = le_refl (k + 1);
           noted = record { room = subst (λ (m : ℕ). k + 1 ≤ m) (sym (length-set notes k (row * g.across + (column - 1)))) (omega arith); inside = λ i h. in-grid i h (ℕ_discrete i k) };
@@ -97,13 +97,13 @@ module _ (g : Cells) (heads notes : List ℕ) (k : ℕ) (noted : Noted g notes k
             ∙ cell-one h d (lowest_noted g list n d notes k best) column row low high
 
 -- three cells of a row that is there
-pub note_three :
+pub note-three :
     (g : Cells) (heads : List ℕ) (column row : ℕ) → 0 < row → {notes notes1 notes2 notes3 : List ℕ} {k k1 k2 k3 : ℕ}
     → NotedMore 1 g heads (λ list d. in_one_cell g list d column (row - 1)) notes k notes1 k1
     → NotedMore 1 g heads (λ list d. in_one_cell g list d (column + 1) (row - 1)) notes1 k1 notes2 k2
     → NotedMore 1 g heads (λ list d. in_one_cell g list d (column + 2) (row - 1)) notes2 k2 notes3 k3
     → NotedMore 3 g heads (λ list d. in_three_cells g list d column row) notes k notes3 k3
-note_three g heads column row low {notes} {notes1} {notes2} {notes3} {k} {k1} {k2} {k3} a b c =
+note-three g heads column row low {notes} {notes1} {notes2} {notes3} {k} {k1} {k2} {k3} a b c =
     let fa = a.few in
     let fb = b.few in
     let fc = c.few in
@@ -115,7 +115,7 @@ note_three g heads column row low {notes} {notes1} {notes2} {notes3} {k} {k1} {k
     }
 
 -- all nine cells, noted and walked
-pub nine_noted :
+pub nine-noted :
     (g : Cells) (list : List Float) (n : ℕ) (heads links : List ℕ) → Chained g list n heads links → (d : Disc) (best column row : ℕ)
     → {notes notes1 notes2 notes3 : List ℕ} {k1 k2 k3 : ℕ} (r : ℕ)
     → NotedMore 3 g heads (λ list d. in_three_cells g list d column row) notes 0 notes1 k1
@@ -123,7 +123,7 @@ pub nine_noted :
     → NotedMore 3 g heads (λ list d. in_three_cells g list d column (row + 2)) notes2 k2 notes3 k3
     → Sought list heads links notes3 k3 d best r → r ≡ lowest_below (in_nine_cells g list d column row) n best
 unfolding lowest_noted
-nine_noted g list n heads links h d best column row {notes} {notes1} {notes2} {notes3} {k1} {k2} {k3} r a b c sought =
+nine-noted g list n heads links h d best column row {notes} {notes1} {notes2} {notes3} {k1} {k2} {k3} r a b c sought =
     sought g n h c.noted
     ∙ nine-cells h d best column row (lowest_noted g list n d notes1 k1 best) (lowest_noted g list n d notes2 k2 best) (lowest_noted g list n d notes3 k3 best) (a.finds list n links h d best) (b.finds list n links h d best) (c.finds list n links h d best)
 
@@ -132,11 +132,11 @@ pub walk_first : (g : Cells) (list : List Float) (n : ℕ) (d : Disc) (notes : L
 unfolding lowest_noted
 walk_first g list n d notes best = refl
 
-pub walk_next :
+pub walk-next :
     (g : Cells) (list : List Float) (n : ℕ) (heads links : List ℕ) → Chained g list n heads links → (d : Disc) (notes : List ℕ) (k i best found r : ℕ)
     → Noted g notes k → i < k → Walked list links (get_or heads (get_or notes i 0) 0) d found r → found ≡ lowest_noted g list n d notes i best
     → r ≡ lowest_noted g list n d notes (i + 1) best
-walk_next g list n heads links h d notes k i best found r noted l walked e =
+walk-next g list n heads links h d notes k i best found r noted l walked e =
     walked-in h d found (get_or notes i 0) r (noted.inside i l) walked
     ∙ ap (lowest_below (in_cell (cells_of g list n) (get_or notes i 0) (within d list)) n) e
     ∙ sym (noted-next g list n d notes i best)

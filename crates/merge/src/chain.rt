@@ -1,5 +1,5 @@
 // Chains of kept corners, one a cell, each from the highest number down. A link is lower than the number that bears it, so a walk ends.
-ghost use Rattle.std.specs.Prelude.{◌≡◌, ◌+◌, ◌*◌, ◌<◌, ◌≤◌, length, replicate};
+ghost use Rattle.std.specs.Prelude.{◌≡◌, ◌+◌, ◌*◌, ◌<◌, ◌≤◌, length};
 ghost use Rattle.merge.specs.Steps.{Falling, Walked, Above, Member, Unlinked, Joinable, Linked, StillLent, pick};
 
 use crate::{Chains, Disc, list};

@@ -1,9 +1,9 @@
 // The merge on the grid: heads and links hold the chains of the kept corners.
-ghost use Rattle.std.specs.Prelude.{◌≡◌, ℕ, ◌+◌, ◌*◌, ◌<◌, ◌≤◌, min, length, set, replicate};
-ghost use Rattle.corners.specs.Corners.{corners_of, corner};
+ghost use Rattle.std.specs.Prelude.{◌≡◌, ℕ, ◌+◌, ◌*◌, ◌<◌, ◌≤◌, length, set, replicate};
+ghost use Rattle.corners.specs.Corners.{corners_of};
 ghost use Rattle.merge.specs.Fold.{merged};
 ghost use Rattle.merge.specs.Steps as Steps;
-ghost use Rattle.merge.specs.Steps.{Few, Roomy, Chained, Among, Joinable, Linked, total, cells_of, column_in, row_in, cell_in, meets_in, StillLent, Stepped, Passed, Packed};
+ghost use Rattle.merge.specs.Steps.{Few, Roomy, Chained, Among, Joinable, Linked, total, cells_of, cell_in, meets_in, StillLent, Stepped, Passed, Packed};
 
 use crate::{Cells, Chains, Disc, list, seek};
 use corners::Corner;

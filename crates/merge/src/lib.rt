@@ -1,5 +1,6 @@
 // Merging of corners that lie within a radius of each other, after `merge.rs`: on a grid of cells, or by a plain scan where the box is not finite.
-// Corners are x, y, strength triples in one list. Kept corners move to the front of it: there are never more of them than corners read.
+// Corners are x, y, strength triples in one list, which is flat, and heads and links are two slices, since C lends them so (chess_corners_merge).
+// Kept corners move to the front of the list: there are never more of them than corners read.
 #![tactic(auto)]
 
 mod bounds;
