@@ -8,6 +8,7 @@ ghost use Rattle.refine_formulas.specs.Steps.{mixed_of, gone_by};
 
 use super::{Corners, Slope};
 
+/// The fit of a window that lies tx to the right of the first of four pixels and ty below it, both from 0 to 1.
 #[tactic(auto, unfolding(shapes::specs::Lists::tabulated, crate::specs::Between::blend))]
 pub fn blend(c: Corners, tx: f32, ty: f32) -> [f32; 5]
     ensures { result ≡ Between.blend c tx ty }
@@ -31,7 +32,7 @@ fn mixed(tx: f32, ty: f32, a: f32, b: f32, c: f32, d: f32) -> f32
     sx * sy * a + tx * sy * b + sx * ty * c + tx * ty * d
 }
 
-// The Rust's `cached_slope`.
+/// The Rust's `cached_slope`.
 #[tactic(auto, unfolding(crate::specs::Sensitivity::slope_within))]
 pub fn slope_within(c: Corners, tx: f32, ty: f32) -> Slope
     ensures { result ≡ Sensitivity.slope_within c tx ty }

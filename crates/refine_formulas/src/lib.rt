@@ -7,7 +7,7 @@ pub mod noise;
 pub mod sensitivity;
 pub mod solve;
 
-// The settings; the radius is that of the patch.
+/// The settings; the radius is that of the patch.
 #[derive(Clone, Copy, Debug, PartialEq)]
 pub struct SaddlePointConfig {
     pub radius: usize,
@@ -16,7 +16,7 @@ pub struct SaddlePointConfig {
     pub min_abs_det: f32,
 }
 
-// The saddle of a fit: its offset from the window's centre, the quadratic coefficients and the Hessian's determinant.
+/// The saddle of a fit: its offset from the window's centre, the quadratic coefficients and the Hessian's determinant.
 #[derive(Clone, Copy, Debug, PartialEq)]
 pub struct PatchSaddle {
     pub ux: f32,
@@ -27,7 +27,7 @@ pub struct PatchSaddle {
     pub det_h: f32,
 }
 
-// Why a fit is refused: the first test that it did not pass.
+/// Why a fit is refused: the first test that it did not pass.
 #[derive(Clone, Copy, Debug, PartialEq, Eq)]
 pub enum Flaw {
     AboveMargin,
@@ -35,14 +35,14 @@ pub enum Flaw {
     NotFinite,
 }
 
-// A fit that is refused: why, and its Hessian's determinant.
+/// A fit that is refused: why, and its Hessian's determinant.
 #[derive(Clone, Copy, Debug, PartialEq)]
 pub struct Unsolved {
     pub flaw: Flaw,
     pub det_h: f32,
 }
 
-// The four fits about a base: here, right, below, below right.
+/// The four fits about a base: here, right, below, below right.
 #[derive(Clone, Copy, Debug, PartialEq)]
 pub struct Corners {
     pub c00: [f32; 5],
@@ -51,21 +51,21 @@ pub struct Corners {
     pub c11: [f32; 5],
 }
 
-// How the coefficients change with the window along each axis.
+/// How the coefficients change with the window along each axis.
 #[derive(Clone, Copy, Debug, PartialEq)]
 pub struct Slope {
     pub x: [f32; 5],
     pub y: [f32; 5],
 }
 
-// How the saddle's two coordinates change with the coefficients.
+/// How the saddle's two coordinates change with the coefficients.
 #[derive(Clone, Copy, Debug, PartialEq)]
 pub struct Jacobian {
     pub first: [f32; 5],
     pub second: [f32; 5],
 }
 
-// Two rows of two.
+/// Two rows of two.
 #[derive(Clone, Copy, Debug, PartialEq)]
 pub struct Matrix {
     pub m00: f32,
@@ -74,14 +74,14 @@ pub struct Matrix {
     pub m11: f32,
 }
 
-// A step of the window, in pixels.
+/// A step of the window, in pixels.
 #[derive(Clone, Copy, Debug, PartialEq)]
 pub struct Move {
     pub x: f32,
     pub y: f32,
 }
 
-// The covariance of a place: every entry is finite.
+/// The covariance of a place: every entry is finite.
 #[derive(Clone, Copy, Debug, PartialEq)]
 pub struct Covariance {
     pub xx: f32,

@@ -7,7 +7,7 @@ ghost use Rattle.refine_formulas.specs.Steps.{entry_after, combined, spread_of};
 
 use super::{Covariance, Jacobian, Matrix, sensitivity};
 
-// A K Aᵀ with A = M⁻¹ J.
+/// A K Aᵀ with A = M⁻¹ J.
 pub fn covariance(
     overlap: &[f32; 225],
     tx: f32,

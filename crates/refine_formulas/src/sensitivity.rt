@@ -4,14 +4,14 @@ ghost use Rattle.refine_formulas.specs.Sensitivity as Sensitivity;
 
 use super::{Jacobian, Matrix, Move, PatchSaddle, Slope};
 
-// A sum of five products, from -0.0 as the Rust's `sum`.
+/// A sum of five products, from -0.0 as the Rust's `sum`.
 pub fn dot(a: [f32; 5], b: [f32; 5]) -> f32
     ensures { result ≡ Sensitivity.dot a b }
 {
     -0.0 + a[0] * b[0] + a[1] * b[1] + a[2] * b[2] + a[3] * b[3] + a[4] * b[4]
 }
 
-// How the saddle's coordinates change with the coefficients: minus the inverse Hessian times [[2ux, uy, 0, 1, 0], [0, ux, 2uy, 0, 1]].
+/// How the saddle's coordinates change with the coefficients: minus the inverse Hessian times [[2ux, uy, 0, 1, 0], [0, ux, 2uy, 0, 1]].
 pub fn saddle_jacobian(f: PatchSaddle) -> Jacobian
     ensures { result ≡ Sensitivity.saddle_jacobian f }
 {
@@ -40,7 +40,7 @@ pub fn saddle_jacobian(f: PatchSaddle) -> Jacobian
     Jacobian { first, second }
 }
 
-// The window sensitivity M: how the saddle moves with the window.
+/// The window sensitivity M: how the saddle moves with the window.
 #[tactic(auto, unfolding(crate::specs::Sensitivity::sensitivity))]
 pub fn sensitivity(j: Jacobian, s: Slope) -> Matrix
     ensures { result ≡ Sensitivity.sensitivity j s }
@@ -53,7 +53,7 @@ pub fn sensitivity(j: Jacobian, s: Slope) -> Matrix
     }
 }
 
-// The Newton step of the gain -M where that is clearly positive, else the plain step.
+/// The Newton step of the gain -M where that is clearly positive, else the plain step.
 pub fn newton_step(m: Matrix, f: PatchSaddle) -> Move
     ensures { result ≡ Sensitivity.newton_step m f }
 {
@@ -74,7 +74,7 @@ pub fn newton_step(m: Matrix, f: PatchSaddle) -> Move
     }
 }
 
-// The slope along an axis from two neighbouring fits, as the Rust adds it up.
+/// The slope along an axis from two neighbouring fits, as the Rust adds it up.
 pub fn difference(high: [f32; 5], low: [f32; 5]) -> [f32; 5]
     ensures { result ≡ Sensitivity.difference high low }
 {
@@ -87,7 +87,7 @@ pub fn difference(high: [f32; 5], low: [f32; 5]) -> [f32; 5]
     ]
 }
 
-// Whether M has an inverse that can be worked out.
+/// Whether M has an inverse that can be worked out.
 pub fn regular(m: Matrix) -> bool
     ensures { result ≡ Sensitivity.regular m }
 {

@@ -4,7 +4,8 @@ ghost use Rattle.refine_formulas.specs.Solve as Spec;
 
 use super::{Flaw, PatchSaddle, SaddlePointConfig, Unsolved};
 
-// A tie at a limit is not refused.
+/// The saddle of a fit, in pixels from the window's centre, or the first test that the fit did not pass: a determinant above minus the margin, one too small, an offset that
+/// is not finite. A tie at a limit is not refused.
 pub fn solve(cfg: SaddlePointConfig, coefs: [f32; 5]) -> Result<PatchSaddle, Unsolved>
     ensures { result ≡ Spec.solve cfg coefs }
 {
@@ -42,14 +43,14 @@ pub fn solve(cfg: SaddlePointConfig, coefs: [f32; 5]) -> Result<PatchSaddle, Uns
     }
 }
 
-// |u|².
+/// |u|².
 pub fn norm2(f: PatchSaddle) -> f32
     ensures { result ≡ Spec.norm2 f }
 {
     f.ux * f.ux + f.uy * f.uy
 }
 
-// Within a thousandth of a pixel of the window's centre.
+/// Within a thousandth of a pixel of the window's centre.
 pub fn settled(f: PatchSaddle) -> bool
     ensures { result ≡ Spec.settled f }
 {

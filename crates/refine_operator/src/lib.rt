@@ -77,8 +77,9 @@ struct Upper {
     ff: f64,
 }
 
-// Builds the operator for a radius: five coefficients a sample, and the nine overlaps. Each part works out the inverse for itself: so neither's matrices stand in a
-// caller's stack.
+/// Builds the operator for a radius 0 to 7, after `saddle_point.rs`: five coefficients a sample, and nine overlaps of 25, a shift after the other. The arrays serve
+/// radius 7; a smaller square fills the front of `columns`. Where there is no operator neither is written.
+// Each part works out the inverse for itself: so neither's matrices stand in a caller's stack.
 pub fn fit_operator(
     radius: usize,
     columns: &mut [f32; 1125],
@@ -90,7 +91,7 @@ pub fn fit_operator(
     fit_overlap(radius, overlap)
 }
 
-// The coefficients alone: a list of seeds needs no overlaps.
+/// The coefficients alone: a list of seeds needs no overlaps.
 pub fn fit_columns(radius: usize, columns: &mut [f32; 1125]) -> Result<(), OperatorError>
     ensures { ColumnsDone radius columns.old result columns.new }
 {
@@ -103,7 +104,7 @@ pub fn fit_columns(radius: usize, columns: &mut [f32; 1125]) -> Result<(), Opera
     Ok(())
 }
 
-// The overlaps alone, for where a covariance is wanted.
+/// The overlaps alone, for where a covariance is wanted.
 pub fn fit_overlap(radius: usize, overlap: &mut [f32; 225]) -> Result<(), OperatorError>
     ensures { OverlapDone radius overlap.old result overlap.new }
 {

@@ -26,8 +26,8 @@ pub struct Columns<'a> {
     ghost repeats: { Repeats fourfold radius numbers.now },
 }
 
-// The four first places of patches, as indices of the image's samples.
-#[derive(Clone, Copy)]
+/// The four first places of patches, as indices of the image's samples.
+#[derive(Clone, Copy, Debug, PartialEq, Eq)]
 pub struct Firsts {
     pub a: usize,
     pub b: usize,
@@ -45,7 +45,7 @@ struct Sums {
     e: f32x4,
 }
 
-// Writes coefficient c of patch l to `out` at `to + 4 · c + l`.
+/// Writes the fits of four patches of the image to `out`: coefficient c of patch l at `to + 4 · c + l`, where `to` is 20 at most.
 pub fn fit_four<S: Sample>(
     view: ImageView<S>,
     columns: &Columns,
@@ -77,7 +77,7 @@ fn fit_rows<S: Sample>(view: ImageView<S>, columns: &Columns, at: Firsts, out: &
     stores::store(out, to, sums);
 }
 
-// Writes the four fits about a base that are known to `out`, at the same places.
+/// Writes the four fits about a base that are known to `out`, at the same places.
 pub fn lay_four(out: &mut [f32], to: usize, fits: Corners)
     requires { (length out.old ≡ 40) × (to ≤ 20) }
     ensures { out.new ≡ four_written (sum_in (side_by_side fits)) to out.old }
@@ -311,6 +311,7 @@ fn sum_rows<S: Sample>(view: ImageView<S>, columns: &Columns, at: Firsts, centre
     let mut row = [0u16; 112];
     let mut sums = no_sums();
     let mut j: usize = 0;
+    // Kept: a `for` by `step_by` was tried and did not close, since it also ends where j + most would not fit, and the proof is told nothing of that end.
     while j < side {
         let rows = std::cmp::min(most, side - j);
         gather_rows(view, moved(at, j * pitch), radius, rows, &mut row);
