@@ -23,7 +23,7 @@ use Rattle.refine_fits.specs.Candidate.{Tried, passed, taken, near_along, near_s
 use Rattle.refine_fits.specs.StepsTries.{window_of, Weighs, Tries}
 use Rattle.refine_fits.specs.StepsAdding.{Sound}
 use Rattle.refine_fits.specs.StepsBases.{corners_in, corners_about, fits_in, Stands}
-use Rattle.refine_formulas.proofs.Choice.{and_both, and_first, and_second}
+use Rattle.refine_formulas.proofs.Choice.{and_both, and_second}
 use Rattle.refine_fits.proofs.PlaceLaws.{same_corners}
 
 module _ (cfg : SaddlePointConfig) (seed : Seed) (f : PatchSaddle) (ox oy : Float) (c : Corners) (tx ty : Float) (b : List Float) (s : Result PatchSaddle Unsolved) (blended : b ≡ blend c tx ty) (solved : s ≡ solve cfg b) where
