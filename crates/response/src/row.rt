@@ -158,9 +158,10 @@ pub fn write_row<S: Sample>(img: &[S], starts: &[usize; 21], out: &mut [f32])
     ensures { Wrote plus_zero (length out.old) 0 (value_at (S.levels img.now) starts.now) out.old out.new }
 {
     let n = out.len();
-    for k in 0..n.div_ceil(64) {
-        let at = k * 64;
+    let mut at: usize = 0;
+    while at < n {
         let end = (at + 64).min(n);
         block(img, starts, at, &mut out[at..end]);
+        at = end;
     }
 }
