@@ -21,13 +21,13 @@ pub struct ImageView<'a, S> {
 
 impl<'a, S: Sample> ImageView<'a, S> {
     /// The test of an image; the product is taken only of sizes that cannot wrap it.
+    #[tactic(auto, unfolding(crate::specs::Image::is_image))]
     pub fn is_image(self) -> bool
         ensures { result ≡ is_image (shown S.levels S.deep self.entry) }
     {
-        if is_size(self.width, self.height) & is_pitch(self.width, self.pitch) {
-            return self.data.len() == self.pitch * self.height;
-        }
-        false
+        is_size(self.width, self.height)
+            && is_pitch(self.width, self.pitch)
+            && self.data.len() == self.pitch * self.height
     }
 
     /// The test of a deep image's samples, row by row without the padding; those of others all pass.

