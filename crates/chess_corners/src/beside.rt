@@ -31,7 +31,7 @@ pub extern "C" fn chess_corners_salvage(
             *dropped = lost;
             0
         }
-        Salvage::Refused(refusal) => refusals::number(refusal),
+        Salvage::Refused(refusal) => u32::from(refusal),
     }
 }
 
@@ -49,7 +49,7 @@ pub extern "C" fn chess_corners_coverage(
     let answer = coverage::coverage_afresh(width, height, list, count, counts);
     match answer {
         Coverage::Counted(_) => 0,
-        Coverage::Refused(refusal) => refusals::number(refusal),
+        Coverage::Refused(refusal) => u32::from(refusal),
     }
 }
 
@@ -74,7 +74,7 @@ pub extern "C" fn chess_corners_coverage_add(
             *count = longer;
             0
         }
-        Coverage::Refused(refusal) => refusals::number(refusal),
+        Coverage::Refused(refusal) => u32::from(refusal),
     }
 }
 
@@ -97,7 +97,7 @@ pub extern "C" fn chess_corners_coverage_replace(
     let answer = coverage::replace_corner(width, height, list, count, counts, number, other);
     match answer {
         Coverage::Counted(_) => 0,
-        Coverage::Refused(refusal) => refusals::number(refusal),
+        Coverage::Refused(refusal) => u32::from(refusal),
     }
 }
 
@@ -119,7 +119,7 @@ pub extern "C" fn chess_corners_coverage_drop(
             *count = left;
             0
         }
-        Coverage::Refused(refusal) => refusals::number(refusal),
+        Coverage::Refused(refusal) => u32::from(refusal),
     }
 }
 
@@ -144,6 +144,6 @@ pub extern "C" fn chess_corners_gradient(
     let answer = gradient::add_gradient(tile, side, ring, x, y, scale, grid);
     match answer {
         Gradient::Added => 0,
-        Gradient::Refused(refusal) => refusals::number(refusal),
+        Gradient::Refused(refusal) => u32::from(refusal),
     }
 }

@@ -105,7 +105,7 @@ pub extern "C" fn chess_corners_peaks(
             *count = found;
             0
         }
-        Peaks::Refused(refusal) => refusals::number(refusal),
+        Peaks::Refused(refusal) => u32::from(refusal),
     }
 }
 
@@ -126,7 +126,7 @@ pub extern "C" fn chess_corners_merge(
             *count = kept;
             0
         }
-        Merge::Refused(refusal) => refusals::number(refusal),
+        Merge::Refused(refusal) => u32::from(refusal),
     }
 }
 
@@ -141,7 +141,7 @@ pub extern "C" fn chess_corners_merge_heads(corners: &[f32], radius: f32, heads:
             *heads = wanted;
             0
         }
-        Heads::Refused(refusal) => refusals::number(refusal),
+        Heads::Refused(refusal) => u32::from(refusal),
     }
 }
 
@@ -209,7 +209,7 @@ pub extern "C" fn chess_corners_tie(
             *place = at;
             34
         }
-        Tie::Refused(refusal) => refusals::number(refusal),
+        Tie::Refused(refusal) => u32::from(refusal),
     }
 }
 

@@ -116,7 +116,7 @@ pub extern "C" fn chess_corners_fit_operator(
     match answer {
         Operator::Built => 0,
         Operator::Singular => 3,
-        Operator::Refused(refusal) => refusals::number(refusal),
+        Operator::Refused(refusal) => u32::from(refusal),
     }
 }
 
@@ -136,7 +136,7 @@ pub fn tell(
             *place = [x, y, score];
             refine_seed::why_number(why)
         }
-        Refined::Refused(refusal) => refusals::number(refusal),
+        Refined::Refused(refusal) => u32::from(refusal),
     }
 }
 

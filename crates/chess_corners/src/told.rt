@@ -16,7 +16,7 @@ pub fn tell_response(answer: Response, out_width: &mut usize, out_height: &mut u
             *out_height = height;
             0
         }
-        Response::Refused(refusal) => refusals::number(refusal),
+        Response::Refused(refusal) => u32::from(refusal),
     }
 }
 
@@ -29,7 +29,7 @@ pub fn tell_count(answer: Refinements, count: &mut usize) -> u32
             *count = accepted;
             0
         }
-        Refinements::Refused(refusal) => refusals::number(refusal),
+        Refinements::Refused(refusal) => u32::from(refusal),
     }
 }
 
@@ -61,6 +61,6 @@ pub fn tell_graymap(
             *pixel = at;
             24
         }
-        Graymap::Refused(refusal) => refusals::number(refusal),
+        Graymap::Refused(refusal) => u32::from(refusal),
     }
 }

@@ -4,7 +4,7 @@
 ghost use Rattle.std.specs.Prelude.{◌≡◌, ◌+◌, ◌*◌, ◌<◌, length};
 ghost use Rattle.corners.specs.Corners.{whole, too_many, squared_distance, recorded};
 
-#[derive(Clone, Copy)]
+#[derive(Clone, Copy, Debug, PartialEq)]
 pub struct Corner {
     pub x: f32,
     pub y: f32,
@@ -36,6 +36,7 @@ pub fn put(list: &mut [f32], j: usize, c: Corner)
 }
 
 // Of the places (ax, ay) and (bx, by), in four numbers: a loop over a list has them at hand, and no struct is copied.
+#[tactic(auto, unfolding(crate::specs::Corners::squared_distance))]
 pub fn squared_distance(ax: f32, ay: f32, bx: f32, by: f32) -> f32
     ensures { result ≡ squared_distance ax ay bx by }
 {

@@ -2,7 +2,7 @@
 use Rattle.std.proofs.Common.{◌≡◌, ℕ, true, false, List, [], ◌∷◌, map, ℤ, pos, negsuc, refl}
 use lib.Ieee.{Float, binary32, binary64, of_bits, to_bits, to_signed, to_unsigned, of_int}
 use lib.Ieee.Scale.{finite}
-use Rattle.floats.specs.declared.Order.TheVariants.{Less, Equal, Greater}
+use Rattle.std.specs.declared.cmp.Ordering.TheVariants.{Less, Equal, Greater}
 use Rattle.floats.specs.Magnitude.{magnitude}
 use Rattle.floats.specs.Whole.{floor, round_away}
 use Rattle.floats.specs.Convert.{convert}

@@ -1,6 +1,12 @@
 -- Laws of the leaves that need no rounding: the magnitude, the test for a finite value and the total order of magnitudes.
-use Rattle.std.proofs.Common.{◌≡◌, ℕ, zero, suc, ◌+◌, ◌-◌, ◌*◌, ◌<◌, Bool, true, false, cond, not, ◌&&◌, ◌||◌, T, eqb, ltb, ℤ, pos, sym, refl, ap, ◌∙◌, subst, ap₂, true≢false, lt_irrefl, le_antisymm, mul-pos, one-mul, zero-add, zero-mul, mul-one, arith, eqb→eq, ltb→lt, nltb→le, pow_pos}
-use Prim.Native.Nat.{compare, Ordering}
+use Rattle.std.proofs.Common.{◌≡◌, ℕ, zero, suc, ◌+◌, ◌*◌, ◌<◌, Bool, true, false, cond, not, ◌&&◌, ◌||◌, T, eqb, ltb, ℤ, pos, sym, refl, ap, ◌∙◌, subst, ap₂, true≢false, lt_irrefl, le_antisymm, mul-pos, one-mul, zero-add, zero-mul, mul-one, arith, eqb→eq, ltb→lt, nltb→le, pow_pos}
+use Rattle.std.specs.Prelude.{Option, Some, None}
+use lib.Ieee.{is_nan}
+use Rattle.std.specs.Float.{float_is_finite}
+use Rattle.std.specs.Ordering.{float_partial_cmp, bool_cmp}
+use Rattle.std.specs.declared.cmp.Ordering.{Ordering}
+use Prim.Native.Nat.{compare}
+use Prim.Native.Nat as Nat
 use native.Mathlib.Nat.{sub_self}
 use lib.Dec.{eqb_refl}
 use lib.Arith.{le→nltb}
@@ -8,7 +14,7 @@ use lib.Ieee.{Float, nan, inf, fin, Format, up, down, round, sum, neg, sub, add,
 use lib.Ieee.Bits.{is_false, is_true}
 use lib.Ieee.Fits.{down_pos, up_pos, eq→eqb}
 use lib.Ieee.Scale.{finite}
-use Rattle.floats.specs.declared.Order.TheVariants.{Less, Equal, Greater}
+use Rattle.std.specs.declared.cmp.Ordering.TheVariants.{Less, Equal, Greater}
 use Rattle.floats.specs.Magnitude.{magnitude}
 use Rattle.floats.specs.TotalOrder.{total_cmp, as_order}
 use Rattle.floats.proofs.Half.{compared-lt, compared-gt, compare-lt, compare-gt}
@@ -71,35 +77,21 @@ magnitude-above (inf false) h = refl
 magnitude-above (fin true m e) h = absurd (true≢false (sym (at_most (m * up e * 1) (down e)) ∙ h))
 magnitude-above (fin false m e) h = refl
 
--- ---- finite
-zero-fits : (f : Format) → T (fits f (fin false zero (pos 0)))
-unfolding fits
-zero-fits f = tt
-
-self-sum : (f : Format) (s : Bool) (a c : ℕ) → 0 < c → sum f s a (not s) a c ≡ fin false 0 (pos 0)
-unfolding sum
-self-sum f true a c C =
-    ap (λ (b : Bool). cond b (round f false (a - a) c) (round f b (a - a) c)) (is_false (ltb a a) (le→nltb a a (native.Mathlib.Nat.le_refl a)))
-    ∙ ap (λ (z : ℕ). round f false z c) (sub_self a) ∙ zero-round f (pos 0) c C (zero-fits f)
-self-sum f false a c C =
-    ap (λ (b : Bool). cond b (round f true (a - a) c) (round f false (a - a) c)) (is_false (ltb a a) (le→nltb a a (native.Mathlib.Nat.le_refl a)))
-    ∙ ap (λ (z : ℕ). round f false z c) (sub_self a) ∙ zero-round f (pos 0) c C (zero-fits f)
-
-pub difference-finite : (f : Format) (x : Float) → eq (sub f x x) (fin false 0 (pos 0)) ≡ finite x
-unfolding sub neg add eq
-difference-finite f nan = refl
-difference-finite f (inf true) = refl
-difference-finite f (inf false) = refl
-difference-finite f (fin s m e) = ap (λ (x : Float). eq x (fin false 0 (pos 0))) (self-sum f s (m * up e * down e) (down e * down e) (mul-pos (down_pos e) (down_pos e)))
+-- ---- finite, by std's word
+pub finite_is : (x : Float) → float_is_finite x ≡ finite x
+unfolding float_is_finite
+finite_is nan = refl
+finite_is (inf s) = refl
+finite_is (fin s m e) = refl
 
 -- ---- the total order
-compare-eq : (p q : ℕ) → p ≡ q → compare p q ≡ Ordering.eq
+compare-eq : (p q : ℕ) → p ≡ q → compare p q ≡ Nat.Ordering.eq
 compare-eq p q h = go (compare p q) refl
   where
-    go : (o : Ordering) → compare p q ≡ o → o ≡ Ordering.eq
-    go Ordering.lt e = absurd (lt_irrefl q (subst (λ (z : ℕ). z < q) h (compared-lt p q e)))
-    go Ordering.eq e = refl
-    go Ordering.gt e = absurd (lt_irrefl q (subst (λ (z : ℕ). q < z) h (compared-gt p q e)))
+    go : (o : Nat.Ordering) → compare p q ≡ o → o ≡ Nat.Ordering.eq
+    go Nat.Ordering.lt e = absurd (lt_irrefl q (subst (λ (z : ℕ). z < q) h (compared-lt p q e)))
+    go Nat.Ordering.eq e = refl
+    go Nat.Ordering.gt e = absurd (lt_irrefl q (subst (λ (z : ℕ). q < z) h (compared-gt p q e)))
 
 order-less : (x y : Float) → lt (magnitude x) (magnitude y) ≡ true → Less ≡ total_cmp x y
 unfolding magnitude lt total_cmp
@@ -150,53 +142,44 @@ not-less p = is_false (ltb p p) (le→nltb p p (native.Mathlib.Nat.le_refl p))
 apart : (p q : ℕ) → ltb p q ≡ false → ltb q p ≡ false → (eqb p q && true) ≡ false → ⊥
 apart p q h g k = true≢false (sym (ap (λ (b : Bool). b && true) (is_true (eqb p q) (eq→eqb (le_antisymm (nltb→le q p (false-not (ltb q p) g)) (nltb→le p q (false-not (ltb p q) h)))))) ∙ k)
 
--- where no comparison holds one of the two is a NaN
-order-left : (x y : Float) → lt (magnitude x) (magnitude y) ≡ false → lt (magnitude y) (magnitude x) ≡ false → eq (magnitude x) (magnitude y) ≡ false → eq (magnitude y) (magnitude y) ≡ true → Greater ≡ total_cmp x y
-unfolding magnitude lt eq total_cmp
-order-left nan nan h g k n = absurd (true≢false (sym n))
-order-left nan (inf t) h g k n = refl
-order-left nan (fin t m d) h g k n = refl
-order-left (inf s) nan h g k n = absurd (true≢false (sym n))
-order-left (inf s) (inf t) h g k n = absurd (true≢false k)
-order-left (inf s) (fin t m d) h g k n = refl
-order-left (fin s m e) nan h g k n = absurd (true≢false (sym n))
-order-left (fin s m e) (inf t) h g k n = absurd (true≢false h)
-order-left (fin s m e) (fin t n d) h g k o = absurd (apart (m * up e * down d) (n * up d * down e) h g k)
+-- what a comparison of the magnitudes says, and which is a NaN where it says nothing
+order-known : (x y : Float) (o : Ordering) → float_partial_cmp (magnitude x) (magnitude y) ≡ Some o → o ≡ total_cmp x y
+order-known x y o h = go (lt (magnitude x) (magnitude y)) (eq (magnitude x) (magnitude y)) (lt (magnitude y) (magnitude x)) refl refl refl h
+  where
+    go : (a b d : Bool) → lt (magnitude x) (magnitude y) ≡ a → eq (magnitude x) (magnitude y) ≡ b → lt (magnitude y) (magnitude x) ≡ d
+        → cond a (Some Less) (cond b (Some Equal) (cond d (Some Greater) None)) ≡ Some o → o ≡ total_cmp x y
+    go true b d p q r k = let e : o ≡ Less = cc in e ∙ order-less x y p
+    go false true d p q r k = let e : o ≡ Equal = cc in e ∙ order-equal x y q
+    go false false true p q r k = let e : o ≡ Greater = cc in e ∙ order-greater x y r
+    go false false false p q r k = absurd (cc)
 
-order-right : (x y : Float) → eq (magnitude y) (magnitude y) ≡ false → eq (magnitude x) (magnitude x) ≡ true → Less ≡ total_cmp x y
-unfolding magnitude eq total_cmp
-order-right nan y g k = absurd (true≢false (sym k))
-order-right (inf s) nan g k = refl
-order-right (inf s) (inf t) g k = absurd (true≢false g)
-order-right (inf s) (fin t n d) g k = absurd (apart (n * up d * down d) (n * up d * down d) (not-less (n * up d * down d)) (not-less (n * up d * down d)) g)
-order-right (fin s m e) nan g k = refl
-order-right (fin s m e) (inf t) g k = absurd (true≢false g)
-order-right (fin s m e) (fin t n d) g k = absurd (apart (n * up d * down d) (n * up d * down d) (not-less (n * up d * down d)) (not-less (n * up d * down d)) g)
+compared : (p q : ℕ) → cond (ltb p q) (Some Less) (cond (eqb p q && true) (Some Equal) (cond (ltb q p) (Some Greater) None)) ≡ None → ⊥
+compared p q h = go (ltb p q) (eqb p q && true) (ltb q p) refl refl refl h
+  where
+    go : (a b d : Bool) → ltb p q ≡ a → (eqb p q && true) ≡ b → ltb q p ≡ d → cond a (Some Less) (cond b (Some Equal) (cond d (Some Greater) None)) ≡ None → ⊥
+    go true b d e f g k = cc
+    go false true d e f g k = cc
+    go false false true e f g k = cc
+    go false false false e f g k = apart p q e g f
 
-order-both : (x y : Float) → eq (magnitude y) (magnitude y) ≡ false → eq (magnitude x) (magnitude x) ≡ false → Equal ≡ total_cmp x y
-unfolding magnitude eq total_cmp
-order-both nan nan g k = refl
-order-both nan (inf t) g k = absurd (true≢false g)
-order-both nan (fin t n d) g k = absurd (apart (n * up d * down d) (n * up d * down d) (not-less (n * up d * down d)) (not-less (n * up d * down d)) g)
-order-both (inf s) y g k = absurd (true≢false k)
-order-both (fin s m e) y g k = absurd (apart (m * up e * down e) (m * up e * down e) (not-less (m * up e * down e)) (not-less (m * up e * down e)) k)
+order-unknown : (x y : Float) → float_partial_cmp (magnitude x) (magnitude y) ≡ None → bool_cmp (is_nan (magnitude x)) (is_nan (magnitude y)) ≡ total_cmp x y
+unfolding magnitude lt eq total_cmp is_nan
+order-unknown nan nan h = refl
+order-unknown nan (inf t) h = refl
+order-unknown nan (fin t n d) h = refl
+order-unknown (inf s) nan h = refl
+order-unknown (inf s) (inf t) h = absurd (cc)
+order-unknown (inf s) (fin t n d) h = absurd (cc)
+order-unknown (fin s m e) nan h = refl
+order-unknown (fin s m e) (inf t) h = absurd (cc)
+order-unknown (fin s m e) (fin t n d) h = absurd (compared (m * up e * down d) (n * up d * down e) h)
 
--- the laws above, for magnitudes that a call gave
+-- the same for magnitudes that a call gave
 module _ (x y m n : Float) (is_m : m ≡ magnitude x) (is-n : n ≡ magnitude y) where
-  pub less : lt m n ≡ true → Less ≡ total_cmp x y
-  less h = order-less x y (sym (ap₂ lt is_m is-n) ∙ h)
+  pub known : (r : Option Ordering) (o : Ordering) → r ≡ float_partial_cmp m n → r ≡ Some o → o ≡ total_cmp x y
+  known r o e k = order-known x y o (sym (ap₂ float_partial_cmp is_m is-n) ∙ sym e ∙ k)
 
-  pub greater : lt n m ≡ true → Greater ≡ total_cmp x y
-  greater h = order-greater x y (sym (ap₂ lt is-n is_m) ∙ h)
-
-  pub equal : eq m n ≡ true → Equal ≡ total_cmp x y
-  equal h = order-equal x y (sym (ap₂ eq is_m is-n) ∙ h)
-
-  pub left-nan : lt m n ≡ false → lt n m ≡ false → eq m n ≡ false → eq n n ≡ true → Greater ≡ total_cmp x y
-  left-nan h g k o = order-left x y (sym (ap₂ lt is_m is-n) ∙ h) (sym (ap₂ lt is-n is_m) ∙ g) (sym (ap₂ eq is_m is-n) ∙ k) (sym (ap₂ eq is-n is-n) ∙ o)
-
-  pub right-nan : eq n n ≡ false → eq m m ≡ true → Less ≡ total_cmp x y
-  right-nan g k = order-right x y (sym (ap₂ eq is-n is-n) ∙ g) (sym (ap₂ eq is_m is_m) ∙ k)
-
-  pub both-nan : eq n n ≡ false → eq m m ≡ false → Equal ≡ total_cmp x y
-  both-nan g k = order-both x y (sym (ap₂ eq is-n is-n) ∙ g) (sym (ap₂ eq is_m is_m) ∙ k)
+  pub unknown : (r : Option Ordering) → r ≡ float_partial_cmp m n → r ≡ None → bool_cmp (is_nan m) (is_nan n) ≡ total_cmp x y
+  unknown r e k =
+      ap₂ (λ (a b : Float). bool_cmp (is_nan a) (is_nan b)) is_m is-n
+      ∙ order-unknown x y (sym (ap₂ float_partial_cmp is_m is-n) ∙ sym e ∙ k)

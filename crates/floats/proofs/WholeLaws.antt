@@ -1,5 +1,5 @@
 -- What `floor` and `round` rest on: a value of at least 2 ^ (prec - 1) is whole, a whole value comes back as it is, and the sign goes through.
-use Rattle.std.proofs.Common.{◌≡◌, ℕ, zero, suc, ◌+◌, ◌-◌, ◌*◌, ◌/◌, ◌^◌, ◌<◌, ◌≤◌, Bool, true, false, cond, not, T, ltb, ℤ, pos, negsuc, sym, refl, ap, ◌∙◌, subst, true≢false, le_trans, mul_assoc, mul-pos, one-mul, zero-mul, mul-one, not-le_of_lt, div-one, arith, ltb→lt, nltb→le, pow_pos}
+use Rattle.std.proofs.Common.{◌≡◌, ℕ, zero, suc, ◌+◌, ◌-◌, ◌*◌, ◌/◌, ◌^◌, ◌<◌, ◌≤◌, Bool, true, false, cond, not, ◌&&◌, T, ltb, ℤ, pos, negsuc, sym, refl, ap, ◌∙◌, subst, true≢false, le_trans, mul_assoc, mul-pos, one-mul, zero-mul, mul-one, not-le_of_lt, div-one, arith, ltb→lt, nltb→le, pow_pos}
 use Prim.Native.Nat.{compare}
 use native.Mathlib.Nat.{min-eq_left, add-mul-div_right, div-div-eq-div-mul}
 use lib.Arith.{digits_div}
@@ -107,7 +107,7 @@ module _ (f : Format) (g : Float → Float) (keeps : Keeps f g) where
       ∙ ap (λ (z : ℤ). fin s m z) (sym k.1)
 
   -- above zero and not below the bound
-  pub large : (x : Float) → T (fits f x) → lt (fin false 0 (pos 0)) x ≡ true → lt x (bound f) ≡ false → x ≡ g x
+  large : (x : Float) → T (fits f x) → lt (fin false 0 (pos 0)) x ≡ true → lt x (bound f) ≡ false → x ≡ g x
   unfolding lt
   large nan p h k = sym keeps.at-nan
   large (inf s) p h k = sym (keeps.at-inf s)
@@ -117,7 +117,7 @@ module _ (f : Format) (g : Float → Float) (keeps : Keeps f g) where
   large (fin true m e) p h k = absurd (true≢false (sym h))
 
   -- below zero and not above minus the bound
-  pub large-below : (x : Float) → T (fits f x) → lt x (fin false 0 (pos 0)) ≡ true → lt (neg (bound f)) x ≡ false → x ≡ g x
+  large-below : (x : Float) → T (fits f x) → lt x (fin false 0 (pos 0)) ≡ true → lt (neg (bound f)) x ≡ false → x ≡ g x
   unfolding lt neg
   large-below nan p h k = sym keeps.at-nan
   large-below (inf s) p h k = sym (keeps.at-inf s)
@@ -127,7 +127,7 @@ module _ (f : Format) (g : Float → Float) (keeps : Keeps f g) where
   large-below (fin false m e) p h k = absurd (native.Mathlib.Nat.not-suc-le-zero (subst (λ (z : ℕ). m * up e * 1 < z) (zero-mul (down e)) (ltb→lt (m * up e * 1) (0 * down e) (subst T (sym h) tt))))
 
   -- neither above zero nor below it
-  pub neither : (x : Float) → T (fits f x) → lt (fin false 0 (pos 0)) x ≡ false → lt x (fin false 0 (pos 0)) ≡ false → x ≡ g x
+  neither : (x : Float) → T (fits f x) → lt (fin false 0 (pos 0)) x ≡ false → lt x (fin false 0 (pos 0)) ≡ false → x ≡ g x
   unfolding lt
   neither nan p h k = sym keeps.at-nan
   neither (inf s) p h k = sym (keeps.at-inf s)
@@ -135,7 +135,16 @@ module _ (f : Format) (g : Float → Float) (keeps : Keeps f g) where
   neither (fin false (suc m) e) p h k = absurd (not_none (suc m * up e * 1) (down e) (some_size m e) (nltb→le (0 * down e) (suc m * up e * 1) (false-not (ltb (0 * down e) (suc m * up e * 1)) h)))
   neither (fin true (suc m) e) p h k = absurd (left-none (suc m * up e * 1) (0 * down e) (some_size m e) (nltb→le 0 (suc m * up e * 1 + 0 * down e) (false-not (ltb 0 (suc m * up e * 1 + 0 * down e)) k)))
 
--- ---- below zero: the sign goes through
+  -- ---- below zero: the sign goes through
+  -- outside both ranges that have fractions
+  pub kept : (x : Float) → T (fits f x) → (lt (fin false 0 (pos 0)) x && lt x (bound f)) ≡ false → (lt x (fin false 0 (pos 0)) && lt (neg (bound f)) x) ≡ false → x ≡ g x
+  kept x p h k = go (lt (fin false 0 (pos 0)) x) refl (lt x (fin false 0 (pos 0))) refl
+    where
+      go : (a : Bool) → lt (fin false 0 (pos 0)) x ≡ a → (b : Bool) → lt x (fin false 0 (pos 0)) ≡ b → x ≡ g x
+      go true e b l = large x p e (sym (ap (λ (z : Bool). z && lt x (bound f)) e) ∙ h)
+      go false e true l = large-below x p l (sym (ap (λ (z : Bool). z && lt (neg (bound f)) x) l) ∙ k)
+      go false e false l = neither x p e l
+
 pub neg-neg : (x : Float) → neg (neg x) ≡ x
 unfolding neg
 neg-neg nan = refl

@@ -1,17 +1,18 @@
 -- The order that Rust's `total_cmp` gives on magnitudes: finite values by size, above them infinity, above that a NaN, of which there is one.
 use Rattle.std.specs.Prelude.{◌*◌, Float}
-use Prim.Native.Nat.{compare, Ordering}
+use Rattle.std.specs.declared.cmp.Ordering.{Ordering}
+use Rattle.std.specs.declared.cmp.Ordering.TheVariants.{Less, Equal, Greater}
+use Prim.Native.Nat.{compare}
+use Prim.Native.Nat as Nat
 use Rattle.std.specs.Float.{nan, inf, fin}
 use Rattle.std.specs.Float.Ieee.{up, down}
-use Rattle.floats.specs.declared.Order.{Order}
-use Rattle.floats.specs.declared.Order.TheVariants.{Less, Equal, Greater}
 
-abbrev pub as_order : Ordering → Order
-as_order Ordering.lt = Less
-as_order Ordering.eq = Equal
-as_order Ordering.gt = Greater
+abbrev pub as_order : Nat.Ordering → Ordering
+as_order Nat.Ordering.lt = Less
+as_order Nat.Ordering.eq = Equal
+as_order Nat.Ordering.gt = Greater
 
-unfoldable pub total_cmp : Float → Float → Order
+unfoldable pub total_cmp : Float → Float → Ordering
 total_cmp nan nan = Equal
 total_cmp nan (inf t) = Greater
 total_cmp nan (fin t n d) = Greater

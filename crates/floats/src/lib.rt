@@ -1,5 +1,5 @@
-// The float leaves that Rattle lacks. Each contract is one definition of specs/, over every value of the type:
-// NaN, infinities, both zeros and subnormals included.
+// The float leaves over every value of the type: NaN, infinities, both zeros and subnormals included. Each contract is one definition of specs/.
+// Floor, round and root are written here because docs/RULES.md asks it, though std has `floor`, `round` and `sqrt`.
 #![tactic(auto)]
 
 ghost use Rattle.std.specs.Prelude.{◌≡◌, ◌+◌, ◌*◌, ◌/◌, ◌^◌, ◌<◌, ◌≤◌, true, false, T, pos};
@@ -14,15 +14,10 @@ ghost use Rattle.floats.specs.Root.{sqrt, root};
 ghost use Rattle.floats.specs.Steps.{Narrowed, Rooted, nearest_root};
 ghost use Rattle.floats.specs.TotalOrder.{total_cmp};
 
-// How two magnitudes compare.
-#[derive(Drop)]
-pub enum Order {
-    Less,
-    Equal,
-    Greater,
-}
+use std::cmp::Ordering;
 
-// |x|. The difference makes +0.0 of -0.0, which -x would not make of +0.0.
+// |x|. The difference makes +0.0 of -0.0, which -x would not make of +0.0. One comparison, where std's `abs` makes two.
+// Both widths by name here and below, as in std: a generic one would be a trait of ours with these two bodies again.
 pub fn magnitude_f32(x: f32) -> f32
     ensures { result ≡ magnitude x }
 {
@@ -35,55 +30,45 @@ pub fn magnitude_f64(x: f64) -> f64
     if x <= 0.0 { 0.0 - x } else { x }
 }
 
-// Neither a NaN nor an infinity: of those x - x is a NaN.
+// Neither a NaN nor an infinity. Says of std's test what all definitions ask, `finite`.
+#[tactic(auto, using(crate::proofs::LeafLaws::finite_is))]
 pub fn is_finite_f32(x: f32) -> bool
     ensures { result ≡ finite x }
 {
-    x - x == 0.0
+    x.is_finite()
 }
 
+#[tactic(auto, using(crate::proofs::LeafLaws::finite_is))]
 pub fn is_finite_f64(x: f64) -> bool
     ensures { result ≡ finite x }
 {
-    x - x == 0.0
+    x.is_finite()
 }
 
 // The greatest whole number that is not above x. From 2^23 on every value is whole.
 pub fn floor_f32(x: f32) -> f32
     ensures { result ≡ floor binary32 x }
 {
-    if 0.0 < x {
-        if x < 8388608.0 {
-            return whole_below(x);
-        }
-        return x;
+    if (0.0 < x) & (x < 8388608.0) {
+        whole_below(x)
+    } else if (x < 0.0) & (-8388608.0 < x) {
+        -whole_above(-x)
+    } else {
+        x
     }
-    if x < 0.0 {
-        if -8388608.0 < x {
-            return -whole_above(-x);
-        }
-        return x;
-    }
-    x
 }
 
 // The nearest whole number, a tie away from zero.
 pub fn round_f32(x: f32) -> f32
     ensures { result ≡ round_away binary32 x }
 {
-    if 0.0 < x {
-        if x < 8388608.0 {
-            return whole_nearest(x);
-        }
-        return x;
+    if (0.0 < x) & (x < 8388608.0) {
+        whole_nearest(x)
+    } else if (x < 0.0) & (-8388608.0 < x) {
+        -whole_nearest(-x)
+    } else {
+        x
     }
-    if x < 0.0 {
-        if -8388608.0 < x {
-            return -whole_nearest(-x);
-        }
-        return x;
-    }
-    x
 }
 
 // The same `as i32`: in one step where x is above zero and not all values are whole.
@@ -96,7 +81,7 @@ pub fn round_to_i32(x: f32) -> i32
     f32_to_i32(round_f32(x))
 }
 
-// x `as i32`, as Rust has it: toward zero, out of range to the nearest end, a NaN to 0.
+// x `as i32`, as Rust has it: toward zero, out of range to the nearest end, a NaN to 0. One conversion, where std's `saturating_f32_to_i32` goes by way of an f64.
 pub fn f32_to_i32(x: f32) -> i32
     ensures { result ≡ Ieee.to_signed 31 x }
 {
@@ -112,7 +97,7 @@ pub fn f32_to_i32(x: f32) -> i32
     0
 }
 
-// x `as usize`, as Rust has it.
+// x `as usize`, as Rust has it, in one conversion as well.
 pub fn f32_to_usize(x: f32) -> usize
     ensures { result ≡ Ieee.to_unsigned 64 x }
 {
@@ -123,13 +108,6 @@ pub fn f32_to_usize(x: f32) -> usize
         return 18446744073709551615;
     }
     0
-}
-
-// The f32 nearest to n.
-pub fn i32_to_f32(n: i32) -> f32
-    ensures { result ≡ Ieee.of_int binary32 n }
-{
-    std::num::nearest_i32_to_f32(n)
 }
 
 // The f32 nearest to x, a tie to the even one, from x's bit pattern.
@@ -201,33 +179,21 @@ pub fn f64_from_bits(bits: u64) -> f64
 }
 
 // How |a| and |b| compare, as `a.abs().total_cmp(&b.abs())` has it.
-pub fn total_cmp_magnitudes(a: f64, b: f64) -> Order
+pub fn total_cmp_magnitudes(a: f64, b: f64) -> Ordering
     ensures { result ≡ total_cmp a b }
 {
     let m = magnitude_f64(a);
     let n = magnitude_f64(b);
-    if m < n {
-        return Order::Less;
+    match m.partial_cmp(&n) {
+        Some(order) => order,
+        None => m.is_nan().cmp(&n.is_nan()),
     }
-    if n < m {
-        return Order::Greater;
-    }
-    if m == n {
-        return Order::Equal;
-    }
-    if n == n {
-        return Order::Greater;
-    }
-    if m == m {
-        return Order::Less;
-    }
-    Order::Equal
 }
 
 // x without its fraction, where that is a float exactly.
 fn whole_below(x: f32) -> f32
-    requires fact_1 { T (Ieee.lt (fin false 0 (pos 0)) x) }
-    requires fact_2 { T (Ieee.lt x (fin false 1 (pos 23))) }
+    requires above_zero { T (Ieee.lt (fin false 0 (pos 0)) x) }
+    requires with_fractions { T (Ieee.lt x (fin false 1 (pos 23))) }
     ensures { result ≡ floor binary32 x }
 {
     std::num::truncating_f32_to_u64(x) as f32
@@ -235,8 +201,8 @@ fn whole_below(x: f32) -> f32
 
 // The least whole number that is not below x: floor of -x, negated.
 fn whole_above(x: f32) -> f32
-    requires fact_1 { T (Ieee.lt (fin false 0 (pos 0)) x) }
-    requires fact_2 { T (Ieee.lt x (fin false 1 (pos 23))) }
+    requires above_zero { T (Ieee.lt (fin false 0 (pos 0)) x) }
+    requires with_fractions { T (Ieee.lt x (fin false 1 (pos 23))) }
     ensures { Ieee.neg result ≡ floor binary32 (Ieee.neg x) }
 {
     let below = std::num::truncating_f32_to_u64(x);
@@ -248,8 +214,8 @@ fn whole_above(x: f32) -> f32
 
 // The nearest whole number as a float, which holds it exactly.
 fn whole_nearest(x: f32) -> f32
-    requires fact_1 { T (Ieee.lt (fin false 0 (pos 0)) x) }
-    requires fact_2 { T (Ieee.lt x (fin false 1 (pos 23))) }
+    requires above_zero { T (Ieee.lt (fin false 0 (pos 0)) x) }
+    requires with_fractions { T (Ieee.lt x (fin false 1 (pos 23))) }
     ensures { result ≡ round_away binary32 x }
 {
     number_nearest(x) as f32
@@ -257,9 +223,10 @@ fn whole_nearest(x: f32) -> f32
 
 // Half of the whole part of twice x, rounded up: all of it in whole numbers, since x + x is exact.
 fn number_nearest(x: f32) -> u64
-    requires fact_1 { T (Ieee.lt (fin false 0 (pos 0)) x) }
-    requires fact_2 { T (Ieee.lt x (fin false 1 (pos 23))) }
-    ensures { (Ieee.of_int binary32 (pos result) ≡ round_away binary32 x) × (result ≤ 8388608) }
+    requires above_zero { T (Ieee.lt (fin false 0 (pos 0)) x) }
+    requires with_fractions { T (Ieee.lt x (fin false 1 (pos 23))) }
+    ensures nearest { Ieee.of_int binary32 (pos result) ≡ round_away binary32 x }
+    ensures exact { result ≤ 8388608 }
 {
     (std::num::truncating_f32_to_u64(x + x) + 1) / 2
 }
@@ -286,7 +253,9 @@ fn narrowed(bits: u64) -> u32
 
 // n / (2 * half) to the nearest whole number, a tie to the even one.
 fn nearest_even(n: u64, half: u64) -> u64
-    requires { (n < 2 ^ 53) × (0 < half) × (half ≤ 2 ^ 53) }
+    requires digits { n < 2 ^ 53 }
+    requires some { 0 < half }
+    requires halves { half ≤ 2 ^ 53 }
     ensures { result ≡ closest n (half + half) }
 {
     (n + (half - 1) + n / (half + half) % 2) / (half + half)
@@ -295,7 +264,8 @@ fn nearest_even(n: u64, half: u64) -> u64
 // The binary32 pattern nearest to the root of a pattern above zero and below infinity.
 // A normal value is m * 2 ^ (field - 150). With 23 or 24 zeros behind m, by the parity of the field, an even power of two is left, and its root is 2 ^ k units.
 fn root_bits(bits: u32) -> u32
-    requires { (0 < bits) × (bits < 0x7f80_0000) }
+    requires above_zero { 0 < bits }
+    requires is_finite { bits < 0x7f80_0000 }
     ensures { Rooted bits result }
 {
     let field = bits / 0x80_0000;
@@ -312,7 +282,8 @@ fn root_bits(bits: u32) -> u32
 
 // The same of a subnormal pattern: its few digits are moved up, two places at a time.
 fn small_root(bits: u32) -> u32
-    requires { (0 < bits) × (bits < 0x80_0000) }
+    requires above_zero { 0 < bits }
+    requires subnormal { bits < 0x80_0000 }
     ensures { Rooted bits result }
 {
     let mut n = bits as u64 * 0x80_0000;
@@ -326,7 +297,9 @@ fn small_root(bits: u32) -> u32
 
 // The pattern with k dropped digits whose digits are the whole number nearest to the root of n.
 fn rounded_root(n: u64, k: u32) -> u32
-    requires { (0x4000_0000_0000 ≤ n) × (n < 0x1_0000_0000_0000) × (k < 192) }
+    requires enough { 0x4000_0000_0000 ≤ n }
+    requires few { n < 0x1_0000_0000_0000 }
+    requires dropped { k < 192 }
     ensures { result ≡ k * 0x80_0000 + nearest_root n }
 {
     let q = whole_root(n);

@@ -5,12 +5,13 @@ use mathlib.Core.List.{List, [], ◌∷◌}
 use Prim.Native.Nat.{ℕ}
 use lib.IntN.{ℤ, pos, negsuc}
 use lib.ListN.{get_or, drop, replicate}
+use Rattle.std.specs.Prelude.{Ok, Err}
 use lib.Ieee.{Float, fin, inf, nan, of_int, add, mul}
 use Rattle.shapes.specs.Numbers.{plus_zero, one}
 use Rattle.refusals.specs.declared.Refusal.TheVariants.{BadImage, BadRing, BadOut}
 use Rattle.gradient.specs.Stencil.{ring_of, cross_of}
 use Rattle.gradient.specs.Coefficients.{mean_sign, coefficient}
-use Rattle.gradient.specs.Call.{Asked, asked_of, grid_after, refused, added, way_of}
+use Rattle.gradient.specs.Call.{Asked, asked_of, grid_after, way_of}
 
 -- the eight cells about the middle one, twice
 abbrev around : List ℤ
@@ -72,23 +73,23 @@ unfolding grid_after mean_sign cross_of ring_of
 left_out = refl
 
 -- ---- refusals
-accepted : way_of (in-middle dark one one) 18 ≡ added
+accepted : way_of (in-middle dark one one) 18 ≡ Ok tt
 unfolding way_of
 accepted = refl
 
-cut-tile : way_of (asked_of (1 ∷ 2 ∷ []) 3 around 1 1 (record { x = one; y = one })) 18 ≡ refused BadImage
+cut-tile : way_of (asked_of (1 ∷ 2 ∷ []) 3 around 1 1 (record { x = one; y = one })) 18 ≡ Err BadImage
 unfolding way_of
 cut-tile = refl
 
 -- the ring leaves the tile at the end of a row, though the cell's number is below nine
-sideways : way_of (asked_of dark 3 (pos 2 ∷ pos 0 ∷ drop 2 around) 1 1 (record { x = one; y = one })) 18 ≡ refused BadRing
+sideways : way_of (asked_of dark 3 (pos 2 ∷ pos 0 ∷ drop 2 around) 1 1 (record { x = one; y = one })) 18 ≡ Err BadRing
 unfolding way_of
 sideways = refl
 
-at-the-rim : way_of (asked_of dark 3 around 2 1 (record { x = one; y = one })) 18 ≡ refused BadRing
+at-the-rim : way_of (asked_of dark 3 around 2 1 (record { x = one; y = one })) 18 ≡ Err BadRing
 unfolding way_of
 at-the-rim = refl
 
-odd-grid : way_of (in-middle dark one one) 17 ≡ refused BadOut
+odd-grid : way_of (in-middle dark one one) 17 ≡ Err BadOut
 unfolding way_of
 odd-grid = refl

@@ -1,10 +1,10 @@
--- Whole numbers as differences of two naturals: when two are equal, their sum, minus one, and a multiple.
+-- Whole numbers as differences of two naturals: when two are equal, and their sum.
 use mathlib.Core.Path.{◌≡◌, sym, ap, ◌∙◌}
 use mathlib.Core.Logic.{⊎_elim}
 use mathlib.Core.Bool.{Bool, cond}
-use Prim.Native.Nat.{ℕ, zero, suc, ◌+◌, ◌-◌, ◌≤◌, ◌<◌}
+use Prim.Native.Nat.{ℕ, suc, ◌+◌, ◌-◌, ◌≤◌, ◌<◌}
 use native.Mathlib.Omega.{arith}
-use lib.IntN.{ℤ, pos, negsuc, neg_ℤ, sub_ℕ, ◌+ℤ◌}
+use lib.IntN.{ℤ, pos, negsuc, sub_ℕ, ◌+ℤ◌}
 use borrow.Author.Tests.{lt-ltb, le-ltb}
 use Rattle.response.proofs.PassLaws.{lt-or-le}
 
@@ -18,13 +18,6 @@ pub sub_same : (a b c d : ℕ) → a + d ≡ c + b → sub_ℕ a b ≡ sub_ℕ c
 sub_same a b c d e =
     ⊎_elim (λ h. downward a b h ∙ ap negsuc (let g : b - suc a ≡ d - suc c = omega arith in g) ∙ sym (downward c d (omega arith)))
     (λ h. upward a b h ∙ ap pos (let g : a - b ≡ c - d = omega arith in g) ∙ sym (upward c d (omega arith))) (lt-or-le a b)
-
-pub sub-neg : (a b : ℕ) → neg_ℤ (sub_ℕ a b) ≡ sub_ℕ b a
-sub-neg a b = ⊎_elim (λ h. ap neg_ℤ (downward a b h) ∙ ap pos (let g : suc (b - suc a) ≡ b - a = omega arith in g) ∙ sym (upward b a (omega arith))) (λ h. ap neg_ℤ (upward a b h) ∙ low (a - b) (omega arith)) (lt-or-le a b)
-  where
-    low : (n : ℕ) → a ≡ b + n → neg_ℤ (pos n) ≡ sub_ℕ b a
-    low zero e = sym (upward b a (omega arith) ∙ ap pos (let g : b - a ≡ 0 = omega arith in g))
-    low (suc n) e = sym (downward b a (omega arith) ∙ ap negsuc (let g : a - suc b ≡ n = omega arith in g))
 
 pub sub-add : (a b c d : ℕ) → sub_ℕ a b +ℤ sub_ℕ c d ≡ sub_ℕ (a + c) (b + d)
 sub-add a b c d =

@@ -3,9 +3,9 @@ use mathlib.Core.Path.{◌≡◌, refl, sym, ap, ◌∙◌, subst}
 use mathlib.Core.Logic.{⊎_elim}
 use mathlib.Core.Bool.{Bool, true, false, ◌&&◌}
 use Prim.Native.Nat.{ℕ, ◌+◌, ◌*◌, ◌/◌, ◌%◌, ◌≤◌, ◌<◌}
-use native.Mathlib.Nat.{add-zero, div-add-mod, div-eq_of_eq-mul_right, mul-mod_right, mul-le-mul, not-le_of_lt, lt_of_le_of_lt}
+use native.Mathlib.Nat.{add-zero, div-add-mod, div-eq_of_eq-mul_right, mul-mod_right, mul-le-mul, not-le_of_lt}
 use native.Mathlib.Omega.{arith}
-use lib.Dec.{eqb, lit<}
+use lib.Dec.{eqb}
 use borrow.Author.Tests.{eqb-true, eqb-false, eq-eqb, ne_eqb}
 use Rattle.response.proofs.PassLaws.{lt-or-le}
 
@@ -22,10 +22,6 @@ is-product n c m h = go (eqb (n / c) m) (eqb (n % c) 0) refl refl
 -- a side whose square is the length of a list is below 2^32
 pub side-small : (n side : ℕ) → n < 18446744073709551616 → n ≡ side * side → side < 4294967296
 side-small n side h e = ⊎_elim (λ l. l) (λ l. absurd (not-le_of_lt h (subst (λ (z : ℕ). 18446744073709551616 ≤ z) (sym e) (mul-le-mul l l)))) (lt-or-le side 4294967296)
-
--- so that no cell of it wraps
-pub product-fits : (side line : ℕ) → side < 4294967296 → line < side → line * side < 18446744069414584321
-product-fits side line h l = lt_of_le_of_lt (mul-le-mul (let a : line ≤ 4294967294 = omega arith in a) (let b : side ≤ 4294967295 = omega arith in b)) (lit< tt)
 
 -- both numbers of a cell stand in a grid of two a cell
 pub doubled : {cell tile grid : ℕ} → cell < tile → grid ≡ 2 * tile → 2 * cell + 1 < grid

@@ -1,5 +1,5 @@
 -- The public call: the tests of docs/RULES.md in their order, the answer, and what it leaves in the lent grid, two numbers a cell. No refusal writes.
-use Rattle.std.specs.Prelude.{◌≡◌, Bool, true, false, not, cond, List, ℕ, zero, suc, ◌+◌, ◌*◌, eqb, ℤ, pos, negsuc, ◌-ℤ◌, length, set, Float}
+use Rattle.std.specs.Prelude.{◌≡◌, Bool, true, false, not, cond, List, ℕ, zero, suc, ◌+◌, ◌*◌, eqb, ℤ, pos, negsuc, ◌-ℤ◌, length, set, Result, Ok, Err, Float}
 use Rattle.std.specs.Float.{fin, binary32}
 use Rattle.std.specs.Float.Ieee.{of_int, add, mul}
 use Rattle.shapes.specs.Turns.{turns}
@@ -7,16 +7,14 @@ use Rattle.shapes.specs.Numbers.{entry}
 use Rattle.refusals.specs.declared.Refusal.{Refusal}
 use Rattle.refusals.specs.declared.Refusal.TheVariants.{BadImage, BadRing, BadOut}
 use Rattle.refusals.specs.Numbers as Refusals
-use Rattle.gradient.specs.declared.Gradient.{Gradient}
-use Rattle.gradient.specs.declared.Gradient.TheVariants.{Added, Refused}
 use Rattle.gradient.specs.declared.Scale.{Scale}
 use Rattle.gradient.specs.Stencil.{stencil_stays, cell_of, ring_of, cross_of}
 use Rattle.gradient.specs.Coefficients.{mean_sign, coefficient}
 
 -- the number of each case; 0 is done
-abbrev pub number_of : Gradient → ℕ
-number_of Added = 0
-number_of (Refused r) = Refusals.number_of r
+abbrev pub number_of : Result Unit Refusal → ℕ
+number_of (Ok _) = 0
+number_of (Err r) = Refusals.number_of r
 
 -- what is asked: a tile, a ring, a place on it, and the two scales
 pub record Asked : Type 0 where
@@ -72,26 +70,19 @@ grid_after a grid =
     cond (is_none (mean_sign (ring_at a) (cross_at a))) (turns 16 (ring_turn a) grid) (turns 5 (cross_turn a) (turns 16 (ring_turn a) grid))
 
 -- ---- the call
-pub data Way : Type 0 where
-  refused : Refusal → Way
-  added : Way
-
-unfoldable pub way_of : Asked → ℕ → Way
+-- the three tests in their order
+unfoldable pub way_of : Asked → ℕ → Result Unit Refusal
 unfolding stencil_stays
 way_of a room =
-    cond (not (eqb (length a.tile) (a.side * a.side))) (refused BadImage)
-    (cond (not (stencil_stays a.side a.ring a.x a.y)) (refused BadRing)
-    (cond (not (eqb room (2 * length a.tile))) (refused BadOut)
-    added))
+    cond (not (eqb (length a.tile) (a.side * a.side))) (Err BadImage)
+    (cond (not (stencil_stays a.side a.ring a.x a.y)) (Err BadRing)
+    (cond (not (eqb room (2 * length a.tile))) (Err BadOut)
+    (Ok tt)))
 
-abbrev pub answer_of : Way → Gradient
-answer_of (refused r) = Refused r
-answer_of added = Added
+abbrev pub grid_left : Asked → List Float → Result Unit Refusal → List Float
+grid_left a grid (Err r) = grid
+grid_left a grid (Ok _) = grid_after a grid
 
-abbrev pub grid_left : Asked → List Float → Way → List Float
-grid_left a grid (refused r) = grid
-grid_left a grid added = grid_after a grid
-
-pub record Done (a : Asked) (grid : List Float) (answer : Gradient) (grid' : List Float) : Type 0 where
-  pub answers : answer ≡ answer_of (way_of a (length grid))
+pub record Done (a : Asked) (grid : List Float) (answer : Result Unit Refusal) (grid' : List Float) : Type 0 where
+  pub answers : answer ≡ way_of a (length grid)
   pub leaves : grid' ≡ grid_left a grid (way_of a (length grid))

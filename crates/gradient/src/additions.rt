@@ -1,8 +1,5 @@
 // What is added to the grid, one place after another: two of them may be the same cell.
-ghost use Rattle.std.specs.Prelude.{◌≡◌, ◌+◌, ◌*◌, ◌≤◌, ◌<◌, length};
-ghost use Rattle.std.proofs.Math.IntN.{sub_ℕ};
-ghost use Rattle.std.specs.Float.{binary32};
-ghost use Rattle.std.specs.Float.Ieee.{of_int};
+ghost use Rattle.std.specs.Prelude.{◌≡◌, ◌+◌, ◌*◌, ◌<◌, pos, negsuc, ◌≤ℤ◌, length};
 ghost use Rattle.shapes.specs.Turns.{turns};
 ghost use Rattle.pixel_response.specs.Steps.{listed};
 ghost use Rattle.gradient.specs.Call.{added_at};
@@ -12,13 +9,14 @@ use crate::{Scale, signs};
 
 // The ring's places in their order, and where the means are not equal the cross's.
 pub fn add_all(tile: &[u8], cells: &[usize; 21], scale: Scale, grid: &mut [f32])
-    requires { Within cells.now (length tile.now) × Grid cells.now (length grid.old) }
+    requires on_tile { Within cells.now (length tile.now) }
+    requires in_grid { Grid cells.now (length grid.old) }
     ensures { grid.new ≡ all_added tile.now (listed cells.now) scale grid.old }
 {
     let samples = samples_of(tile, cells);
     let mean = signs::mean_sign(&samples);
     add_ring(&samples, mean, cells, scale, grid);
-    if mean != 1 {
+    if mean != 0 {
         add_cross(mean, cells, scale, grid);
     }
 }
@@ -28,45 +26,36 @@ fn samples_of(tile: &[u8], cells: &[usize; 21]) -> [u8; 21]
     ensures { Sampled tile.now cells.now result }
 {
     let mut samples = [0u8; 21];
-    let mut k = 0;
-    while k < 21 {
-        let cell = cells[k];
-        samples[k] = tile[cell];
-        k += 1;
+    for k in 0..21 {
+        samples[k] = tile[cells[k]];
     }
     samples
 }
 
-fn add_ring(samples: &[u8; 21], mean: u8, cells: &[usize; 21], scale: Scale, grid: &mut [f32])
-    requires { (mean ≤ 2) × Grid cells.now (length grid.old) }
+#[tactic(auto, unfolding(shapes::specs::Turns::turns))]
+fn add_ring(samples: &[u8; 21], mean: i32, cells: &[usize; 21], scale: Scale, grid: &mut [f32])
+    requires low { negsuc 0 ≤ℤ mean }
+    requires high { mean ≤ℤ pos 1 }
+    requires in_grid { Grid cells.now (length grid.old) }
     ensures { grid.new ≡ turns 16 (ring_step (listed samples.now) mean (listed cells.now) scale) grid.old }
 {
-    let mut k = 0;
-    while k < 16 {
-        let c = whole(signs::ring_coefficient(samples, mean, k));
-        add_at(grid, cells[k], scale, c);
-        k += 1;
+    for k in 0..16 {
+        let c = signs::ring_coefficient(samples, mean, k);
+        add_at(grid, cells[k], scale, c as f32);
     }
 }
 
-fn add_cross(mean: u8, cells: &[usize; 21], scale: Scale, grid: &mut [f32])
-    requires { (mean ≤ 2) × Grid cells.now (length grid.old) }
+#[tactic(auto, unfolding(shapes::specs::Turns::turns))]
+fn add_cross(mean: i32, cells: &[usize; 21], scale: Scale, grid: &mut [f32])
+    requires low { negsuc 0 ≤ℤ mean }
+    requires high { mean ≤ℤ pos 1 }
+    requires in_grid { Grid cells.now (length grid.old) }
     ensures { grid.new ≡ turns 5 (cross_step mean (listed cells.now) scale) grid.old }
 {
-    let c = 3.2 * whole(mean + 2);
-    let mut k = 0;
-    while k < 5 {
+    let c = 3.2 * mean as f32;
+    for k in 0..5 {
         add_at(grid, cells[16 + k], scale, c);
-        k += 1;
     }
-}
-
-// n - 3, exactly.
-fn whole(n: u8) -> f32
-    requires { n ≤ 6 }
-    ensures { result ≡ of_int binary32 (sub_ℕ n 3) }
-{
-    n as f32 - 3.0
 }
 
 fn add_at(grid: &mut [f32], cell: usize, scale: Scale, c: f32)

@@ -10,15 +10,8 @@ ghost use Rattle.gradient.specs.Call.{asked_of, Done};
 
 use refusals::Refusal;
 
-// How the call ended.
-#[derive(Drop)]
-pub enum Gradient {
-    Added,
-    Refused(Refusal),
-}
-
 // The two numbers by which a gradient is scaled.
-#[derive(Clone, Copy)]
+#[derive(Clone, Copy, Debug, PartialEq)]
 pub struct Scale {
     pub x: f32,
     pub y: f32,
@@ -34,19 +27,18 @@ pub fn add_gradient(
     y: usize,
     scale: Scale,
     grid: &mut [f32],
-) -> Gradient
+) -> Result<(), Refusal>
     ensures { Done (asked_of tile.now side ring.now x y scale) grid.old result grid.new }
 {
     if !tests::is_square(tile.len(), side) {
-        return Gradient::Refused(Refusal::BadImage);
+        return Err(Refusal::BadImage);
     }
-    let mut cells = [0usize; 21];
-    if !stencil::cells_of(ring, side, x, y, &mut cells) {
-        return Gradient::Refused(Refusal::BadRing);
-    }
+    let Some(cells) = stencil::cells_of(ring, side, x, y) else {
+        return Err(Refusal::BadRing);
+    };
     if !tests::is_double(grid.len(), tile.len()) {
-        return Gradient::Refused(Refusal::BadOut);
+        return Err(Refusal::BadOut);
     }
     additions::add_all(tile, &cells, scale, grid);
-    Gradient::Added
+    Ok(())
 }

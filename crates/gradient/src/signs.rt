@@ -1,29 +1,39 @@
-// Signs of differences, unsigned: 1 is added to each.
-ghost use Rattle.std.specs.Prelude.{◌≡◌, ◌+◌, ◌*◌, ◌≤◌, ◌<◌};
+// The signs of the differences, and the whole coefficients.
+ghost use Rattle.std.specs.Prelude.{◌≡◌, ◌+◌, ◌*◌, ◌≤◌, ◌<◌, pos, negsuc, ◌-ℤ◌, ◌≤ℤ◌};
 ghost use Rattle.pixel_response.specs.Samples.{total};
 ghost use Rattle.pixel_response.specs.Steps.{listed};
-ghost use Rattle.gradient.specs.Steps.{raised_sign, turned, square_raised, edge_raised, mean_raised, coefficient_raised};
+ghost use Rattle.gradient.specs.Coefficients.{sign_of, square_sign, edge_sign, mean_sign, minus_where, coefficient};
 
 // The sign of 5 · ring sum - 16 · cross sum.
-pub fn mean_sign(samples: &[u8; 21]) -> u8
-    ensures { (result ≡ mean_raised (listed samples.now)) × (result ≤ 2) }
+#[tactic(auto, unfolding(crate::specs::Coefficients::mean_sign, pixel_response::specs::Samples::ring_sum, pixel_response::specs::Samples::cross_sum))]
+pub fn mean_sign(samples: &[u8; 21]) -> i32
+    ensures is { result ≡ mean_sign (listed samples.now) (λ k. listed samples.now (16 + k)) }
+    ensures low { negsuc 0 ≤ℤ result }
+    ensures high { result ≤ℤ pos 1 }
 {
     sign(5 * sum(samples, 0, 16), 16 * sum(samples, 16, 5))
 }
 
-// The coefficient of ring place k less the sign of the means, 3 added.
-pub fn ring_coefficient(samples: &[u8; 21], mean: u8, k: usize) -> u8
-    requires { (mean ≤ 2) × (k < 16) }
-    ensures { (result ≡ coefficient_raised (listed samples.now) mean k) × (result ≤ 6) }
+// The coefficient of ring place k, less the sign of the means.
+pub fn ring_coefficient(samples: &[u8; 21], mean: i32, k: usize) -> i32
+    requires low { negsuc 0 ≤ℤ mean }
+    requires high { mean ≤ℤ pos 1 }
+    requires on_ring { k < 16 }
+    ensures is { result ≡ coefficient (listed samples.now) k -ℤ mean }
+    ensures low { negsuc 2 ≤ℤ result }
+    ensures high { result ≤ℤ pos 3 }
 {
-    let square = turned(square_sign(samples, k % 4), k / 4 % 2 == 1);
-    let edge = turned(edge_sign(samples, k % 8), k < 8);
-    square + edge + (2 - mean)
+    let square = minus_where(k / 4 % 2 == 1, square_sign(samples, k % 4));
+    let edge = minus_where(k < 8, edge_sign(samples, k % 8));
+    square + edge - mean
 }
 
-fn square_sign(samples: &[u8; 21], q: usize) -> u8
+#[tactic(auto, unfolding(crate::specs::Coefficients::square_sign))]
+fn square_sign(samples: &[u8; 21], q: usize) -> i32
     requires { q < 4 }
-    ensures { (result ≡ square_raised (listed samples.now) q) × (result ≤ 2) }
+    ensures is { result ≡ square_sign (listed samples.now) q }
+    ensures low { negsuc 0 ≤ℤ result }
+    ensures high { result ≤ℤ pos 1 }
 {
     sign(
         both(samples[q], samples[q + 8]),
@@ -31,40 +41,34 @@ fn square_sign(samples: &[u8; 21], q: usize) -> u8
     )
 }
 
-fn edge_sign(samples: &[u8; 21], e: usize) -> u8
+#[tactic(auto, unfolding(crate::specs::Coefficients::edge_sign))]
+fn edge_sign(samples: &[u8; 21], e: usize) -> i32
     requires { e < 8 }
-    ensures { (result ≡ edge_raised (listed samples.now) e) × (result ≤ 2) }
+    ensures is { result ≡ edge_sign (listed samples.now) e }
+    ensures low { negsuc 0 ≤ℤ result }
+    ensures high { result ≤ℤ pos 1 }
 {
-    sign(wide(samples[e]), wide(samples[e + 8]))
+    sign(samples[e] as u16, samples[e + 8] as u16)
 }
 
-fn sign(a: u16, b: u16) -> u8
-    ensures { (result ≡ raised_sign a b) × (result ≤ 2) }
+// The sign of a - b.
+fn sign(a: u16, b: u16) -> i32
+    ensures is { result ≡ sign_of a b }
+    ensures low { negsuc 0 ≤ℤ result }
+    ensures high { result ≤ℤ pos 1 }
 {
-    if b < a {
-        return 2;
-    }
-    if a < b {
-        return 0;
-    }
-    1
+    (a as i32 - b as i32).signum()
 }
 
-// The sign, or minus it.
-fn turned(sign: u8, minus: bool) -> u8
-    requires { sign ≤ 2 }
-    ensures { (result ≡ turned minus sign) × (result ≤ 2) }
+// Minus the sign, or the sign itself.
+fn minus_where(minus: bool, sign: i32) -> i32
+    requires low { negsuc 0 ≤ℤ sign }
+    requires high { sign ≤ℤ pos 1 }
+    ensures is { result ≡ minus_where minus sign }
+    ensures low { negsuc 0 ≤ℤ result }
+    ensures high { result ≤ℤ pos 1 }
 {
-    if minus {
-        return 2 - sign;
-    }
-    sign
-}
-
-fn wide(a: u8) -> u16
-    ensures { result ≡ a }
-{
-    a as u16
+    if minus { -sign } else { sign }
 }
 
 fn both(a: u8, b: u8) -> u16
@@ -76,20 +80,12 @@ fn both(a: u8, b: u8) -> u16
 // The sum of n samples from one on.
 fn sum(samples: &[u8; 21], from: usize, n: usize) -> u16
     requires { from + n ≤ 21 }
-    ensures { (result ≡ total n (λ k. listed samples.now (from + k))) × (result ≤ 255 * n) }
+    ensures is { result ≡ total n (λ k. listed samples.now (from + k)) }
+    ensures most { result ≤ 255 * n }
 {
-    let mut sum: u16 = 0;
-    let mut k = 0;
-    while k < n {
-        sum = more(sum, samples[from + k]);
-        k += 1;
+    let mut sum = 0;
+    for k in 0..n {
+        sum = sum + samples[from + k] as u16;
     }
     sum
-}
-
-fn more(sum: u16, sample: u8) -> u16
-    requires { sum ≤ 10000 }
-    ensures { (result ≡ sum + sample) × (result ≤ sum + 255) }
-{
-    sum + sample as u16
 }

@@ -1,63 +1,40 @@
-// The 21 cells that the response at a cell of a tile reads. Components are unsigned here, 2^31 added to each.
-ghost use Rattle.std.specs.Prelude.{◌≡◌, ◌<◌, length};
-ghost use Rattle.gradient.specs.Stencil.{component};
-ghost use Rattle.gradient.specs.Steps.{Offset, moved_by, Found};
+// The 21 cells that the response at a cell of a tile reads.
+ghost use Rattle.std.specs.Prelude.{◌≡◌, ℕ, ◌*◌, ◌<◌, get_or, is_some, IfSome};
+ghost use Rattle.gradient.specs.Stencil.{component, stencil_stays, cell_of};
+ghost use Rattle.gradient.specs.Steps.{moved_by, Within};
 
 // The cross's pairs: the cell itself, above, below, right, left.
-const CROSS: [usize; 10] = [
-    2147483648, 2147483648, 2147483648, 2147483647, 2147483648, 2147483649, 2147483649, 2147483648,
-    2147483647, 2147483648,
-];
+const CROSS: [i32; 10] = [0, 0, 0, -1, 0, 1, 1, 0, -1, 0];
 
-// The cells of the 21 places, as far as they lie on the tile; whether all do.
-pub fn cells_of(ring: &[i32], side: usize, x: usize, y: usize, cells: &mut [usize; 21]) -> bool
-    requires { (length ring.now ≡ 32) × (length cells.old ≡ 21) × (side < 4294967296) }
-    ensures { Found side ring.now x y result cells.new }
+// The cells of the 21 places, where all lie on the tile.
+pub fn cells_of(ring: &[i32; 32], side: usize, x: usize, y: usize) -> Option<[usize; 21]>
+    requires { side < 4294967296 }
+    ensures decides { is_some result ≡ stencil_stays side ring.now x y }
+    ensures are { IfSome result (λ cells. (k : ℕ) → k < 21 → get_or cells k 0 ≡ cell_of side ring.now x y k) }
+    ensures within { IfSome result (λ cells. Within cells (side * side)) }
 {
-    if (side <= x) | (side <= y) {
-        return false;
-    }
-    let mut k = 0;
-    while k < 21 {
-        let column = moved_by(x, offset_at(ring, 2 * k), side);
-        let line = moved_by(y, offset_at(ring, 2 * k + 1), side);
-        if (side <= column) | (side <= line) {
-            return false;
-        }
+    let mut cells = [0usize; 21];
+    for k in 0..21 {
+        let column = moved_by(x, component(ring, 2 * k), side)?;
+        let line = moved_by(y, component(ring, 2 * k + 1), side)?;
         cells[k] = line * side + column;
-        k += 1;
     }
-    true
+    Some(cells)
 }
 
 // Component i of the 21 pairs.
-fn offset_at(ring: &[i32], i: usize) -> usize
-    requires { (length ring.now ≡ 32) × (i < 42) }
-    ensures { Offset (component ring.now i) result }
+#[tactic(auto, using(crate::proofs::StencilLaws::ring_component, crate::proofs::StencilLaws::cross_component))]
+fn component(ring: &[i32; 32], i: usize) -> i32
+    requires { i < 42 }
+    ensures { result ≡ component ring.now i }
 {
-    if i < 32 {
-        return offset_of(ring[i]);
-    }
-    CROSS[i - 32]
+    if i < 32 { ring[i] } else { CROSS[i - 32] }
 }
 
-fn offset_of(z: i32) -> usize
-    ensures { Offset z result }
+// A coordinate moved by a component, where that stays on the tile.
+fn moved_by(at: usize, by: i32, side: usize) -> Option<usize>
+    ensures { result ≡ moved_by at by side }
 {
-    (z as i64 + 2147483648) as usize
-}
-
-// A coordinate moved by a component, or the side where that leaves the tile.
-fn moved_by(at: usize, offset: usize, side: usize) -> usize
-    requires { (at < side) × (side < 4294967296) × (offset < 4294967296) }
-    ensures { result ≡ moved_by at offset side }
-{
-    let to = at + offset;
-    if to < 2147483648 {
-        return side;
-    }
-    if side <= to - 2147483648 {
-        return side;
-    }
-    to - 2147483648
+    let to = at.checked_add_signed(by as isize)?;
+    if to < side { Some(to) } else { None }
 }

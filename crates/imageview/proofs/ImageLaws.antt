@@ -14,7 +14,7 @@ use Rattle.shapes.specs.Tests.{every}
 use Rattle.shapes.proofs.TestLaws.{every-at, every-same}
 use Rattle.imageview.specs.Image.{Image, samples_of, image_of, sizes_of, pixel, is_size, is_pitch, sizes_fit, is_image, in_range, most, most_pitch, most_sample}
 use Rattle.imageview.specs.declared.Sizes.{Sizes}
-use Rattle.imageview.specs.Steps.{Sized, Tested, Rows, row_low, rows_low}
+use Rattle.imageview.specs.Steps.{Sized, Tested, Rows, LowPixels, IsTested, row_low, rows_low}
 
 -- ---- the samples of the depth
 pub deep-samples : (bytes words : List ℕ) {deep : Bool} → deep ≡ true → samples_of bytes words deep ≡ words
@@ -127,7 +127,7 @@ low img r d x y h l =
     let all = sym (ap (λ (b : Bool). cond b (every img.height (λ v. every img.width (λ u. leb (pixel img u v) most_sample))) true) d) ∙ r in
     leb-true (pixel img x y) most_sample (every-at (λ u. leb (pixel img u y) most_sample) img.width x h (every-at (λ v. every img.width (λ u. leb (pixel img u v) most_sample)) img.height y l all))
 
-row-whole : (img : Image) → Tested img → (y : ℕ) → y < img.height → y * img.pitch + img.width ≤ length img.samples
+pub row-whole : (img : Image) → Tested img → (y : ℕ) → y < img.height → y * img.pitch + img.width ≤ length img.samples
 row-whole img t y h = omega (arith, index img t 0 y img.width (omega arith) h)
 
 -- ---- the test of the samples by the depth, and the rows of a deep image
@@ -150,3 +150,34 @@ module _ (bytes words : List ℕ) (sizes : Sizes) where
         low = (t.sized.height-most, t.pitch-most);
         reach = λ y h. subst (λ (l : List ℕ). y * sizes.pitch + sizes.width ≤ length l) (deep-samples bytes words e) (row-whole image t y h);
       }
+
+-- ---- the test of the samples row by row, of either width
+-- a row as a part of the samples, and the same of the samples' numbers
+pub row-of-levels : {S : Type 0} (levels : List S → List ℕ) → ((n : ℕ) (l : List S) → levels (take n l) ≡ take n (levels l)) → ((n : ℕ) (l : List S) → levels (drop n l) ≡ drop n (levels l))
+    → (l : List S) (a n : ℕ) → levels (take n (drop a l)) ≡ take n (drop a (levels l))
+row-of-levels levels taken dropped l a n = taken n (drop a l) ∙ ap (take n) (dropped a l)
+
+pub low_row : (l : List ℕ) (start n : ℕ) → start + n ≤ length l → row_low (take n (drop start l)) (length (take n (drop start l))) ≡ every n (λ x. leb (get_or l (start + x) 0) most_sample)
+low_row l start n h = subst (λ (m : ℕ). row_low (take m (drop start l)) (length (take m (drop start l))) ≡ every n (λ x. leb (get_or l (start + x) 0) most_sample)) (cut start n) (part_low l start n h)
+
+module _ (img : Image) where
+  abbrev rows : Bool
+  rows = rows_low img.samples img.width img.pitch img.height
+
+  -- the rows' test is the image's where they are all low in an image of bytes
+  pub rows-range : (low : Bool) → low ≡ rows → (img.deep ≡ false → low ≡ true) → low ≡ in_range img
+  unfolding in_range pixel
+  rows-range low e bytes = go img.deep bytes
+    where
+      go : (deep : Bool) → (deep ≡ false → low ≡ true) → low ≡ cond deep rows true
+      go true bytes = e
+      go false bytes = bytes refl
+
+  pub rows-low : rows ≡ true → LowPixels img
+  unfolding pixel
+  rows-low r x y h l =
+      leb-true (pixel img x y) most_sample (every-at (λ u. leb (pixel img u y) most_sample) img.width x h (every-at (λ v. every img.width (λ u. leb (pixel img u v) most_sample)) img.height y l r))
+
+-- an image that passed both tests
+pub is-tested : (img : Image) → is_image img ≡ true → in_range img ≡ true → LowPixels img → IsTested img
+is-tested img i r l = record { image = i; range = r; stands = tested img (passed i); low = l }

@@ -1,7 +1,7 @@
 -- What the steps below a call may lean on once the image has passed its test, and the test of its samples by rows.
-use Rattle.std.specs.Prelude.{◌≡◌, Bool, List, ℕ, ◌+◌, ◌*◌, ◌≤◌, ◌<◌, leb, length, get_or}
+use Rattle.std.specs.Prelude.{◌≡◌, Bool, true, List, ℕ, ◌+◌, ◌*◌, ◌≤◌, ◌<◌, leb, length, get_or}
 use Rattle.shapes.specs.Tests.{every}
-use Rattle.imageview.specs.Image.{Image, most, most_pitch, most_sample}
+use Rattle.imageview.specs.Image.{Image, pixel, is_image, in_range, most, most_pitch, most_sample}
 
 -- sizes that passed their test
 pub record Sized (width height : ℕ) : Type 0 where
@@ -26,3 +26,15 @@ row_low l n = every n (λ x. leb (get_or l x 0) most_sample)
 
 abbrev pub rows_low : List ℕ → ℕ → ℕ → ℕ → Bool
 rows_low l width pitch height = every height (λ y. every width (λ x. leb (get_or l (y * pitch + x) 0) most_sample))
+
+-- ---- an image whose tests passed
+-- no pixel is above the greatest sample, of bytes neither
+abbrev pub LowPixels : Image → Type 0
+LowPixels img = (x y : ℕ) → x < img.width → y < img.height → pixel img x y ≤ most_sample
+
+-- its sizes, its samples, and what the steps below a call lean on
+pub record IsTested (img : Image) : Type 0 where
+  pub image : is_image img ≡ true
+  pub range : in_range img ≡ true
+  pub stands : Tested img
+  pub low : LowPixels img

@@ -7,6 +7,12 @@ ghost use Rattle.imageview.specs.Image.{image_of, samples_of, pixel, is_size, is
 ghost use Rattle.imageview.specs.Steps.{Rows, row_low, rows_low};
 ghost use Rattle.imageview.specs.Patch.{inside};
 
+mod images;
+mod samples;
+
+pub use images::{Image, ImageView};
+pub use samples::Sample;
+
 // The sizes that go with an image's samples; the pitch is how far each row begins from the one before it. The samples of a deep image are words, of which twelve bits are used.
 #[derive(Clone, Copy)]
 pub struct Sizes {

@@ -78,7 +78,7 @@ fn answer(
     merge_text::read_numbers(bytes, &mut list[..n]);
     match merge::merge_corners_simple(&mut list[..n], 2.0, heads, links) {
         Merge::Merged(count) => print_merged(rt, list, count),
-        Merge::Refused(refusal) => print_refused(rt, refusals::number(refusal) as u64),
+        Merge::Refused(refusal) => print_refused(rt, u32::from(refusal) as u64),
     }
 }
 

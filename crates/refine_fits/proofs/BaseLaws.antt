@@ -1,6 +1,5 @@
 -- Laws of the fits about two bases in one flat list: four fits that are written stand where they are looked for, and the first base's stay where the last one's are put.
 use mathlib.Core.Path.{◌≡◌, refl, sym, ap, ◌∙◌, subst}
-use mathlib.Core.Bool.{Bool, true, false}
 use mathlib.Core.List.{List, [], ◌∷◌}
 use Prim.Native.Nat.{ℕ, ◌+◌, ◌-◌, ◌*◌, ◌≤◌, ◌<◌}
 use native.Mathlib.Nat.{add-mul, one-mul, mul-le-mul}
@@ -15,17 +14,13 @@ use Rattle.imageview.proofs.ImageLaws.{index}
 use Rattle.refine_formulas.specs.declared.Corners.{Corners}
 use Rattle.refine_patch.specs.StepsFrom.{coefficient_from, four_written}
 use Rattle.refine_patch.specs.declared.Firsts.{Firsts}
-use Rattle.refine_patch.specs.StepsFour.{lane_of, sum_in, PatchesInside}
+use Rattle.refine_patch.specs.StepsFour.{lane_of, sum_in, PatchesInside, side_by_side}
 use Rattle.refine_patch.proofs.FourLaws.{written-length, written-before, written-here}
 use Rattle.refine_patch.proofs.PatchLaws.{coefficient-about}
-use Rattle.refine_fits.specs.declared.Bases.{Bases}
-use Rattle.refine_fits.specs.declared.Ready.{Ready}
-use Rattle.refine_fits.specs.declared.Around.{Around}
 use Rattle.refine_fits.specs.Fit.{sample_of, coefficient, coefficients}
 use Rattle.refine_fits.specs.Windows.{Fits, lacking, four, corners_at}
 use Rattle.refine_fits.specs.StepsAdding.{PatchWithin, FourWithin}
-use Rattle.refine_fits.specs.StepsCache.{Surrounds}
-use Rattle.refine_fits.specs.StepsBases.{coefs_in, corners_in, side_by_side, first_place, firsts_about, Laid, Held, NoBases, fits_of, Stands, Further, Prepares}
+use Rattle.refine_fits.specs.StepsBases.{coefs_in, first_place, firsts_about, Laid}
 use Rattle.refine_fits.proofs.CacheLaws.{five, five_of, all-five, room00, room10, room01, room11, has-four}
 
 -- ---- four fits that are written
@@ -122,19 +117,16 @@ module _ (img : Image) (columns : List Float) (radius x y : ℕ) where
       (lane-from (x + 1) (y + 1) at.d (λ c. from c 3) (λ i. refl) (ap (λ (n : ℕ). n + 1) (below-place w.above x) ∙ right-place w.left (y + 1)))
 
   -- ---- by way of the kept fits
-  pub laid_kept : (old flat : List Float) (fits : Around) → FourWithin img radius x y → Surrounds img columns radius x y fits → flat ≡ four_written (sum_in (side_by_side fits.corners)) 20 old → Laid img columns radius x y 20 old flat
-  laid_kept old flat fits w s e =
+  pub laid_kept : (old flat : List Float) (c : Corners) → FourWithin img radius x y → corners_at img columns radius (pos x) (pos y) ≡ four c → flat ≡ four_written (sum_in (side_by_side c)) 20 old → Laid img columns radius x y 20 old flat
+  laid_kept old flat c w is e =
       laid 20 old flat (sum_in (side_by_side c)) w (omega arith) e
       (ap five_of (ap (λ (v : Corners). v.c00) same) ∙ all-five img columns radius x y)
       (ap five_of (ap (λ (v : Corners). v.c10) same) ∙ all-five img columns radius (x + 1) y)
       (ap five_of (ap (λ (v : Corners). v.c01) same) ∙ all-five img columns radius x (y + 1))
       (ap five_of (ap (λ (v : Corners). v.c11) same) ∙ all-five img columns radius (x + 1) (y + 1))
     where
-      c : Corners
-      c = fits.corners
-
       same : c ≡ record { c00 = about x y; c10 = about (x + 1) y; c01 = about x (y + 1); c11 = about (x + 1) (y + 1) }
-      same = ap (corners_of c) (sym s.is ∙ has-four img columns radius x y w)
+      same = ap (corners_of c) (sym is ∙ has-four img columns radius x y w)
 
 -- ---- where the four patches lie
 pub place-most : (pitch radius y : ℕ) → y ≤ 4096 → pitch ≤ 8192 → (y - radius) * pitch ≤ 33554432
@@ -178,57 +170,3 @@ inside-four img radius x y at w e =
 
 pub firsts-are : (img : Image) (columns : List Float) (radius x y at to : ℕ) (old : List Float) → at ≡ first_place img.pitch radius x y → four_written (λ c l. coefficient_from img.samples img.pitch columns radius (lane_of (from at img.pitch) l) c) to old ≡ four_written (λ c l. coefficient_from img.samples img.pitch columns radius (lane_of (firsts_about img.pitch radius x y) l) c) to old
 firsts-are img columns radius x y at to old e = ap (λ (n : ℕ). four_written (λ c l. coefficient_from img.samples img.pitch columns radius (lane_of (from n img.pitch) l) c) to old) e
-
--- ---- the two bases
-pub no-base : (bases : Bases) → bases.x0 ≡ 8192 → bases.x1 ≡ 8192 → NoBases bases
-no-base bases p q =
-    record { held = λ img columns radius flat h. record { first = λ l. absurd (none (subst (λ (n : ℕ). n < 8192) p l)); last = λ l. absurd (none (subst (λ (n : ℕ). n < 8192) q l)); long = h } }
-  where
-    none : 8192 < 8192 → ⊥
-    none h = omega arith
-
-module _ (img : Image) (columns : List Float) (radius x y : ℕ) (bases : Bases) (before after : List Float) where
-  -- the first base, where there is no last one
-  pub held_first : Laid img columns radius x y 0 before after → 8192 ≤ bases.x1 → Held img columns radius (record { x0 = x; y0 = y; x1 = bases.x1; y1 = bases.y1 }) after
-  held_first l h = record { first = λ _. l.is; last = λ k. absurd (let z : ⊥ = omega arith in z); long = l.long }
-
-  pub held-last : Held img columns radius bases before → Laid img columns radius x y 20 before after → Held img columns radius (record { x0 = bases.x0; y0 = bases.y0; x1 = x; y1 = y }) after
-  held-last h l = record { first = λ k. h.first k ∙ ap four (sym (l.first (omega arith))); last = λ _. l.is; long = l.long }
-
--- a base that is there
-pub again : (img : Image) (columns : List Float) (radius x y u v : ℕ) (c : Corners) → FourWithin img radius x y → u ≡ x → v ≡ y → (u < 8192 → corners_at img columns radius (pos u) (pos v) ≡ four c) → corners_at img columns radius (pos x) (pos y) ≡ four c
-again img columns radius x y u v c w p q h =
-    ap (λ (n : ℕ). corners_at img columns radius (pos n) (pos y)) (sym p)
-    ∙ ap (λ (n : ℕ). corners_at img columns radius (pos u) (pos n)) (sym q)
-    ∙ h (let k : u < 8192 = omega (arith, w.right, w.sound.image.sized.width-most) in k)
-
--- ---- a base made ready
-abbrev differs : Bool → Type 0
-differs true = Unit
-differs false = ⊥
-
-module _ (img : Image) (columns : List Float) (radius x y : ℕ) where
-  pub prepared-there : (bases : Bases) (room : Bool) (to : ℕ) (flat : List Float) (r : Ready) → r ≡ record { bases = bases; room = room; further = false; to = to } → Stands img columns radius x y room to bases flat → Prepares img columns radius x y r flat
-  prepared-there bases room to flat r e s = subst (λ (v : Ready). Prepares img columns radius x y v flat) (sym e) (record { there = λ _. s; further = λ h. absurd (subst differs (sym h) tt) })
-
-  pub prepared-further : (bases after : Bases) (flat : List Float) → FourWithin img radius x y → Held img columns radius bases flat → after ≡ record { x0 = bases.x0; y0 = bases.y0; x1 = x; y1 = y } → Prepares img columns radius x y (record { bases = after; room = true; further = true; to = 20 }) flat
-  prepared-further bases after flat w h e =
-      record {
-        there = λ q. absurd (subst differs q tt);
-        further = λ _. record {
-          within = w;
-          room = refl;
-          to = refl;
-          long = h.long;
-          holds = λ next l. subst (λ (v : Bases). Held img columns radius v next) (sym e) (held-last img columns radius x y bases flat next h l);
-        };
-      }
-
-  -- a further base, once its fits are laid
-  pub laid-further : (r : Ready) (flat after : List Float) → Further img columns radius x y r flat → Laid img columns radius x y 20 flat after → Stands img columns radius x y r.room r.to r.bases after
-  laid-further r flat after f l =
-      record {
-        is = l.is ∙ ap (λ (n : ℕ). four (corners_in after n)) (sym f.to) ∙ ap (λ (b : Bool). fits_of b (corners_in after r.to)) (sym f.room);
-        held = f.holds after l;
-        low = omega (arith, f.to);
-      }

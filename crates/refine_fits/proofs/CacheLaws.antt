@@ -3,7 +3,7 @@ use mathlib.Core.Path.{◌≡◌, refl, sym, ap, ◌∙◌, subst}
 use mathlib.Core.Logic.{◌⊎◌, ⊎_elim, inl, inr}
 use mathlib.Core.List.{List, [], ◌∷◌}
 use Prim.Native.Nat.{ℕ, ◌+◌, ◌*◌, ◌/◌, ◌%◌, ◌≤◌, ◌<◌}
-use native.Mathlib.Nat.{add_assoc, eq-or-lt_of_le, le_of_suc-le-suc, add-zero}
+use native.Mathlib.Nat.{eq-or-lt_of_le, le_of_suc-le-suc, add-zero}
 use native.Mathlib.Omega.{arith}
 use mathlib.Core.Bool.{Bool, true, false, ◌&&◌, cond}
 use lib.Dec.{T, leb, ltb, eqb, leb→le}
@@ -23,24 +23,7 @@ use Rattle.imageview.specs.Patch.{inside, supports_patch}
 use Rattle.imageview.proofs.PatchLaws.{before}
 use Rattle.refine_fits.specs.StepsAdding.{Sound, PatchWithin, FourWithin, has_room}
 use Rattle.refine_formulas.proofs.Choice.{and_both}
-use Rattle.refine_fits.specs.StepsCache.{fit_in, centre_x, centre_y, named, slotted, Shaped, Kept, Slot, Counted, Surrounds}
-
--- ---- the count
-pub count-again : (len : ℕ) → len ≡ 17 → Counted len 9
-count-again len h = record { small = omega arith; used = λ slot a b. inl (omega arith) }
-
-pub count-on : (len : ℕ) → len < 18 → (len ≡ 17 → ⊥) → Counted len (len + 1)
-count-on len h g = record { small = below (eq-or-lt_of_le (le_of_suc-le-suc h)); used = split }
-  where
-    below : (len ≡ 17) ⊎ (len < 17) → len + 1 < 18
-    below (inl e) = absurd (g e)
-    below (inr l) = omega arith
-
-    last : (slot : ℕ) → slot < 9 → slot ≡ len → slot ≡ len % 9
-    last slot a e = omega arith
-
-    split : (slot : ℕ) → slot < 9 → slot < len + 1 → (slot < len) ⊎ (slot ≡ len % 9)
-    split slot a b = ⊎_elim (λ (e : slot ≡ len). inr (last slot a e)) (λ (l : slot < len). inl l) (eq-or-lt_of_le (let k : slot ≤ len = omega arith in k))
+use Rattle.refine_fits.specs.StepsCache.{fit_in, centre_x, centre_y, named, slotted, Shaped, Kept, Slot, Counted}
 
 -- ---- five stores in a row
 pub five : {a b c d e a' b' c' d' e' : Float} → a ≡ a' → b ≡ b' → c ≡ c' → d ≡ d' → e ≡ e' → a ∷ b ∷ c ∷ d ∷ e ∷ [] ≡ a' ∷ b' ∷ c' ∷ d' ∷ e' ∷ []
@@ -171,17 +154,11 @@ stored fits x y len coefs centres' coefs' z n p q =
     (subst (λ (w : List Float). Stored fits x y coefs (holding (named fits.centres (fits.len % 9) x y) w len)) (sym q) (put_in fits x y len coefs z n))
 
 -- ---- a look-up
-pub no_slot : (centres : List ℕ) (len x y : ℕ) → Slot centres len x y 9
-no_slot centres len x y = record { used = λ h. absurd (no h); at_x = λ h. absurd (no h); at_y = λ h. absurd (no h) }
-  where
-    no : 9 < 9 → ⊥
-    no h = omega arith
-
-pub hit : (img : Image) (columns : List Float) (radius x y slot : ℕ) (fits : IntegerFits) → Kept img columns radius fits → Slot fits.centres fits.len x y slot → slot < 9 → fit_in fits.coefs slot ≡ coefficients img columns radius x y
-hit img columns radius x y slot fits k h l =
-    k.fresh slot l (h.used l)
-    ∙ ap (λ (u : ℕ). coefficients img columns radius u (centre_y fits.centres slot)) (h.at_x l)
-    ∙ ap (λ (v : ℕ). coefficients img columns radius x v) (h.at_y l)
+pub hit : (img : Image) (columns : List Float) (radius x y slot : ℕ) (fits : IntegerFits) → Kept img columns radius fits → Slot fits.centres fits.len x y slot → fit_in fits.coefs slot ≡ coefficients img columns radius x y
+hit img columns radius x y slot fits k h =
+    k.fresh slot h.small h.used
+    ∙ ap (λ (u : ℕ). coefficients img columns radius u (centre_y fits.centres slot)) h.at_x
+    ∙ ap (λ (v : ℕ). coefficients img columns radius x v) h.at_y
 
 -- five entries of a fit are the fit
 pub all-five : (img : Image) (columns : List Float) (radius x y : ℕ) → five_of (coefficients img columns radius x y) ≡ coefficients img columns radius x y
@@ -263,13 +240,6 @@ room01 w = record { sound = w.sound; left = w.left; right = omega (arith, w.righ
 pub room11 : {img : Image} {radius x y : ℕ} → FourWithin img radius x y → PatchWithin img radius (x + 1) (y + 1)
 room11 w = record { sound = w.sound; left = omega (arith, w.left); right = w.right; above = omega (arith, w.above); below = w.below }
 
--- of which the first and the second stand in row k / 2
-pub room-left : {img : Image} {radius x y : ℕ} (k : ℕ) → FourWithin img radius x y → k < 4 → PatchWithin img radius x (y + k / 2)
-room-left k w h = record { sound = w.sound; left = w.left; right = omega (arith, w.right); above = omega (arith, w.above); below = omega (arith, w.below) }
-
-pub room-right : {img : Image} {radius x y : ℕ} (k : ℕ) → FourWithin img radius x y → k < 4 → PatchWithin img radius (x + 1) (y + k / 2)
-room-right k w h = record { sound = w.sound; left = omega (arith, w.left); right = omega (arith, w.right); above = omega (arith, w.above); below = omega (arith, w.below) }
-
 -- the four, by one of them
 module _ (img : Image) (columns : List Float) (radius x y : ℕ) where
   pub lacks-left : x < radius → corners_at img columns radius (pos x) (pos y) ≡ lacking
@@ -331,71 +301,20 @@ module _ (img : Image) (columns : List Float) (radius x y : ℕ) where
       ∙ ap (λ (f : Fit). fits4 (fitted (coefficients img columns radius x y)) (fitted (coefficients img columns radius (x + 1) y)) f (fit_at img columns radius (pos (x + 1)) (pos (y + 1)))) (there img columns radius x (y + 1) (room01 w))
       ∙ ap (λ (f : Fit). fits4 (fitted (coefficients img columns radius x y)) (fitted (coefficients img columns radius (x + 1) y)) (fitted (coefficients img columns radius x (y + 1))) f) (there img columns radius (x + 1) (y + 1) (room11 w))
 
-  -- the fits that were looked up, as the new corners
-  pub looked : (c00 c10 c01 c11 : List Float) (fits : IntegerFits) → FourWithin img radius x y → c00 ≡ coefficients img columns radius x y → c10 ≡ coefficients img columns radius (x + 1) y → c01 ≡ coefficients img columns radius x (y + 1) → c11 ≡ coefficients img columns radius (x + 1) (y + 1) → Kept img columns radius fits → Surrounds img columns radius x y (record { fits = fits; corners = record { c00 = c00; c10 = c10; c01 = c01; c11 = c11 } })
-  looked c00 c10 c01 c11 fits w a b c d k =
-      let e : corners_at img columns radius (pos x) (pos y) ≡ four (record { c00 = c00; c10 = c10; c01 = c01; c11 = c11 }) =
+  -- the fit of the four that is looked up in turn k
+  abbrev pub about : ℕ → List Float
+  about k = coefficients img columns radius (x + k % 2) (y + k / 2)
+
+  -- four fits that were looked up
+  pub looked : (c00 c10 c01 c11 : List Float) → FourWithin img radius x y → c00 ≡ about 0 → c10 ≡ about 1 → c01 ≡ about 2 → c11 ≡ about 3 → corners_at img columns radius (pos x) (pos y) ≡ four (record { c00 = c00; c10 = c10; c01 = c01; c11 = c11 })
+  looked c00 c10 c01 c11 w a b c d =
       has-four w
-      ∙ ap (λ (l : List Float). four (record { c00 = l; c10 = coefficients img columns radius (x + 1) y; c01 = coefficients img columns radius x (y + 1); c11 = coefficients img columns radius (x + 1) (y + 1) })) (sym a)
-      ∙ ap (λ (l : List Float). four (record { c00 = c00; c10 = l; c01 = coefficients img columns radius x (y + 1); c11 = coefficients img columns radius (x + 1) (y + 1) })) (sym b)
-      ∙ ap (λ (l : List Float). four (record { c00 = c00; c10 = c10; c01 = l; c11 = coefficients img columns radius (x + 1) (y + 1) })) (sym c)
-      ∙ ap (λ (l : List Float). four (record { c00 = c00; c10 = c10; c01 = c01; c11 = l })) (sym d) in
-      record { is = e; kept = k }
+      ∙ ap (λ (l : List Float). four (record { c00 = l; c10 = coefficients img columns radius (x + 1) y; c01 = coefficients img columns radius x (y + 1); c11 = coefficients img columns radius (x + 1) (y + 1) })) (sym (a ∙ ap (λ (u : ℕ). coefficients img columns radius u (y + 0)) (add-zero x) ∙ ap (λ (v : ℕ). coefficients img columns radius x v) (add-zero y)))
+      ∙ ap (λ (l : List Float). four (record { c00 = c00; c10 = l; c01 = coefficients img columns radius x (y + 1); c11 = coefficients img columns radius (x + 1) (y + 1) })) (sym (b ∙ ap (λ (v : ℕ). coefficients img columns radius (x + 1) v) (add-zero y)))
+      ∙ ap (λ (l : List Float). four (record { c00 = c00; c10 = c10; c01 = l; c11 = coefficients img columns radius (x + 1) (y + 1) })) (sym (c ∙ ap (λ (u : ℕ). coefficients img columns radius u (y + 1)) (add-zero x)))
+      ∙ ap (λ (l : List Float). four (record { c00 = c00; c10 = c10; c01 = c01; c11 = l })) (sym d)
 
-  -- where the four look-ups stand after k of them: the last is c11, the one before it c01, and so on
-  abbrev about : ℕ → List Float
-  about j = coefficients img columns radius (x + j % 2) (y + j / 2)
-
-  pub record Looking (fits : IntegerFits) (c00 c10 c01 c11 : List Float) (k : ℕ) : Type 0 where
-    pub most : k ≤ 4
-    pub kept : Kept img columns radius fits
-    pub first : (j : ℕ) → k ≡ j + 4 → c00 ≡ about j
-    pub second : (j : ℕ) → k ≡ j + 3 → c10 ≡ about j
-    pub third : (j : ℕ) → k ≡ j + 2 → c01 ≡ about j
-    pub fourth : (j : ℕ) → k ≡ j + 1 → c11 ≡ about j
-
-  pub look-first : (fits : IntegerFits) (c00 c10 c01 c11 : List Float) → Kept img columns radius fits → Looking fits c00 c10 c01 c11 0
-  look-first fits c00 c10 c01 c11 k =
-      record { most = omega arith; kept = k; first = λ j h. absurd (none j 3 h); second = λ j h. absurd (none j 2 h); third = λ j h. absurd (none j 1 h); fourth = λ j h. absurd (none j 0 h) }
-    where
-      none : (j n : ℕ) → 0 ≡ j + (n + 1) → ⊥
-      none j n h = omega arith
-
-  pub look-next : (fits : IntegerFits) (c00 c10 c01 c11 : List Float) (k : ℕ) (c : List Float) (next : IntegerFits) → Looking fits c00 c10 c01 c11 k → k < 4 → c ≡ about k → Kept img columns radius next → Looking next c10 c01 c11 c (k + 1)
-  look-next fits c00 c10 c01 c11 k c next l h e n =
-      record {
-        most = omega arith;
-        kept = n;
-        first = λ j q. l.second j (let r : k ≡ j + 3 = omega arith in r);
-        second = λ j q. l.third j (let r : k ≡ j + 2 = omega arith in r);
-        third = λ j q. l.fourth j (let r : k ≡ j + 1 = omega arith in r);
-        fourth = λ j q. e ∙ ap about (let r : k ≡ j = omega arith in r);
-      }
-
-  -- two in a row
-  pub look-row : (fits : IntegerFits) (c00 c10 c01 c11 : List Float) (k : ℕ) (a : List Float) (between : IntegerFits) (b : List Float) (next : IntegerFits) → Looking fits c00 c10 c01 c11 k → k % 2 ≡ 0 → k < 4
-      → a ≡ coefficients img columns radius x (y + k / 2) → Kept img columns radius between → b ≡ coefficients img columns radius (x + 1) (y + k / 2) → Kept img columns radius next → Looking next c01 c11 a b (k + 2)
-  look-row fits c00 c10 c01 c11 k a between b next l e h p m q n =
-      subst (Looking next c01 c11 a b) (add_assoc k 1 1)
-      (look-next between c10 c01 c11 a (k + 1) b next (look-next fits c00 c10 c01 c11 k a between l h (p ∙ ap (λ (u : ℕ). coefficients img columns radius u (y + k / 2)) (left k e)) m) (low k e h) (q ∙ ap (λ (u : ℕ). coefficients img columns radius u (y + k / 2)) (right k e) ∙ ap (λ (v : ℕ). coefficients img columns radius (x + (k + 1) % 2) v) (row k e)) n)
-    where
-      left : (k : ℕ) → k % 2 ≡ 0 → x ≡ x + k % 2
-      left k e = omega arith
-
-      right : (k : ℕ) → k % 2 ≡ 0 → x + 1 ≡ x + (k + 1) % 2
-      right k e = omega arith
-
-      row : (k : ℕ) → k % 2 ≡ 0 → y + k / 2 ≡ y + (k + 1) / 2
-      row k e = omega arith
-
-      low : (k : ℕ) → k % 2 ≡ 0 → k < 4 → k + 1 < 4
-      low k e h = omega arith
-
-  pub look-last : (fits : IntegerFits) (c00 c10 c01 c11 : List Float) (k : ℕ) → FourWithin img radius x y → Looking fits c00 c10 c01 c11 k → 4 ≤ k → Surrounds img columns radius x y (record { fits = fits; corners = record { c00 = c00; c10 = c10; c01 = c01; c11 = c11 } })
-  look-last fits c00 c10 c01 c11 k w l h =
-      looked c00 c10 c01 c11 fits w
-      (l.first 0 (let r : k ≡ 0 + 4 = omega (arith, l.most) in r) ∙ ap (λ (u : ℕ). coefficients img columns radius u (y + 0)) (add-zero x) ∙ ap (λ (v : ℕ). coefficients img columns radius x v) (add-zero y))
-      (l.second 1 (let r : k ≡ 1 + 3 = omega (arith, l.most) in r) ∙ ap (λ (v : ℕ). coefficients img columns radius (x + 1) v) (add-zero y))
-      (l.third 2 (let r : k ≡ 2 + 2 = omega (arith, l.most) in r) ∙ ap (λ (u : ℕ). coefficients img columns radius u (y + 1)) (add-zero x))
-      (l.fourth 3 (let r : k ≡ 3 + 1 = omega (arith, l.most) in r))
-      l.kept
+-- one fit more of those that are looked up
+pub looked_more : (f : ℕ → List Float) (k : ℕ) (fits : List (List Float)) (fit : List Float) → k < length fits → fit ≡ f k → ((j : ℕ) → j < k → get_or fits j [] ≡ f j) → (j : ℕ) → j < k + 1 → get_or (set fits k fit) j [] ≡ f j
+looked_more f k fits fit h e all j g =
+    ⊎_elim (λ q. subst (λ (n : ℕ). get_or (set fits k fit) n [] ≡ f n) (sym q) (get_or-set_same fits k fit [] h ∙ e)) (λ l. get_or-set_other fits k j fit [] (λ q. omega arith) ∙ all j l) (eq-or-lt_of_le (omega arith))

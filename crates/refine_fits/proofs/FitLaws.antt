@@ -1,5 +1,5 @@
 -- Laws of a fit: a row adds its samples to the sums, the patch's sample k is element k % side of row k / side, and the sums of all samples are the coefficients.
-use mathlib.Core.Path.{◌≡◌, refl, sym, ap, ◌∙◌, subst}
+use mathlib.Core.Path.{◌≡◌, refl, sym, ap, ◌∙◌}
 use mathlib.Core.List.{List, [], ◌∷◌}
 use Prim.Native.Nat.{ℕ, zero, suc, ◌+◌, ◌-◌, ◌*◌, ◌/◌, ◌%◌, ◌≤◌, ◌<◌}
 use native.Mathlib.Nat.{add_assoc, add-zero, add-suc, sub-add_cancel, add-mul, mul_assoc, one-mul, zero-mul, le_refl}
@@ -14,7 +14,7 @@ use Rattle.shapes.specs.Numbers.{plus_zero, entry}
 use Rattle.shapes.specs.Turns.{turns}
 use Rattle.shapes.specs.Lists.{tabulated}
 use Rattle.imageview.specs.Image.{Image, pixel}
-use Rattle.imageview.proofs.ImageLaws.{index, run-count}
+use Rattle.imageview.proofs.ImageLaws.{index}
 use Rattle.refine_operator.specs.Basis.{side, samples}
 use Rattle.refine_fits.specs.declared.Sums.{Sums}
 use Rattle.refine_formulas.specs.Numbers.{◌⊕◌, ◌⊖◌, ◌⊗◌}
@@ -22,9 +22,9 @@ use Rattle.refine_fits.specs.Fit.{sample_of, coefficient, coefficients}
 use Rattle.refine_fits.specs.StepsAdding.{added, row_added, sums_of, PatchWithin}
 
 -- ---- a row
-pub row-none : (columns : List Float) (row : List ℕ) (centre : Float) (from : ℕ) (s : Sums) → s ≡ row_added columns row centre from 0 s
+pub row_none : (columns : List Float) (row : List ℕ) (centre : Float) (from : ℕ) (s : Sums) → s ≡ row_added columns row centre from 0 s
 unfolding row_added
-row-none columns row centre from s = refl
+row_none columns row centre from s = refl
 
 pub row_more : (columns : List Float) (row : List ℕ) (centre : Float) (from n : ℕ) (s t u : Sums) → t ≡ row_added columns row centre from n s → u ≡ added columns (from + n) (of_int binary32 (pos (get_or row n 0)) ⊖ centre) t → u ≡ row_added columns row centre from (n + 1) s
 unfolding row_added
@@ -120,21 +120,3 @@ row_within img radius x y row w h =
 
 pub centre-within : (img : Image) (radius x y : ℕ) → PatchWithin img radius x y → y * img.pitch + x < length img.samples
 centre-within img radius x y w = omega (arith, index img w.sound.image x y 1 (omega (arith, w.right)) (omega (arith, w.below)))
-
--- ---- a row as a part of the list that the samples are: it is whole, and its sums are those of the samples
-module _ (samples list : List ℕ) (same : samples ≡ list) (at count : ℕ) (inside : at + count ≤ length samples) where
-  pub part-inside : at + count ≤ length list
-  part-inside = subst (λ (l : List ℕ). at + count ≤ length l) same inside
-
-  module _ (part : List ℕ) (is : part ≡ take count (drop at list)) where
-    part_length : length part ≡ count
-    part_length = ap length is ∙ run-count list at count count refl part-inside
-
-    pub part-below : (from : ℕ) → from + count ≤ 225 → from + length part ≤ 225
-    part-below from h = subst (λ (n : ℕ). from + n ≤ 225) (sym part_length) h
-
-    pub part-added : (columns : List Float) (centre : Float) (from : ℕ) (s r : Sums) → r ≡ row_added columns part centre from (length part) s → r ≡ row_added columns (take count (drop at samples)) centre from count s
-    part-added columns centre from s r q =
-        q
-        ∙ ap (λ (n : ℕ). row_added columns part centre from n s) part_length
-        ∙ ap (λ (l : List ℕ). row_added columns l centre from count s) (is ∙ ap (λ (l : List ℕ). take count (drop at l)) (sym same))

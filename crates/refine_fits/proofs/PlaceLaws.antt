@@ -1,13 +1,11 @@
--- Laws of a window's base: the sum as the code has it, the pixel's number of a whole number, and that the four fits about both are the same.
+-- Laws of a window's base: the pixel's number of a whole number, and that the four fits about both are the same.
 use mathlib.Core.Path.{◌≡◌, refl, sym, ap, ◌∙◌, subst}
 use mathlib.Core.Bool.{Bool, true, false, ◌&&◌, ◌||◌, cond, or-false}
 use mathlib.Core.List.{List}
-use Prim.Native.Nat.{ℕ, suc, ◌+◌, ◌≤◌, ◌<◌}
-use native.Mathlib.Nat.{lt_of_lt_of_le}
+use Prim.Native.Nat.{ℕ, ◌+◌, ◌≤◌, ◌<◌}
 use native.Mathlib.Omega.{arith}
 use lib.Dec.{T, ltb, lit≤}
-use lib.IntN.{ℤ, pos, negsuc, ◌+ℤ◌, nat_abs}
-use lib.Signed.{mag, lt_z, non_neg}
+use lib.IntN.{ℤ, pos, negsuc, ◌+ℤ◌}
 use lib.Ieee.{Float, binary32, to_signed, to_unsigned, of_int, lt, neg}
 use lib.Ieee.Bits.{is_true}
 use lib.Ieee.Casts.{to_signed_in}
@@ -19,65 +17,20 @@ use Rattle.shapes.specs.Numbers.{plus_zero, one}
 use Rattle.shapes.proofs.TestLaws.{first_of, second-of}
 use Rattle.refine_fits.specs.declared.Window.{Window}
 use Rattle.refine_formulas.specs.Numbers.{◌⊖◌}
-use mir.Syntax.{w32, w64}
+use mir.Syntax.{w32}
 use mir.Val.{SFits, to_z, of_z}
-use mir.Val as Val
-use mir.ValLaws.{to_z-of_z, to_z_pos}
-use mir.Facts.{sfits_widen}
-use borrow.Author.Tests.{lt-ltb, le-ltb, ltb-true, ltb-false}
+use mir.ValLaws.{to_z-of_z}
+use borrow.Author.Tests.{ltb-false}
 use Rattle.imageview.specs.Image.{Image}
 use Rattle.imageview.specs.Patch.{inside, supports_patch}
-use Rattle.refine_operator.proofs.BasisLaws.{sub_small}
 use Rattle.refine_fits.specs.Fit.{Fit, no_fit, fit_at, fit_within}
-use Rattle.refine_fits.specs.Windows.{base_of, window_place, Fits, lacking, corners_at}
-use Rattle.refine_fits.specs.StepsTries.{near_zero, pixel_of, window_of}
+use Rattle.refine_fits.specs.Windows.{window_place, lacking, corners_at}
+use Rattle.refine_fits.specs.declared.Base.{Base}
+use Rattle.refine_fits.specs.StepsTries.{near_zero, pixel_of, base_by, base_at, window_of}
+use Rattle.refine_fits.specs.StepsBases.{corners_about}
+use Rattle.std.specs.Prelude.{Option, Some, None}
 use Rattle.refine_fits.specs.StepsAdding.{Sound}
 use Rattle.refine_fits.proofs.CacheLaws.{none_first, behind}
-
--- ---- the sum
-sum-small : (from : ℕ) (by : ℤ) → from < 4096 → mag by < 0x8000_0000 → mag (pos from +ℤ by) < 0x8000_0000_0000_0000
-sum-small from (pos b) h g = omega arith
-sum-small from (negsuc b) h g = lt_of_lt_of_le (sub_small from (suc b) 0x8000_0001 (omega arith) (omega arith)) (lit≤ tt)
-
-sum_fits : (from : ℕ) (by : ℤ) → from < 4096 → SFits w32 by → SFits w64 (pos from +ℤ by)
-sum_fits from by h f = record { sfits = sum-small from by h f.sfits }
-
-pub step_is : (by : ℤ) → SFits w32 by → to_z w64 (of_z w64 (to_z w32 (of_z w32 by))) ≡ by
-step_is by f = ap (λ (z : ℤ). to_z w64 (of_z w64 z)) (to_z-of_z w32 by f) ∙ to_z-of_z w64 by (sfits_widen {w = w32} {w' = w64} tt f)
-
--- the sum of what was widened, and the same read back
-abbrev pub summed : ℕ → ℤ → ℤ
-summed from by = to_z w64 from +ℤ to_z w64 (of_z w64 (to_z w32 (of_z w32 by)))
-
-pub sum_is : (from : ℕ) (by : ℤ) → from < 4096 → SFits w32 by → summed from by ≡ pos from +ℤ by
-sum_is from by h f = ap (λ (z : ℤ). z +ℤ to_z w64 (of_z w64 (to_z w32 (of_z w32 by)))) (to_z_pos w64 from (omega arith)) ∙ ap (λ (z : ℤ). pos from +ℤ z) (step_is by f)
-
-pub summed-fits : (from : ℕ) (by : ℤ) → from < 4096 → SFits w32 by → SFits w64 (summed from by)
-summed-fits from by h f = subst (λ (z : ℤ). SFits w64 z) (sym (sum_is from by h f)) (sum_fits from by h f)
-
-pub back : (from : ℕ) (by : ℤ) → from < 4096 → SFits w32 by → to_z w64 (of_z w64 (summed from by)) ≡ pos from +ℤ by
-back from by h f = to_z-of_z w64 (summed from by) (summed-fits from by h f) ∙ sum_is from by h f
-
--- ---- the pixel's number
-pub low : (z : ℤ) → lt_z z (pos 0) ≡ true → 8192 ≡ pixel_of z
-low (pos n) h = absurd (let g : n < 0 = ltb-true n 0 h in let z : ⊥ = omega arith in z)
-low (negsuc n) h = refl
-
-pub high : (z : ℤ) → lt_z (pos 8191) z ≡ true → 8192 ≡ pixel_of z
-high (pos n) h = sym (ap (λ (b : Bool). cond b n 8192) (le-ltb n 8192 (let g : 8191 < n = ltb-true 8191 n h in omega arith)))
-high (negsuc n) h = refl
-
-abbrev differs : Bool → Type 0
-differs true = Unit
-differs false = ⊥
-
-pub between : (z : ℤ) → lt_z z (pos 0) ≡ false → lt_z (pos 8191) z ≡ false → nat_abs z ≡ pixel_of z
-between (pos n) h g = sym (ap (λ (b : Bool). cond b n 8192) (lt-ltb n 8192 (let l : n ≤ 8191 = ltb-false 8191 n g in omega arith)))
-between (negsuc n) h g = absurd (subst differs h tt)
-
-pub positive : (z : ℤ) → lt_z z (pos 0) ≡ false → lt_z (pos 8191) z ≡ false → T (non_neg z) × Val.Fits w64 (nat_abs z)
-positive (pos n) h g = (tt, record { fits = let l : n ≤ 8191 = ltb-false 8191 n g in omega arith })
-positive (negsuc n) h g = absurd (subst differs h tt)
 
 -- ---- the four fits
 far-x : (img : Image) (columns : List Float) (radius : ℕ) (z w : ℤ) → inside radius img.width z ≡ false → corners_at img columns radius z w ≡ lacking
@@ -96,30 +49,36 @@ far-y img columns radius z w h =
     none_first (fit_at img columns radius z w) (fit_at img columns radius (z +ℤ pos 1) w) (fit_at img columns radius z (w +ℤ pos 1)) (fit_at img columns radius (z +ℤ pos 1) (w +ℤ pos 1))
     (ap (λ (b : Bool). cond (inside radius img.width z && b) (fit_within img columns radius z w) no_fit) h ∙ never (inside radius img.width z) (fit_within img columns radius z w))
 
--- along one axis of n pixels: what holds of every number outside, and of 8192, holds of the pixel's number
-along : (at_most : ℕ) (radius : ℕ) (corners : ℤ → Fits) → at_most ≤ 4096 → ((z : ℤ) → inside radius at_most z ≡ false → corners z ≡ lacking) → (z : ℤ) → corners z ≡ corners (pos (pixel_of z))
-along n radius corners m far (negsuc a) = far (negsuc a) refl ∙ sym (far (pos 8192) (behind radius n 8192 (omega arith)))
-along n radius corners m far (pos a) = by (ltb a 8192) refl
-  where
-    by : (b : Bool) → ltb a 8192 ≡ b → corners (pos a) ≡ corners (pos (cond (ltb a 8192) a 8192))
-    by true e = ap (λ (b : Bool). corners (pos (cond b a 8192))) (sym e)
-    by false e =
-        far (pos a) (behind radius n a (let l : 8192 ≤ a = ltb-false a 8192 e in omega arith))
-        ∙ sym (far (pos 8192) (behind radius n 8192 (omega arith)))
-        ∙ ap (λ (b : Bool). corners (pos (cond b a 8192))) (sym e)
+abbrev is-none : Option ℕ → Type 0
+is-none None = Unit
+is-none (Some n) = ⊥
 
-pub same-corners : (img : Image) (columns : List Float) (radius : ℕ) (z w : ℤ) → Sound img radius → corners_at img columns radius z w ≡ corners_at img columns radius (pos (pixel_of z)) (pos (pixel_of w))
-same-corners img columns radius z w s =
-    along img.width radius (λ u. corners_at img columns radius u w) s.image.sized.width-most (λ u h. far-x img columns radius u w h) z
-    ∙ along img.height radius (λ v. corners_at img columns radius (pos (pixel_of z)) v) s.image.sized.height-most (λ v h. far-y img columns radius (pos (pixel_of z)) v h) w
-
-pixel-most : (z : ℤ) → pixel_of z ≤ 8192
-pixel-most (negsuc n) = omega arith
-pixel-most (pos n) = by (ltb n 8192) refl
+-- a number that is no pixel's lies outside every image
+outside : (radius n : ℕ) (z : ℤ) → n ≤ 4096 → pixel_of z ≡ None → inside radius n z ≡ false
+outside radius n (negsuc a) m e = refl
+outside radius n (pos a) m e = behind radius n a (by (ltb a 65536) refl e)
   where
-    by : (b : Bool) → ltb n 8192 ≡ b → cond (ltb n 8192) n 8192 ≤ 8192
-    by true e = subst (λ (b : Bool). cond b n 8192 ≤ 8192) (sym e) (let l : n < 8192 = ltb-true n 8192 e in omega arith)
-    by false e = subst (λ (b : Bool). cond b n 8192 ≤ 8192) (sym e) (omega arith)
+    by : (b : Bool) → ltb a 65536 ≡ b → cond b (Some a) None ≡ None → n ≤ a + radius
+    by true t q = absurd (subst is-none (sym q) tt)
+    by false t q = let l : 65536 ≤ a = ltb-false a 65536 t in omega arith
+
+-- one that is a pixel's is itself
+itself : (z : ℤ) (n : ℕ) → pixel_of z ≡ Some n → z ≡ pos n
+itself (negsuc a) n e = search e
+itself (pos a) n e = ap pos (by (ltb a 65536) e)
+  where
+    by : (b : Bool) → cond b (Some a) None ≡ Some n → a ≡ n
+    by true q = search q
+    by false q = search q
+
+-- the four fits about two whole numbers are those about their base
+pub same_corners : (img : Image) (columns : List Float) (radius : ℕ) (z w : ℤ) → Sound img radius → corners_at img columns radius z w ≡ corners_about img columns radius (base_at z w)
+same_corners img columns radius z w s = by (pixel_of z) (pixel_of w) refl refl
+  where
+    by : (a b : Option ℕ) → pixel_of z ≡ a → pixel_of w ≡ b → corners_at img columns radius z w ≡ corners_about img columns radius (base_by a b)
+    by None b p q = far-x img columns radius z w (outside radius img.width z s.image.sized.width-most p)
+    by (Some m) None p q = far-y img columns radius z w (outside radius img.height w s.image.sized.height-most q)
+    by (Some m) (Some n) p q = ap (λ (u : ℤ). corners_at img columns radius u w) (itself z m p) ∙ ap (λ (v : ℤ). corners_at img columns radius (pos m) v) (itself w n q)
 
 -- ---- an offset of less than a pixel
 part_none : (x : Float) (b : Between 0 x) → to_unsigned 64 x ≡ 0
@@ -162,23 +121,16 @@ module _ (o : Float) (near : near_zero o ≡ true) where
   not-above h = sym (or-false (lt o plus_zero)) ∙ ap (λ (b : Bool). lt o plus_zero || b) (sym h) ∙ signed
 
 -- ---- the window
-based : (cx r : ℕ) (o f : Float) (i : ℤ) → f ≡ floor binary32 o → i ≡ to_signed 31 f → r ≡ pixel_of (pos cx +ℤ to_z w32 (of_z w32 i)) → r ≡ pixel_of (base_of (pos cx) o)
-based cx r o f i p q e =
-    e
-    ∙ ap (λ (z : ℤ). pixel_of (pos cx +ℤ z)) (to_z-of_z w32 i (subst (λ (z : ℤ). SFits w32 z) (sym q) (record { sfits = to_signed_in 31 f })) ∙ q ∙ ap (λ (v : Float). to_signed 31 v) p)
-
-pub window-is : (cx cy x y : ℕ) (ox oy fx fy : Float) (i j : ℤ) → fx ≡ floor binary32 ox → fy ≡ floor binary32 oy → i ≡ to_signed 31 fx → j ≡ to_signed 31 fy → x ≡ pixel_of (pos cx +ℤ to_z w32 (of_z w32 i)) → y ≡ pixel_of (pos cy +ℤ to_z w32 (of_z w32 j)) → record { base_x = x; base_y = y; tx = ox ⊖ fx; ty = oy ⊖ fy } ≡ window_of (window_place (pos cx) (pos cy) ox oy)
+-- from whole numbers as the machine has them
+pub window_is : (cx cy : ℕ) (ox oy fx fy : Float) (i j : ℤ) (base : Option Base) → fx ≡ floor binary32 ox → fy ≡ floor binary32 oy → i ≡ to_signed 31 fx → j ≡ to_signed 31 fy → base ≡ base_at (pos cx +ℤ to_z w32 (of_z w32 i)) (pos cy +ℤ to_z w32 (of_z w32 j)) → record { base = base; tx = ox ⊖ fx; ty = oy ⊖ fy } ≡ window_of (window_place (pos cx) (pos cy) ox oy)
 unfolding window_place
-window-is cx cy x y ox oy fx fy i j p q a b c d =
-    ap (λ (n : ℕ). window n y (ox ⊖ fx) (oy ⊖ fy)) (based cx x ox fx i p a c)
-    ∙ ap (λ (n : ℕ). window (pixel_of (base_of (pos cx) ox)) n (ox ⊖ fx) (oy ⊖ fy)) (based cy y oy fy j q b d)
-    ∙ ap (λ (v : Float). window (pixel_of (base_of (pos cx) ox)) (pixel_of (base_of (pos cy) oy)) (ox ⊖ v) (oy ⊖ fy)) p
-    ∙ ap (λ (v : Float). window (pixel_of (base_of (pos cx) ox)) (pixel_of (base_of (pos cy) oy)) (ox ⊖ floor binary32 ox) (oy ⊖ v)) q
+window_is cx cy ox oy fx fy i j base p q a b e =
+    ap (λ (v : Option Base). window v (ox ⊖ fx) (oy ⊖ fy)) (e ∙ ap (λ (z : ℤ). base_at (pos cx +ℤ z) (pos cy +ℤ to_z w32 (of_z w32 j))) (back i fx ox a p) ∙ ap (λ (z : ℤ). base_at (pos cx +ℤ to_signed 31 (floor binary32 ox)) (pos cy +ℤ z)) (back j fy oy b q))
+    ∙ ap (λ (v : Float). window (base_at (pos cx +ℤ to_signed 31 (floor binary32 ox)) (pos cy +ℤ to_signed 31 (floor binary32 oy))) (ox ⊖ v) (oy ⊖ fy)) p
+    ∙ ap (λ (v : Float). window (base_at (pos cx +ℤ to_signed 31 (floor binary32 ox)) (pos cy +ℤ to_signed 31 (floor binary32 oy))) (ox ⊖ floor binary32 ox) (oy ⊖ v)) q
   where
-    window : ℕ → ℕ → Float → Float → Window
-    window x y tx ty = record { base_x = x; base_y = y; tx = tx; ty = ty }
+    window : Option Base → Float → Float → Window
+    window base tx ty = record { base = base; tx = tx; ty = ty }
 
--- its base is the number of a pixel, or of none
-pub bases-most : (w : Window) (cx cy : ℤ) (ox oy : Float) → w ≡ window_of (window_place cx cy ox oy) → (w.base_x ≤ 8192) × (w.base_y ≤ 8192)
-bases-most w cx cy ox oy e =
-    (subst (λ (n : ℕ). n ≤ 8192) (sym (ap (λ (v : Window). v.base_x) e)) (pixel-most (window_place cx cy ox oy).base_x), subst (λ (n : ℕ). n ≤ 8192) (sym (ap (λ (v : Window). v.base_y) e)) (pixel-most (window_place cx cy ox oy).base_y))
+    back : (i : ℤ) (f o : Float) → i ≡ to_signed 31 f → f ≡ floor binary32 o → to_z w32 (of_z w32 i) ≡ to_signed 31 (floor binary32 o)
+    back i f o a p = to_z-of_z w32 i (subst (λ (z : ℤ). SFits w32 z) (sym a) (record { sfits = to_signed_in 31 f })) ∙ a ∙ ap (λ (v : Float). to_signed 31 v) p

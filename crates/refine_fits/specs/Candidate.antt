@@ -1,5 +1,5 @@
 -- One candidate window of a seed's run: it is taken only where its fit is a saddle, |u|² falls strictly and the estimate stays in the box about the seed.
-use Rattle.std.specs.Prelude.{Bool, ◌&&◌, cond, List, ℤ, pos, Float}
+use Rattle.std.specs.Prelude.{Bool, ◌&&◌, cond, Result, Ok, Err, List, ℤ, pos, Float}
 use Rattle.std.specs.Float.{binary32}
 use Rattle.std.specs.Float.Ieee.{of_int, lt, le}
 use Rattle.floats.specs.Magnitude.{magnitude}
@@ -7,8 +7,7 @@ use Rattle.shapes.specs.Numbers.{lesser}
 use Rattle.imageview.specs.Image.{Image}
 use Rattle.refine_formulas.specs.declared.SaddlePointConfig.{SaddlePointConfig}
 use Rattle.refine_formulas.specs.declared.PatchSaddle.{PatchSaddle}
-use Rattle.refine_formulas.specs.declared.Solved.{Solved}
-use Rattle.refine_formulas.specs.declared.Solved.TheVariants.{Refused, Saddle}
+use Rattle.refine_formulas.specs.declared.Unsolved.{Unsolved}
 use Rattle.refine_formulas.specs.declared.Corners.{Corners}
 use Rattle.refine_formulas.specs.Numbers.{◌⊕◌, ◌⊖◌, half}
 use Rattle.refine_formulas.specs.Solve.{solve, norm2}
@@ -53,9 +52,9 @@ pub data Tried : Type 0 where
   passed : Tried
   taken : Stand → Tried
 
-abbrev pub judged : Task → PatchSaddle → Float → Float → WindowPlace → Corners → Solved → Tried
-judged t f ox oy w c (Refused flaw det) = passed
-judged t f ox oy w c (Saddle g) =
+abbrev pub judged : Task → PatchSaddle → Float → Float → WindowPlace → Corners → Result PatchSaddle Unsolved → Tried
+judged t f ox oy w c (Err e) = passed
+judged t f ox oy w c (Ok g) =
     cond (lt (norm2 g) (norm2 f) && near_seed t (ox ⊕ g.ux) (oy ⊕ g.uy)) (taken (record { ox = ox; oy = oy; place = w; corners = c; fit = g })) passed
 
 abbrev pub weighed : Task → PatchSaddle → Float → Float → WindowPlace → Fits → Tried

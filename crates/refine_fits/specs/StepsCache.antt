@@ -1,12 +1,10 @@
 -- The nine kept fits: what a slot holds, and that each is the fresh fit at its centre.
-use Rattle.std.specs.Prelude.{◌≡◌, ◌⊎◌, List, [], ◌∷◌, ℕ, ◌+◌, ◌*◌, ◌%◌, ◌<◌, pos, length, get_or, set, Float}
+use Rattle.std.specs.Prelude.{◌≡◌, ◌⊎◌, List, [], ◌∷◌, ℕ, ◌+◌, ◌*◌, ◌%◌, ◌<◌, length, get_or, set, Float}
 use Rattle.shapes.specs.Numbers.{entry}
 use Rattle.imageview.specs.Image.{Image}
-use Rattle.refine_fits.specs.declared.Around.{Around}
 use Rattle.refine_fits.specs.declared.IntegerFits.{IntegerFits}
 use Rattle.refine_fits.specs.declared.Looked.{Looked}
 use Rattle.refine_fits.specs.Fit.{coefficients}
-use Rattle.refine_fits.specs.Windows.{four, corners_at}
 
 -- the fit in a slot, and its centre
 abbrev pub fit_in : List Float → ℕ → List Float
@@ -32,11 +30,12 @@ pub record Kept (img : Image) (columns : List Float) (radius : ℕ) (fits : Inte
 pub record Fresh (fits : IntegerFits) : Type 0 where
   pub kept : (img : Image) (columns : List Float) (radius : ℕ) → Kept img columns radius fits
 
--- a slot in use whose centre is (x, y), or none
+-- a slot in use whose centre is (x, y)
 pub record Slot (centres : List ℕ) (len x y slot : ℕ) : Type 0 where
-  pub used : slot < 9 → slot < len
-  pub at_x : slot < 9 → centre_x centres slot ≡ x
-  pub at_y : slot < 9 → centre_y centres slot ≡ y
+  pub small : slot < 9
+  pub used : slot < len
+  pub at_x : centre_x centres slot ≡ x
+  pub at_y : centre_y centres slot ≡ y
 
 -- ---- storing
 abbrev pub named : List ℕ → ℕ → ℕ → ℕ → List ℕ
@@ -53,9 +52,4 @@ pub record Counted (len r : ℕ) : Type 0 where
 -- ---- a look-up
 pub record Found (img : Image) (columns : List Float) (radius x y : ℕ) (r : Looked) : Type 0 where
   pub coefs : r.coefs ≡ coefficients img columns radius x y
-  pub kept : Kept img columns radius r.fits
-
--- ---- the four fits about a base
-pub record Surrounds (img : Image) (columns : List Float) (radius x y : ℕ) (r : Around) : Type 0 where
-  pub is : corners_at img columns radius (pos x) (pos y) ≡ four r.corners
   pub kept : Kept img columns radius r.fits

@@ -1,113 +1,95 @@
 // Nine fits kept by their centre pixel: each look-up gives what a fresh fit gives.
-ghost use Rattle.std.specs.Prelude.{◌≡◌, ◌<◌};
-ghost use Rattle.imageview.specs.Image.{image_of};
+ghost use Rattle.std.specs.Prelude.{◌≡◌, ◌<◌, pos, IfSome};
+ghost use Rattle.refine_fits.specs.Fit.{coefficients};
+ghost use Rattle.refine_fits.specs.Windows.{four, corners_at};
 ghost use Rattle.refine_fits.specs.StepsAdding.{PatchWithin, FourWithin};
-ghost use Rattle.refine_fits.specs.StepsCache.{Kept, Slot, fit_in, named, slotted, Counted, Found, Surrounds};
+ghost use Rattle.refine_fits.specs.StepsCache.{Kept, Slot, fit_in, named, slotted, Counted, Found};
 
 use super::{IntegerFits, Looked};
 use crate::fits;
-use imageview::Sizes;
+use imageview::{Image, Sample};
 use refine_formulas::Corners;
+use refine_patch::Columns;
 
 impl IntegerFits {
     // The coefficients of the fit about (x, y), kept or worked out. The cache is written where it lies: by value each copy of it stands in the stack.
-    pub fn find(
+    pub fn find<S: Sample>(
         &mut self,
-        bytes: &[u8],
-        words: &[u16],
-        sizes: Sizes,
+        image: &Image<S>,
         x: usize,
         y: usize,
-        radius: usize,
-        columns: &[f32; 1125],
+        columns: &Columns,
     ) -> [f32; 5]
-        requires within { PatchWithin (image_of bytes.now words.now sizes) radius x y }
-        requires kept { Kept (image_of bytes.now words.now sizes) columns.now radius self.old }
-        ensures { Found (image_of bytes.now words.now sizes) columns.now radius x y (record { fits = self.new; coefs = result }) }
+        requires within { PatchWithin image.now columns.now.radius x y }
+        requires kept { Kept image.now columns.now.numbers.now columns.now.radius self.old }
+        ensures coefs { result ≡ coefficients image.now columns.now.numbers.now columns.now.radius x y }
+        ensures kept { Kept image.now columns.now.numbers.now columns.now.radius self.new }
     {
         let centre_x = x as u16;
         let centre_y = y as u16;
-        let len = self.len;
-        let slot = slot_of(&self.centres, len, centre_x, centre_y);
-        if slot < 9 {
+        if let Some(slot) = slot_of(&self.centres, self.len, centre_x, centre_y) {
             return fit_in(&self.coefs, slot);
         }
-        let coefs = fits::fit_patch(bytes, words, sizes, x, y, radius, columns);
-        let oldest = len % 9;
+        let coefs = fits::fit_patch(image, x, y, columns);
+        let oldest = self.len % 9;
         name_slot(&mut self.centres, oldest, centre_x, centre_y);
         fill_slot(&mut self.coefs, oldest, coefs);
-        self.len = one_more(len);
+        self.len = one_more(self.len);
         coefs
     }
 
     // The same by value: the coefficients, and the cache with them in it.
-    pub fn at(
+    pub fn at<S: Sample>(
         mut self,
-        bytes: &[u8],
-        words: &[u16],
-        sizes: Sizes,
+        image: &Image<S>,
         x: usize,
         y: usize,
-        radius: usize,
-        columns: &[f32; 1125],
+        columns: &Columns,
     ) -> Looked
-        requires fact_1 { PatchWithin (image_of bytes.now words.now sizes) radius x y }
-        requires fact_2 { Kept (image_of bytes.now words.now sizes) columns.now radius self }
-        ensures { Found (image_of bytes.now words.now sizes) columns.now radius x y result }
+        requires within { PatchWithin image.now columns.now.radius x y }
+        requires kept { Kept image.now columns.now.numbers.now columns.now.radius self }
+        ensures { Found image.now columns.now.numbers.now columns.now.radius x y result }
     {
-        let coefs = self.find(bytes, words, sizes, x, y, radius, columns);
+        let coefs = self.find(image, x, y, columns);
         Looked { coefs, fits: self }
     }
 
     // The four fits about (x, y), one after the other.
-    pub fn look(
+    pub fn look<S: Sample>(
         &mut self,
-        bytes: &[u8],
-        words: &[u16],
-        sizes: Sizes,
+        image: &Image<S>,
         x: usize,
         y: usize,
-        radius: usize,
-        columns: &[f32; 1125],
+        columns: &Columns,
     ) -> Corners
-        requires fact_1 { FourWithin (image_of bytes.now words.now sizes) radius x y }
-        requires fact_2 { Kept (image_of bytes.now words.now sizes) columns.now radius self.old }
-        ensures { Surrounds (image_of bytes.now words.now sizes) columns.now radius x y (record { fits = self.new; corners = result }) }
+        requires within { FourWithin image.now columns.now.radius x y }
+        requires kept { Kept image.now columns.now.numbers.now columns.now.radius self.old }
+        ensures corners { corners_at image.now columns.now.numbers.now columns.now.radius (pos x) (pos y) ≡ four result }
+        ensures kept { Kept image.now columns.now.numbers.now columns.now.radius self.new }
     {
-        let mut c00 = [0.0f32; 5];
-        let mut c10 = [0.0f32; 5];
-        let mut c01 = [0.0f32; 5];
-        let mut c11 = [0.0f32; 5];
-        let mut k: usize = 0;
-        while k < 4 {
-            // a row of two at a time; the row before moves up, so that the first is c00
-            c00 = c01;
-            c10 = c11;
-            c01 = self.find(bytes, words, sizes, x, y + k / 2, radius, columns);
-            c11 = self.find(bytes, words, sizes, x + 1, y + k / 2, radius, columns);
-            k += 2;
+        let mut fits = [[0.0f32; 5]; 4];
+        for k in 0..4 {
+            fits[k] = self.find(image, x + k % 2, y + k / 2, columns);
         }
-        Corners { c00, c10, c01, c11 }
+        Corners {
+            c00: fits[0],
+            c10: fits[1],
+            c01: fits[2],
+            c11: fits[3],
+        }
     }
 }
 
-// The slot of the fit about (x, y), or 9 where it is not kept.
-fn slot_of(centres: &[u16; 18], len: usize, x: u16, y: u16) -> usize
-    ensures { Slot centres.now len x y result }
+// The slot of the fit about (x, y), where it is kept.
+fn slot_of(centres: &[u16; 18], len: usize, x: u16, y: u16) -> Option<usize>
+    ensures { IfSome result (Slot centres.now len x y) }
 {
-    let mut i: usize = 0;
-    while i < 9 {
-        if len <= i {
-            return 9;
+    for i in 0..len.min(9) {
+        if (centres[2 * i] == x) & (centres[2 * i + 1] == y) {
+            return Some(i);
         }
-        if centres[2 * i] == x {
-            if centres[2 * i + 1] == y {
-                return i;
-            }
-        }
-        i += 1;
     }
-    9
+    None
 }
 
 // The fit in a slot.
@@ -152,8 +134,5 @@ fn one_more(len: usize) -> usize
     requires { len < 18 }
     ensures { Counted len result }
 {
-    if len == 17 {
-        return 9;
-    }
-    len + 1
+    if len == 17 { 9 } else { len + 1 }
 }

@@ -18,6 +18,3 @@ module _ {X : Type 0} (p q : Bool) (x y : X) where
 
   pub and_second : p ≡ true → q ≡ false → y ≡ cond (p && q) x y
   and_second h g = ap (λ (z : Bool). cond z x y) (sym g) ∙ ap (λ (z : Bool). cond (z && q) x y) (sym h)
-
-pub and-three : {X : Type 0} (p q r : Bool) (x y : X) → p ≡ true → q ≡ true → r ≡ true → x ≡ cond (p && q && r) x y
-and-three p q r x y h g f = ap (λ (z : Bool). cond z x y) (sym f) ∙ ap (λ (z : Bool). cond (z && r) x y) (sym g) ∙ ap (λ (z : Bool). cond (z && q && r) x y) (sym h)

@@ -2,6 +2,7 @@
 use mathlib.Core.Path.{◌≡◌, refl, sym, ap, ◌∙◌, subst}
 use mathlib.Core.Bool.{Bool, true, false, cond}
 use mathlib.Core.List.{List}
+use Rattle.std.specs.Prelude.{Option}
 use Prim.Native.Nat.{ℕ, ◌+◌, ◌*◌, ◌<◌}
 use lib.ListN.{length, set}
 use lib.Ieee.{Float, nan, eq, neg}
@@ -14,8 +15,7 @@ use Rattle.refine_formulas.specs.Numbers.{◌⊕◌, ◌⊗◌}
 use Rattle.refine_formulas.specs.declared.Jacobian.{Jacobian}
 use Rattle.refine_formulas.specs.declared.Matrix.{Matrix}
 use Rattle.refine_formulas.specs.declared.Covariance.{Covariance}
-use Rattle.refine_formulas.specs.Sensitivity.{dot}
-use Rattle.refine_formulas.specs.Covariance.{pair_weight, kernel_entry, kernel, inverse_of, gain_first, gain_second, times_kernel, known, covariance_of}
+use Rattle.refine_formulas.specs.Covariance.{pair_weight, kernel_entry, kernel, inverse_of, gain_first, gain_second, covariance_of}
 use Rattle.refine_formulas.specs.Steps.{entry_after, combined, spread_of}
 
 abbrev pub after : List Float → List Float → ℕ → List Float
@@ -62,19 +62,11 @@ pub whole : (overlap : List Float) (tx ty : Float) → after overlap (tabulated 
 unfolding entry_after turns tabulated kernel kernel_entry
 whole overlap tx ty = refl
 
--- ---- A K Aᵀ from what each product is
-pub spread-is : (k a b ak bk : List Float) (xx xy yy : Float) {r : Covariance} → ak ≡ times_kernel a k → bk ≡ times_kernel b k → xx ≡ dot ak a → xy ≡ dot ak b → yy ≡ dot bk b → r ≡ known xx xy yy → r ≡ spread_of k a b
-unfolding spread_of
-spread-is k a b ak bk xx xy yy p q e f g h =
-    h
-    ∙ ap (λ (z : Float). known z xy yy) (e ∙ ap (λ (z : List Float). dot z a) p)
-    ∙ ap (λ (z : Float). known (dot (times_kernel a k) a) z yy) (f ∙ ap (λ (z : List Float). dot z b) p)
-    ∙ ap (λ (z : Float). known (dot (times_kernel a k) a) (dot (times_kernel a k) b) z) (g ∙ ap (λ (z : List Float). dot z b) q)
-
+-- ---- A K Aᵀ from what each part is
 module _ (overlap : List Float) (tx ty : Float) (j : Jacobian) (m : Matrix) where
-  pub covariance-is : (weights k a b : List Float) {r : Covariance} → weights ≡ tabulated 9 (pair_weight tx ty) → k ≡ after overlap weights 9 → a ≡ combined j (m.m11 ⊗ inverse_of m) (neg m.m01 ⊗ inverse_of m) → b ≡ combined j (neg m.m10 ⊗ inverse_of m) (m.m00 ⊗ inverse_of m) → r ≡ spread_of k a b → r ≡ covariance_of overlap tx ty j m
+  pub covariance_is : (weights k a b : List Float) {r : Option Covariance} → weights ≡ tabulated 9 (pair_weight tx ty) → k ≡ after overlap weights 9 → a ≡ combined j (m.m11 ⊗ inverse_of m) (neg m.m01 ⊗ inverse_of m) → b ≡ combined j (neg m.m10 ⊗ inverse_of m) (m.m00 ⊗ inverse_of m) → r ≡ spread_of k a b → r ≡ covariance_of overlap tx ty j m
   unfolding covariance_of spread_of gain_first gain_second combined
-  covariance-is weights k a b p q e f g =
+  covariance_is weights k a b p q e f g =
       let k' = kernel overlap tx ty in
       g
       ∙ ap (λ (z : List Float). spread_of z a b) (q ∙ ap (λ (z : List Float). after overlap z 9) p ∙ whole overlap tx ty)

@@ -1,4 +1,4 @@
--- The ways out of `solve`, by its four tests; and that an accepted saddle has a determinant below zero and a score above it.
+-- The ways out of `solve`, by its tests; and that an accepted saddle has a determinant below zero and a score above it.
 use mathlib.Core.Path.{◌≡◌, refl, sym, ap, ◌∙◌, subst}
 use mathlib.Core.Bool.{Bool, true, false, ◌&&◌, cond, false≢true}
 use Prim.Native.Nat.{ℕ, zero, suc, ◌+◌, ◌*◌, ◌<◌}
@@ -20,10 +20,10 @@ use Rattle.refine_formulas.specs.declared.SaddlePointConfig.{SaddlePointConfig}
 use Rattle.refine_formulas.specs.declared.PatchSaddle.{PatchSaddle}
 use Rattle.refine_formulas.specs.declared.Flaw.{Flaw}
 use Rattle.refine_formulas.specs.declared.Flaw.TheVariants.{AboveMargin, TooSmall, NotFinite}
-use Rattle.refine_formulas.specs.declared.Solved.TheVariants.{Refused, Saddle}
+use Rattle.std.specs.Prelude.{Ok}
 use Rattle.refine_formulas.specs.Numbers.{◌⊗◌, ◌⊘◌, four}
-use Rattle.refine_formulas.specs.Solve.{determinant, above_margin, too_small, offset_x, offset_y, saddle_of, solved_from, solve, good_limit, score_of}
-use Rattle.refine_formulas.proofs.Choice.{where-true, where-false, and_both, and_first, and_second}
+use Rattle.refine_formulas.specs.Solve.{determinant, above_margin, too_small, offset_x, offset_y, saddle_of, refused, solved_from, solve, good_limit, score_of}
+use Rattle.refine_formulas.proofs.Choice.{where-true, where-false}
 
 abbrev pub det_of : List Float → Float
 det_of l = determinant (entry l 0) (entry l 1) (entry l 2)
@@ -35,7 +35,7 @@ abbrev pub uy_of : List Float → Float
 uy_of l = offset_y l (one ⊘ det_of l)
 
 module _ (cfg : SaddlePointConfig) (l : List Float) where
-  pub above-margin : above_margin cfg (det_of l) ≡ true → Refused AboveMargin (det_of l) ≡ solve cfg l
+  pub above-margin : above_margin cfg (det_of l) ≡ true → refused AboveMargin (det_of l) ≡ solve cfg l
   unfolding solve
   above-margin h = where-true _ _ _ h
 
@@ -44,22 +44,23 @@ module _ (cfg : SaddlePointConfig) (l : List Float) where
     small : (b : Bool) → lt m cfg.min_abs_det ≡ b → too_small cfg (det_of l) ≡ b
     small b g = ap (λ (z : Float). lt z cfg.min_abs_det) (sym e) ∙ g
 
-    pub too_small_lem : lt m cfg.min_abs_det ≡ true → Refused TooSmall (det_of l) ≡ solve cfg l
+    pub too_small_lem : lt m cfg.min_abs_det ≡ true → refused TooSmall (det_of l) ≡ solve cfg l
     unfolding solve
     too_small_lem g = where-true _ _ _ (small true g) ∙ where-false _ _ _ h
 
-    not-refused : lt m cfg.min_abs_det ≡ false → solved_from l (det_of l) (ux_of l) (uy_of l) ≡ solve cfg l
-    unfolding solve
-    not-refused g = where-false _ _ _ (small false g) ∙ where-false _ _ _ h
+    module _ (g : lt m cfg.min_abs_det ≡ false) (p q : Bool) (i : p ≡ finite (ux_of l)) (j : q ≡ finite (uy_of l)) where
+      tested-offsets : solved_from l (det_of l) (ux_of l) (uy_of l) ≡ solve cfg l
+      unfolding solve
+      tested-offsets = where-false _ _ _ (small false g) ∙ where-false _ _ _ h
 
-    pub endless-x : lt m cfg.min_abs_det ≡ false → (p : Bool) → p ≡ finite (ux_of l) → p ≡ false → Refused NotFinite (det_of l) ≡ solve cfg l
-    endless-x g p i n = and_first _ _ _ _ (sym i ∙ n) ∙ not-refused g
+      both : (b : Bool) → (p && q) ≡ b → (finite (ux_of l) && finite (uy_of l)) ≡ b
+      both b n = ap (λ (z : Bool). z && finite (uy_of l)) (sym i) ∙ ap (λ (z : Bool). p && z) (sym j) ∙ n
 
-    pub endless-y : lt m cfg.min_abs_det ≡ false → (p : Bool) → p ≡ finite (ux_of l) → p ≡ true → (q : Bool) → q ≡ finite (uy_of l) → q ≡ false → Refused NotFinite (det_of l) ≡ solve cfg l
-    endless-y g p i n q j o = and_second _ _ _ _ (sym i ∙ n) (sym j ∙ o) ∙ not-refused g
+      pub endless : (p && q) ≡ false → refused NotFinite (det_of l) ≡ solve cfg l
+      endless n = where-false _ _ _ (both false n) ∙ tested-offsets
 
-    pub saddle : lt m cfg.min_abs_det ≡ false → (p : Bool) → p ≡ finite (ux_of l) → p ≡ true → (q : Bool) → q ≡ finite (uy_of l) → q ≡ true → Saddle (saddle_of l (det_of l) (ux_of l) (uy_of l)) ≡ solve cfg l
-    saddle g p i n q j o = and_both _ _ _ _ (sym i ∙ n) (sym j ∙ o) ∙ not-refused g
+      pub saddle : (p && q) ≡ true → Ok (saddle_of l (det_of l) (ux_of l) (uy_of l)) ≡ solve cfg l
+      saddle n = where-true _ _ _ (both true n) ∙ tested-offsets
 
 -- ---- the sign of an accepted determinant
 record Accepted (p a : Bool) (s f : PatchSaddle) : Type 0 where
@@ -67,11 +68,11 @@ record Accepted (p a : Bool) (s f : PatchSaddle) : Type 0 where
   ends : a ≡ true
   is : s ≡ f
 
-clash : {X : Type 0} (v : Flaw) (d : Float) (f : PatchSaddle) → Refused v d ≡ Saddle f → X
+clash : {X : Type 0} (v : Flaw) (d : Float) (f : PatchSaddle) → refused v d ≡ Ok f → X
 clash v d f e = absurd (let z : ◌≡◌ {A = ℕ} 0 1 = cc in omega arith)
 
 -- what was tested where the answer is a saddle
-accepted : (p q a b : Bool) (d : Float) (s f : PatchSaddle) → cond p (Refused AboveMargin d) (cond q (Refused TooSmall d) (cond (a && b) (Saddle s) (Refused NotFinite d))) ≡ Saddle f → Accepted p a s f
+accepted : (p q a b : Bool) (d : Float) (s f : PatchSaddle) → cond p (refused AboveMargin d) (cond q (refused TooSmall d) (cond (a && b) (Ok s) (refused NotFinite d))) ≡ Ok f → Accepted p a s f
 accepted true q a b d s f e = clash AboveMargin d f e
 accepted false true a b d s f e = clash TooSmall d f e
 accepted false false true true d s f e = record { under = refl; ends = refl; is = cc }
@@ -126,12 +127,12 @@ below-zero (fin true zero d) (fin false (suc n) e) y g h k = absurd (false≢tru
     over d n e = lt-ltb _ _ (subst (λ (z : ℕ). z < suc n * up e * down d) (sym (ap (λ (z : ℕ). z * down e) (zero-mul (up d)) ∙ zero-mul (down e))) (scaled n e (down d) (down_pos d)))
 below-zero (fin true (suc a) d) (fin false (suc n) e) y g h k = absurd (false≢true (sym (not-true _ g) ∙ some (suc a * up d * 1) (0 * 1 * down d) (scaled a d 1 (omega arith))))
 
-tested : (cfg : SaddlePointConfig) (l : List Float) (f : PatchSaddle) → solve cfg l ≡ Saddle f → Accepted (above_margin cfg (det_of l)) (finite (ux_of l)) (saddle_of l (det_of l) (ux_of l) (uy_of l)) f
+tested : (cfg : SaddlePointConfig) (l : List Float) (f : PatchSaddle) → solve cfg l ≡ Ok f → Accepted (above_margin cfg (det_of l)) (finite (ux_of l)) (saddle_of l (det_of l) (ux_of l) (uy_of l)) f
 unfolding solve
 tested cfg l f e = accepted _ (too_small cfg (det_of l)) _ (finite (uy_of l)) (det_of l) _ f e
 
 -- an accepted saddle's determinant is below zero
-pub det-below-zero : (cfg : SaddlePointConfig) (l : List Float) (f : PatchSaddle) → good_limit cfg.det_margin ≡ true → solve cfg l ≡ Saddle f → lt f.det_h plus_zero ≡ true
+pub det-below-zero : (cfg : SaddlePointConfig) (l : List Float) (f : PatchSaddle) → good_limit cfg.det_margin ≡ true → solve cfg l ≡ Ok f → lt f.det_h plus_zero ≡ true
 det-below-zero cfg l f g e =
     let a = tested cfg l f e in
     subst (λ (s : PatchSaddle). lt s.det_h plus_zero ≡ true) a.is (below-zero cfg.det_margin (det_of l) _ g a.under a.ends)
@@ -157,6 +158,6 @@ root-above (fin true zero e) p h = absurd (false≢true (sym (ap (λ (z : ℕ). 
 root-above (fin true (suc n) e) p h = positive-above (sqrt binary32 (fin false (suc n) e)) (sqrt-nearest binary32 (fin false (suc n) e) (neg-fits binary32 (fin true (suc n) e) p) (lt→ltb 0 (suc n) (omega arith))).number
 root-above (fin false m e) p h = absurd (not-suc-le-zero (subst (λ (z : ℕ). m * up e * 1 < z) (zero-mul (down e)) (ltb-true _ _ h)))
 
-pub score-above-zero : (cfg : SaddlePointConfig) (l : List Float) (f : PatchSaddle) → good_limit cfg.det_margin ≡ true → solve cfg l ≡ Saddle f → lt plus_zero (score_of f) ≡ true
+pub score-above-zero : (cfg : SaddlePointConfig) (l : List Float) (f : PatchSaddle) → good_limit cfg.det_margin ≡ true → solve cfg l ≡ Ok f → lt plus_zero (score_of f) ≡ true
 score-above-zero cfg l f g e =
     root-above f.det_h (subst (λ (s : PatchSaddle). T (fits binary32 s.det_h)) (tested cfg l f e).is (sub-fits binary32 (four ⊗ entry l 0 ⊗ entry l 2) (entry l 1 ⊗ entry l 1))) (det-below-zero cfg l f g e)

@@ -1,6 +1,6 @@
 -- The covariance of a converged place for unit noise: A K Aᵀ with A = M⁻¹ J, where K sums the operator's shifted overlaps by the products of the window's weights.
 -- There is none where an entry is not finite.
-use Rattle.std.specs.Prelude.{◌&&◌, cond, List, ℕ, zero, suc, ◌+◌, ◌-◌, ◌*◌, ◌/◌, ◌%◌, eqb, Float}
+use Rattle.std.specs.Prelude.{◌&&◌, cond, List, ℕ, zero, suc, ◌+◌, ◌-◌, ◌*◌, ◌/◌, ◌%◌, eqb, Float, Option, Some, None}
 use Rattle.std.specs.Float.Ieee.{eq, neg}
 use Rattle.std.specs.Float.Ieee.Scale.{finite}
 use Rattle.shapes.specs.Lists.{tabulated}
@@ -9,7 +9,6 @@ use Rattle.shapes.specs.Turns.{turns}
 use Rattle.refine_formulas.specs.declared.Jacobian.{Jacobian}
 use Rattle.refine_formulas.specs.declared.Matrix.{Matrix}
 use Rattle.refine_formulas.specs.declared.Covariance.{Covariance}
-use Rattle.refine_formulas.specs.declared.Covariance.TheVariants.{Known, Unknown}
 use Rattle.refine_formulas.specs.Numbers.{◌⊕◌, ◌⊗◌, ◌⊘◌}
 use Rattle.refine_formulas.specs.Between.{weight00, weight10, weight01, weight11}
 use Rattle.refine_formulas.specs.Sensitivity.{matrix_det, dot}
@@ -56,10 +55,10 @@ unfoldable pub times_kernel : List Float → List Float → List Float
 unfolding dot
 times_kernel row k = tabulated 5 (λ s. dot row (tabulated 5 (λ r. entry k (5 * r + s))))
 
-abbrev pub known : Float → Float → Float → Covariance
-known xx xy yy = cond (finite xx && finite xy && finite yy) (Known xx xy yy) Unknown
+abbrev pub known : Float → Float → Float → Option Covariance
+known xx xy yy = cond (finite xx && finite xy && finite yy) (Some (record { xx = xx; xy = xy; yy = yy })) None
 
-unfoldable pub covariance_of : List Float → Float → Float → Jacobian → Matrix → Covariance
+unfoldable pub covariance_of : List Float → Float → Float → Jacobian → Matrix → Option Covariance
 unfolding kernel times_kernel gain_first gain_second
 covariance_of overlap tx ty j m =
     let k = kernel overlap tx ty in

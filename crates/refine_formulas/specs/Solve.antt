@@ -1,6 +1,6 @@
 -- The saddle of a fitted quadratic, or the first test that it did not pass and the determinant: above minus the margin, too small, or an offset that is not finite.
 -- A NaN determinant passes the first two, as no comparison with it holds, and not the third.
-use Rattle.std.specs.Prelude.{Bool, ◌&&◌, not, cond, List, Float}
+use Rattle.std.specs.Prelude.{Bool, ◌&&◌, not, cond, List, Float, Result, Ok, Err}
 use Rattle.std.specs.Float.{binary32}
 use Rattle.std.specs.Float.Ieee.{of_bits, lt, neg}
 use Rattle.std.specs.Float.Ieee.Scale.{finite}
@@ -9,9 +9,9 @@ use Rattle.floats.specs.Root.{sqrt}
 use Rattle.shapes.specs.Numbers.{plus_zero, one, entry}
 use Rattle.refine_formulas.specs.declared.SaddlePointConfig.{SaddlePointConfig}
 use Rattle.refine_formulas.specs.declared.PatchSaddle.{PatchSaddle}
+use Rattle.refine_formulas.specs.declared.Flaw.{Flaw}
 use Rattle.refine_formulas.specs.declared.Flaw.TheVariants.{AboveMargin, TooSmall, NotFinite}
-use Rattle.refine_formulas.specs.declared.Solved.{Solved}
-use Rattle.refine_formulas.specs.declared.Solved.TheVariants.{Refused, Saddle}
+use Rattle.refine_formulas.specs.declared.Unsolved.{Unsolved}
 use Rattle.refine_formulas.specs.Numbers.{◌⊕◌, ◌⊖◌, ◌⊗◌, ◌⊘◌, two, four}
 
 -- det H = 4ac - b²
@@ -34,15 +34,19 @@ offset_y l inv = (entry l 1 ⊗ entry l 3 ⊖ two ⊗ entry l 0 ⊗ entry l 4) �
 abbrev pub saddle_of : List Float → Float → Float → Float → PatchSaddle
 saddle_of l det x y = record { ux = x; uy = y; a = entry l 0; b = entry l 1; c = entry l 2; det_h = det }
 
-abbrev pub solved_from : List Float → Float → Float → Float → Solved
-solved_from l det x y = cond (finite x && finite y) (Saddle (saddle_of l det x y)) (Refused NotFinite det)
+-- a fit that is refused, with the determinant
+abbrev pub refused : Flaw → Float → Result PatchSaddle Unsolved
+refused flaw det = Err (record { flaw = flaw; det_h = det })
 
-unfoldable pub solve : SaddlePointConfig → List Float → Solved
+abbrev pub solved_from : List Float → Float → Float → Float → Result PatchSaddle Unsolved
+solved_from l det x y = cond (finite x && finite y) (Ok (saddle_of l det x y)) (refused NotFinite det)
+
+unfoldable pub solve : SaddlePointConfig → List Float → Result PatchSaddle Unsolved
 solve cfg l =
     let det = determinant (entry l 0) (entry l 1) (entry l 2) in
     let inv = one ⊘ det in
-    cond (above_margin cfg det) (Refused AboveMargin det)
-    (cond (too_small cfg det) (Refused TooSmall det)
+    cond (above_margin cfg det) (refused AboveMargin det)
+    (cond (too_small cfg det) (refused TooSmall det)
     (solved_from l det (offset_x l inv) (offset_y l inv)))
 
 -- the root of minus the determinant

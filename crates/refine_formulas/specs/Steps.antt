@@ -1,5 +1,5 @@
 -- What the inner functions of the blend, of the slope and of the covariance do.
-use Rattle.std.specs.Prelude.{cond, List, ℕ, ◌+◌, ◌*◌, Float}
+use Rattle.std.specs.Prelude.{cond, List, ℕ, ◌+◌, ◌*◌, Float, Option}
 use Rattle.std.specs.Float.Ieee.{eq}
 use Rattle.shapes.specs.Lists.{tabulated}
 use Rattle.shapes.specs.Numbers.{plus_zero, one, entry}
@@ -34,6 +34,6 @@ unfolding tabulated
 combined j p q = tabulated 5 (λ k. p ⊗ entry j.first k ⊕ q ⊗ entry j.second k)
 
 -- A K Aᵀ, where the rows of A are a and b
-unfoldable pub spread_of : List Float → List Float → List Float → Covariance
+unfoldable pub spread_of : List Float → List Float → List Float → Option Covariance
 unfolding times_kernel
 spread_of k a b = known (dot (times_kernel a k) a) (dot (times_kernel a k) b) (dot (times_kernel b k) b)

@@ -8,13 +8,11 @@ ghost use Rattle.refine_formulas.specs.Steps.{mixed_of, gone_by};
 
 use super::{Corners, Slope};
 
+#[tactic(auto, unfolding(shapes::specs::Lists::tabulated, crate::specs::Between::blend))]
 pub fn blend(c: Corners, tx: f32, ty: f32) -> [f32; 5]
     ensures { result ≡ Between.blend c tx ty }
 {
-    let c00 = c.c00;
-    let c10 = c.c10;
-    let c01 = c.c01;
-    let c11 = c.c11;
+    let Corners { c00, c10, c01, c11 } = c;
     [
         mixed(tx, ty, c00[0], c10[0], c01[0], c11[0]),
         mixed(tx, ty, c00[1], c10[1], c01[1], c11[1]),
@@ -34,19 +32,19 @@ fn mixed(tx: f32, ty: f32, a: f32, b: f32, c: f32, d: f32) -> f32
 }
 
 // The Rust's `cached_slope`.
+#[tactic(auto, unfolding(crate::specs::Sensitivity::slope_within))]
 pub fn slope_within(c: Corners, tx: f32, ty: f32) -> Slope
     ensures { result ≡ Sensitivity.slope_within c tx ty }
 {
-    let c00 = c.c00;
-    let c10 = c.c10;
-    let c01 = c.c01;
-    let c11 = c.c11;
-    let x = along(c00, c10, c01, c11, ty);
-    let y = along(c00, c01, c10, c11, tx);
-    Slope { x, y }
+    let Corners { c00, c10, c01, c11 } = c;
+    Slope {
+        x: along(c00, c10, c01, c11, ty),
+        y: along(c00, c01, c10, c11, tx),
+    }
 }
 
 // From a to b and from c to d, weighed by how far the window lies from the one and from the other.
+#[tactic(auto, unfolding(shapes::specs::Lists::tabulated))]
 fn along(a: [f32; 5], b: [f32; 5], c: [f32; 5], d: [f32; 5], t: f32) -> [f32; 5]
     ensures { result ≡ tabulated 5 (λ k. gone_by (entry a k) (entry b k) (entry c k) (entry d k) t) }
 {

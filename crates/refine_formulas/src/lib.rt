@@ -8,7 +8,7 @@ pub mod sensitivity;
 pub mod solve;
 
 // The settings; the radius is that of the patch.
-#[derive(Clone, Copy)]
+#[derive(Clone, Copy, Debug, PartialEq)]
 pub struct SaddlePointConfig {
     pub radius: usize,
     pub det_margin: f32,
@@ -17,7 +17,7 @@ pub struct SaddlePointConfig {
 }
 
 // The saddle of a fit: its offset from the window's centre, the quadratic coefficients and the Hessian's determinant.
-#[derive(Clone, Copy)]
+#[derive(Clone, Copy, Debug, PartialEq)]
 pub struct PatchSaddle {
     pub ux: f32,
     pub uy: f32,
@@ -28,22 +28,22 @@ pub struct PatchSaddle {
 }
 
 // Why a fit is refused: the first test that it did not pass.
-#[derive(Clone, Copy)]
+#[derive(Clone, Copy, Debug, PartialEq, Eq)]
 pub enum Flaw {
     AboveMargin,
     TooSmall,
     NotFinite,
 }
 
-// What solving a fit gives: why and the determinant where it is refused.
-#[derive(Drop)]
-pub enum Solved {
-    Refused(Flaw, f32),
-    Saddle(PatchSaddle),
+// A fit that is refused: why, and its Hessian's determinant.
+#[derive(Clone, Copy, Debug, PartialEq)]
+pub struct Unsolved {
+    pub flaw: Flaw,
+    pub det_h: f32,
 }
 
 // The four fits about a base: here, right, below, below right.
-#[derive(Clone, Copy)]
+#[derive(Clone, Copy, Debug, PartialEq)]
 pub struct Corners {
     pub c00: [f32; 5],
     pub c10: [f32; 5],
@@ -52,20 +52,21 @@ pub struct Corners {
 }
 
 // How the coefficients change with the window along each axis.
-#[derive(Drop)]
+#[derive(Clone, Copy, Debug, PartialEq)]
 pub struct Slope {
     pub x: [f32; 5],
     pub y: [f32; 5],
 }
 
 // How the saddle's two coordinates change with the coefficients.
-#[derive(Clone, Copy)]
+#[derive(Clone, Copy, Debug, PartialEq)]
 pub struct Jacobian {
     pub first: [f32; 5],
     pub second: [f32; 5],
 }
 
-#[derive(Clone, Copy)]
+// Two rows of two.
+#[derive(Clone, Copy, Debug, PartialEq)]
 pub struct Matrix {
     pub m00: f32,
     pub m01: f32,
@@ -73,14 +74,17 @@ pub struct Matrix {
     pub m11: f32,
 }
 
-#[derive(Drop)]
+// A step of the window, in pixels.
+#[derive(Clone, Copy, Debug, PartialEq)]
 pub struct Move {
     pub x: f32,
     pub y: f32,
 }
 
-#[derive(Drop)]
-pub enum Covariance {
-    Known { xx: f32, xy: f32, yy: f32 },
-    Unknown,
+// The covariance of a place: every entry is finite.
+#[derive(Clone, Copy, Debug, PartialEq)]
+pub struct Covariance {
+    pub xx: f32,
+    pub xy: f32,
+    pub yy: f32,
 }

@@ -8,7 +8,13 @@ ghost use Rattle.refine_formulas.specs.Steps.{entry_after, combined, spread_of};
 use super::{Covariance, Jacobian, Matrix, sensitivity};
 
 // A K Aᵀ with A = M⁻¹ J.
-pub fn covariance(overlap: &[f32; 225], tx: f32, ty: f32, j: Jacobian, m: Matrix) -> Covariance
+pub fn covariance(
+    overlap: &[f32; 225],
+    tx: f32,
+    ty: f32,
+    j: Jacobian,
+    m: Matrix,
+) -> Option<Covariance>
     ensures { result ≡ Spec.covariance_of overlap.now tx ty j m }
 {
     let weights = pair_weights(tx, ty);
@@ -49,24 +55,19 @@ fn kernel(overlap: &[f32; 225], weights: [f32; 9]) -> [f32; 25]
     ensures { result ≡ tabulated 25 (entry_after overlap.now weights 9) }
 {
     let mut k = [0.0f32; 25];
-    let mut d: usize = 0;
-    'shifts: while d < 9 {
+    for d in 0..9 {
         let w = weights[d];
-        if w == 0.0 {
-            d = d + 1;
-            continue 'shifts;
+        if w != 0.0 {
+            for i in 0..25 {
+                k[i] = k[i] + w * overlap[25 * d + i];
+            }
         }
-        let mut i: usize = 0;
-        'entries: while i < 25 {
-            k[i] = k[i] + w * overlap[25 * d + i];
-            i = i + 1;
-        }
-        d = d + 1;
     }
     k
 }
 
 // p and q times the rows of the Jacobian: a row of A.
+#[tactic(auto, unfolding(shapes::specs::Lists::tabulated, crate::specs::Steps::combined))]
 fn gain(j: Jacobian, p: f32, q: f32) -> [f32; 5]
     ensures { result ≡ combined j p q }
 {
@@ -79,7 +80,8 @@ fn gain(j: Jacobian, p: f32, q: f32) -> [f32; 5]
     ]
 }
 
-fn spread(k: [f32; 25], a: [f32; 5], b: [f32; 5]) -> Covariance
+#[tactic(auto, unfolding(crate::specs::Steps::spread_of))]
+fn spread(k: [f32; 25], a: [f32; 5], b: [f32; 5]) -> Option<Covariance>
     ensures { result ≡ spread_of k a b }
 {
     let ak = times_kernel(a, k);
@@ -91,6 +93,7 @@ fn spread(k: [f32; 25], a: [f32; 5], b: [f32; 5]) -> Covariance
 }
 
 // A row times the kernel's columns.
+#[tactic(auto, unfolding(shapes::specs::Lists::tabulated, crate::specs::Covariance::times_kernel))]
 fn times_kernel(row: [f32; 5], k: [f32; 25]) -> [f32; 5]
     ensures { result ≡ Spec.times_kernel row k }
 {
@@ -103,6 +106,7 @@ fn times_kernel(row: [f32; 5], k: [f32; 25]) -> [f32; 5]
     ]
 }
 
+#[tactic(auto, unfolding(shapes::specs::Lists::tabulated))]
 fn column(k: [f32; 25], s: usize) -> [f32; 5]
     requires { s < 5 }
     ensures { result ≡ tabulated 5 (λ r. entry k (5 * r + s)) }
@@ -110,15 +114,12 @@ fn column(k: [f32; 25], s: usize) -> [f32; 5]
     [k[s], k[5 + s], k[10 + s], k[15 + s], k[20 + s]]
 }
 
-fn known(xx: f32, xy: f32, yy: f32) -> Covariance
+fn known(xx: f32, xy: f32, yy: f32) -> Option<Covariance>
     ensures { result ≡ Spec.known xx xy yy }
 {
-    if floats::is_finite_f32(xx) {
-        if floats::is_finite_f32(xy) {
-            if floats::is_finite_f32(yy) {
-                return Covariance::Known { xx, xy, yy };
-            }
-        }
+    if floats::is_finite_f32(xx) & floats::is_finite_f32(xy) & floats::is_finite_f32(yy) {
+        Some(Covariance { xx, xy, yy })
+    } else {
+        None
     }
-    Covariance::Unknown
 }

@@ -41,18 +41,16 @@ pub fn saddle_jacobian(f: PatchSaddle) -> Jacobian
 }
 
 // The window sensitivity M: how the saddle moves with the window.
+#[tactic(auto, unfolding(crate::specs::Sensitivity::sensitivity))]
 pub fn sensitivity(j: Jacobian, s: Slope) -> Matrix
     ensures { result ≡ Sensitivity.sensitivity j s }
 {
-    let first = j.first;
-    let second = j.second;
-    let x = s.x;
-    let y = s.y;
-    let m00 = dot(first, x);
-    let m01 = dot(first, y);
-    let m10 = dot(second, x);
-    let m11 = dot(second, y);
-    Matrix { m00, m01, m10, m11 }
+    Matrix {
+        m00: dot(j.first, s.x),
+        m01: dot(j.first, s.y),
+        m10: dot(j.second, s.x),
+        m11: dot(j.second, s.y),
+    }
 }
 
 // The Newton step of the gain -M where that is clearly positive, else the plain step.
@@ -66,15 +64,14 @@ pub fn newton_step(m: Matrix, f: PatchSaddle) -> Move
     let ux = f.ux;
     let uy = f.uy;
     let det = g00 * g11 - g01 * g10;
-    if 0.05 < det {
-        if 0.0 < g00 + g11 {
-            return Move {
-                x: (g11 * ux - g01 * uy) / det,
-                y: (g00 * uy - g10 * ux) / det,
-            };
+    if (0.05 < det) & (0.0 < g00 + g11) {
+        Move {
+            x: (g11 * ux - g01 * uy) / det,
+            y: (g00 * uy - g10 * ux) / det,
         }
+    } else {
+        Move { x: ux, y: uy }
     }
-    Move { x: ux, y: uy }
 }
 
 // The slope along an axis from two neighbouring fits, as the Rust adds it up.
@@ -95,8 +92,5 @@ pub fn regular(m: Matrix) -> bool
     ensures { result ≡ Sensitivity.regular m }
 {
     let det = m.m00 * m.m11 - m.m01 * m.m10;
-    if floats::is_finite_f32(det) {
-        return det != 0.0;
-    }
-    false
+    floats::is_finite_f32(det) & (det != 0.0)
 }

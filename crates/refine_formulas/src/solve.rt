@@ -2,40 +2,44 @@
 ghost use Rattle.std.specs.Prelude.{◌≡◌};
 ghost use Rattle.refine_formulas.specs.Solve as Spec;
 
-use super::{Flaw, PatchSaddle, SaddlePointConfig, Solved};
+use super::{Flaw, PatchSaddle, SaddlePointConfig, Unsolved};
 
 // A tie at a limit is not refused.
-pub fn solve(cfg: SaddlePointConfig, coefs: [f32; 5]) -> Solved
+pub fn solve(cfg: SaddlePointConfig, coefs: [f32; 5]) -> Result<PatchSaddle, Unsolved>
     ensures { result ≡ Spec.solve cfg coefs }
 {
-    let a = coefs[0];
-    let b = coefs[1];
-    let c = coefs[2];
-    let d = coefs[3];
-    let e = coefs[4];
-    let det = 4.0 * a * c - b * b;
-    if -cfg.det_margin < det {
-        return Solved::Refused(Flaw::AboveMargin, det);
+    let [a, b, c, d, e] = coefs;
+    let det_h = 4.0 * a * c - b * b;
+    if -cfg.det_margin < det_h {
+        return Err(Unsolved {
+            flaw: Flaw::AboveMargin,
+            det_h,
+        });
     }
-    if floats::magnitude_f32(det) < cfg.min_abs_det {
-        return Solved::Refused(Flaw::TooSmall, det);
+    if floats::magnitude_f32(det_h) < cfg.min_abs_det {
+        return Err(Unsolved {
+            flaw: Flaw::TooSmall,
+            det_h,
+        });
     }
-    let inv = 1.0 / det;
+    let inv = 1.0 / det_h;
     let ux = -(2.0 * c * d - b * e) * inv;
     let uy = (b * d - 2.0 * a * e) * inv;
-    if floats::is_finite_f32(ux) {
-        if floats::is_finite_f32(uy) {
-            return Solved::Saddle(PatchSaddle {
-                ux,
-                uy,
-                a,
-                b,
-                c,
-                det_h: det,
-            });
-        }
+    if floats::is_finite_f32(ux) & floats::is_finite_f32(uy) {
+        Ok(PatchSaddle {
+            ux,
+            uy,
+            a,
+            b,
+            c,
+            det_h,
+        })
+    } else {
+        Err(Unsolved {
+            flaw: Flaw::NotFinite,
+            det_h,
+        })
     }
-    Solved::Refused(Flaw::NotFinite, det)
 }
 
 // |u|².

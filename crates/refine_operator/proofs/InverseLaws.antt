@@ -3,7 +3,7 @@ use Rattle.std.proofs.Common.{◌≡◌, ℕ, suc, ◌+◌, ◌-◌, ◌*◌, �
 use lib.Ieee.{Float, nan, binary64, sub, mul, div, lt}
 use Rattle.floats.specs.Magnitude.{magnitude}
 use Rattle.floats.specs.TotalOrder.{total_cmp}
-use Rattle.floats.specs.declared.Order.{Order}
+use Rattle.std.specs.declared.cmp.Ordering.{Ordering}
 use Rattle.shapes.proofs.ListLaws.{length-tabulated, get_d-tabulated, tabulated-by}
 use Rattle.shapes.specs.Numbers.{entry, one}
 use Rattle.refine_operator.specs.Inverse.{better, pivot_from, pivot_of, exchanged, swapped, scaled, cleared, least_pivot, singular, reduced, reduce_from}
@@ -107,10 +107,10 @@ module _ (col pivot : ℕ) (m : List Float) (hc : col < 6) (hp : pivot < 6) wher
       ∙ tabulated-by 72 nan (cleared col (scaled col (swapped col pivot m))) (length-cleared col (scaled col (swapped col pivot m)))
 
 -- ---- the pivot
-pub better-is : (m : List Float) (col best p : ℕ) (x y : Float) (o : Order) → x ≡ entry m (12 * best + col) → y ≡ entry m (12 * p + col) → o ≡ total_cmp x y
+pub better-is : (m : List Float) (col best p : ℕ) (x y : Float) (o : Ordering) → x ≡ entry m (12 * best + col) → y ≡ entry m (12 * p + col) → o ≡ total_cmp x y
     → better m col best p o ≡ better m col best p (total_cmp (entry m (12 * best + col)) (entry m (12 * p + col)))
 better-is m col best p x y o e d q =
-    ap (λ (z : Order). better m col best p z) (q ∙ ap (λ (z : Float). total_cmp z y) e ∙ ap (λ (z : Float). total_cmp (entry m (12 * best + col)) z) d)
+    ap (λ (z : Ordering). better m col best p z) (q ∙ ap (λ (z : Float). total_cmp z y) e ∙ ap (λ (z : Float). total_cmp (entry m (12 * best + col)) z) d)
 
 pub pivot-none : (m : List Float) (col : ℕ) → pivot_from (6 - (col + 1)) m col col (col + 1) ≡ pivot_of m col
 unfolding pivot_of

@@ -5,8 +5,8 @@ use Rattle.std.specs.Float.{binary64}
 use Rattle.std.specs.Float.Ieee.{add, sub, mul, div, lt}
 use Rattle.floats.specs.Magnitude.{magnitude}
 use Rattle.floats.specs.TotalOrder.{total_cmp}
-use Rattle.floats.specs.declared.Order.{Order}
-use Rattle.floats.specs.declared.Order.TheVariants.{Less, Equal, Greater}
+use Rattle.std.specs.declared.cmp.Ordering.{Ordering}
+use Rattle.std.specs.declared.cmp.Ordering.TheVariants.{Less, Equal, Greater}
 use Rattle.shapes.specs.Lists.{tabulated}
 use Rattle.shapes.specs.Numbers.{entry, plus_zero, one}
 use Rattle.shapes.specs.Turns.{turns}
@@ -24,7 +24,7 @@ normal_matrix radius =
 
 -- ---- one column
 -- of the row best so far and the row p: p unless the best is greater
-abbrev pub better : List Float → ℕ → ℕ → ℕ → Order → ℕ
+abbrev pub better : List Float → ℕ → ℕ → ℕ → Ordering → ℕ
 better m col best p Less = p
 better m col best p Equal = p
 better m col best p Greater = best

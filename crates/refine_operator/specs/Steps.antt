@@ -1,5 +1,5 @@
 -- The steps of the work: what each hands to the next.
-use Rattle.std.specs.Prelude.{◌≡◌, ℕ, ◌+◌, ◌-◌, ◌*◌, ◌/◌, ◌%◌, ◌<◌, ◌≤◌, Bool, true, false, cond, ◌&&◌, List, length, Float}
+use Rattle.std.specs.Prelude.{◌≡◌, ℕ, ◌+◌, ◌-◌, ◌*◌, ◌/◌, ◌%◌, ◌<◌, ◌≤◌, cond, ◌&&◌, List, length, Float, Result, Ok, Err}
 use Rattle.std.specs.Float.{binary32, binary64}
 use Rattle.std.specs.Float.Ieee.{add, mul}
 use Rattle.floats.specs.Convert.{convert}
@@ -7,6 +7,7 @@ use Rattle.floats.specs.TotalOrder.{total_cmp}
 use Rattle.shapes.specs.Lists.{tabulated, overwritten}
 use Rattle.shapes.specs.Numbers.{entry, plus_zero, minus_zero}
 use Rattle.shapes.specs.Turns.{turns}
+use Rattle.refine_operator.specs.declared.NoInverse.{NoInverse}
 use Rattle.refine_operator.specs.declared.Phi.{Phi}
 use Rattle.refine_operator.specs.declared.Upper.{Upper}
 use Rattle.refine_operator.specs.Basis.{side, offset, quadratic_basis, phi}
@@ -68,9 +69,9 @@ pub record Pivot (m : List Float) (col r : ℕ) : Type 0 where
   pub row : r < 6
 
 -- ---- what reducing says and leaves
-abbrev pub reduced_by : Bool → List Float → Reduced
-reduced_by true m = reduced m
-reduced_by false m = singular
+abbrev pub reduced_by : Result Unit NoInverse → List Float → Reduced
+reduced_by (Ok u) m = reduced m
+reduced_by (Err e) m = singular
 
 -- the entry i after a column
 abbrev pub reduced_at : ℕ → ℕ → List Float → ℕ → Float

@@ -13,7 +13,7 @@ fn offset_of(i: usize, radius: usize) -> f32
     requires { (i ≤ 14) × (radius ≤ 7) }
     ensures { result ≡ of_int binary32 (sub_ℕ i radius) }
 {
-    floats::i32_to_f32(i as i32 - radius as i32)
+    std::num::nearest_i32_to_f32(i as i32 - radius as i32)
 }
 
 // The regressors at the column x and the row y, widened.

@@ -7,11 +7,11 @@ ghost use Rattle.shapes.specs.Numbers.{entry};
 ghost use Rattle.refine_operator.specs.Inverse.{exchanged, swapped, scaled, cleared, least_pivot, reduce_from, inverse_normal_matrix};
 ghost use Rattle.refine_operator.specs.Steps.{Better, Pivot, reduced_by, reduced_at, Continued};
 
-use crate::{basis, normal};
-use floats::Order;
+use crate::{NoInverse, basis, normal};
+use std::cmp::Ordering;
 
-// The inverse of a radius' normal matrix, right of what is then the identity; false where there is none.
-pub fn inverse_of(radius: usize, m: &mut [f64; 72]) -> bool
+// The inverse of a radius' normal matrix, right of what is then the identity.
+pub fn inverse_of(radius: usize, m: &mut [f64; 72]) -> Result<(), NoInverse>
     requires { radius ≤ 7 }
     ensures { inverse_normal_matrix radius ≡ reduced_by result m.new }
 {
@@ -34,9 +34,9 @@ fn better_of(m: &[f64; 72], col: usize, best: usize, p: usize) -> usize
     let a = entry(m, 12 * best + col);
     let b = entry(m, 12 * p + col);
     match floats::total_cmp_magnitudes(a, b) {
-        Order::Less => p,
-        Order::Equal => p,
-        Order::Greater => best,
+        Ordering::Less => p,
+        Ordering::Equal => p,
+        Ordering::Greater => best,
     }
 }
 
@@ -45,10 +45,8 @@ fn pivot_of(m: &[f64; 72], col: usize) -> usize
     ensures { Pivot m.now col result }
 {
     let mut best = col;
-    let mut p = col + 1;
-    while p < 6 {
+    for p in col + 1..6 {
         best = better_of(m, col, best, p);
-        p = p + 1;
     }
     best
 }
@@ -79,25 +77,21 @@ fn pivot_row(m: &[f64; 72], col: usize, pivot: usize, out: &mut [f64])
     ensures { Continued (12 * col) (12 * col + 12) (reduced_at col pivot m.now) out.old out.new }
 {
     let scale = 1.0 / m[12 * pivot + col];
-    let mut j: usize = 0;
-    while j < 12 {
+    for j in 0..12 {
         out[12 * col + j] = m[12 * pivot + j] * scale;
-        j = j + 1;
     }
 }
 
 // Another row, which stands at `from` before the exchange, less so much of the pivot's that it has zero there.
 fn cleared_row(m: &[f64; 72], col: usize, pivot: usize, from: usize, row: usize, out: &mut [f64])
-    requires col_bound { (col < 6) × (pivot < 6) × (from < 6) × (row < 6) × (length out.old ≡ 72) }
-    requires from_value { (from ≡ exchanged col pivot row) × (row ≢ col) }
+    requires rows_in_bounds { (col < 6) × (pivot < 6) × (from < 6) × (row < 6) × (length out.old ≡ 72) }
+    requires exchanged { (from ≡ exchanged col pivot row) × (row ≢ col) }
     ensures { Continued (12 * row) (12 * row + 12) (reduced_at col pivot m.now) out.old out.new }
 {
     let scale = 1.0 / m[12 * pivot + col];
     let factor = m[12 * from + col];
-    let mut j: usize = 0;
-    while j < 12 {
+    for j in 0..12 {
         out[12 * row + j] = m[12 * from + j] - factor * (m[12 * pivot + j] * scale);
-        j = j + 1;
     }
 }
 
@@ -116,27 +110,23 @@ fn reduced_column(m: &[f64; 72], col: usize, pivot: usize, out: &mut [f64])
     requires { (col < 6) × (pivot < 6) × (length out.old ≡ 72) }
     ensures { out.new ≡ cleared col (scaled col (swapped col pivot m.now)) }
 {
-    let mut row: usize = 0;
-    while row < 6 {
+    for row in 0..6 {
         reduced_row(m, col, pivot, row, out);
-        row = row + 1;
     }
 }
 
-// Reduces the matrix, column after column; false where a pivot is too small.
-fn reduce(m: &mut [f64; 72]) -> bool
+// Reduces the matrix, column after column.
+fn reduce(m: &mut [f64; 72]) -> Result<(), NoInverse>
     ensures { reduce_from 6 0 m.old ≡ reduced_by result m.new }
 {
     let mut next = [0.0f64; 72];
-    let mut col: usize = 0;
-    while col < 6 {
+    for col in 0..6 {
         let p = pivot_of(m, col);
         if is_below_least(entry(m, 12 * p + col)) {
-            return false;
+            return Err(NoInverse);
         }
         reduced_column(m, col, p, &mut next);
         *m = next;
-        col = col + 1;
     }
-    true
+    Ok(())
 }

@@ -1,6 +1,8 @@
 // The fit operator of the saddle-point refiner, after `saddle_point.rs`: built once for a radius and lent to every fit.
 #![tactic(auto)]
 
+ghost use Rattle.std.specs.Prelude.{◌≡◌};
+ghost use Rattle.refine_operator.specs.declared.OperatorError.TheVariants.{Singular, Refused};
 ghost use Rattle.refine_operator.specs.Call.{Done, ColumnsDone, OverlapDone};
 
 mod basis;
@@ -11,12 +13,31 @@ mod rows;
 
 use refusals::Refusal;
 
-// How building ended: the operator is there, there is none, or the radius is refused.
-#[derive(Drop)]
-pub enum Operator {
-    Built,
+/// Why no operator was built: the normal matrix of radius 0 has no inverse, or the radius is refused.
+#[derive(Clone, Copy, Debug, PartialEq, Eq)]
+pub enum OperatorError {
     Singular,
     Refused(Refusal),
+}
+
+impl From<Refusal> for OperatorError {
+    ghost from_gives = { λ refusal error. error ≡ Refused refusal };
+
+    fn from(refusal: Refusal) -> OperatorError {
+        OperatorError::Refused(refusal)
+    }
+}
+
+// The normal matrix has no inverse, since a pivot is too small.
+#[derive(Clone, Copy, Debug, PartialEq, Eq)]
+struct NoInverse;
+
+impl From<NoInverse> for OperatorError {
+    ghost from_gives = { λ _ error. error ≡ Singular };
+
+    fn from(_error: NoInverse) -> OperatorError {
+        OperatorError::Singular
+    }
 }
 
 // The six regressors of a sample.
@@ -58,43 +79,39 @@ struct Upper {
 
 // Builds the operator for a radius: five coefficients a sample, and the nine overlaps. Each part works out the inverse for itself: so neither's matrices stand in a
 // caller's stack.
-pub fn fit_operator(radius: usize, columns: &mut [f32; 1125], overlap: &mut [f32; 225]) -> Operator
+pub fn fit_operator(
+    radius: usize,
+    columns: &mut [f32; 1125],
+    overlap: &mut [f32; 225],
+) -> Result<(), OperatorError>
     ensures { Done radius columns.old overlap.old result columns.new overlap.new }
 {
-    let operator = fit_columns(radius, columns);
-    match operator {
-        Operator::Built => fit_overlap(radius, overlap),
-        Operator::Singular => Operator::Singular,
-        Operator::Refused(refusal) => Operator::Refused(refusal),
-    }
+    fit_columns(radius, columns)?;
+    fit_overlap(radius, overlap)
 }
 
 // The coefficients alone: a list of seeds needs no overlaps.
-pub fn fit_columns(radius: usize, columns: &mut [f32; 1125]) -> Operator
+pub fn fit_columns(radius: usize, columns: &mut [f32; 1125]) -> Result<(), OperatorError>
     ensures { ColumnsDone radius columns.old result columns.new }
 {
     if 7 < radius {
-        return Operator::Refused(Refusal::BadRadius);
+        return Err(OperatorError::Refused(Refusal::BadRadius));
     }
     let mut m = [0.0f64; 72];
-    if !inverse::inverse_of(radius, &mut m) {
-        return Operator::Singular;
-    }
+    inverse::inverse_of(radius, &mut m)?;
     rows::fill_columns(radius, &m, columns);
-    Operator::Built
+    Ok(())
 }
 
 // The overlaps alone, for where a covariance is wanted.
-pub fn fit_overlap(radius: usize, overlap: &mut [f32; 225]) -> Operator
+pub fn fit_overlap(radius: usize, overlap: &mut [f32; 225]) -> Result<(), OperatorError>
     ensures { OverlapDone radius overlap.old result overlap.new }
 {
     if 7 < radius {
-        return Operator::Refused(Refusal::BadRadius);
+        return Err(OperatorError::Refused(Refusal::BadRadius));
     }
     let mut m = [0.0f64; 72];
-    if !inverse::inverse_of(radius, &mut m) {
-        return Operator::Singular;
-    }
+    inverse::inverse_of(radius, &mut m)?;
     overlap::fill_overlap(radius, &m, overlap);
-    Operator::Built
+    Ok(())
 }

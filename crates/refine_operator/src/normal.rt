@@ -41,10 +41,8 @@ fn add_line(radius: usize, y: usize, s: Upper) -> Upper
     ensures { result ≡ upper_at radius ((y + 1) * side radius) }
 {
     let mut sums = s;
-    let mut x: usize = 0;
-    while x < 2 * radius + 1 {
+    for x in 0..2 * radius + 1 {
         sums = add_sample(sums, basis::phi_of(radius, x, y));
-        x = x + 1;
     }
     sums
 }
@@ -77,10 +75,8 @@ fn sums_of(radius: usize) -> Upper
         ef: 0.0,
         ff: 0.0,
     };
-    let mut y: usize = 0;
-    while y < 2 * radius + 1 {
+    for y in 0..2 * radius + 1 {
         sums = add_line(radius, y, sums);
-        y = y + 1;
     }
     sums
 }

@@ -11,10 +11,7 @@ fn stays_inside(radius: usize, i: usize, s: usize) -> bool
     requires { (radius ≤ 7) × (i < side radius) × (s < 3) }
     ensures { result ≡ stays radius i s }
 {
-    if i + s < 1 {
-        return false;
-    }
-    i + s - 1 < 2 * radius + 1
+    1 <= i + s && i + s - 1 < 2 * radius + 1
 }
 
 // The products of row r here.
@@ -23,10 +20,8 @@ fn add_five(sums: &mut [f64], r: usize, here: &[f64; 5], there: &[f64; 5])
     ensures { FiveAdded r 5 here.now there.now sums.old sums.new }
 {
     let h = here[r];
-    let mut s: usize = 0;
-    while s < 5 {
+    for s in 0..5 {
         sums[5 * r + s] = sums[5 * r + s] + h * there[s];
-        s = s + 1;
     }
 }
 
@@ -35,17 +30,16 @@ fn add_block(sums: &mut [f64], here: &[f64; 5], there: &[f64; 5])
     requires { length sums.old ≡ 25 }
     ensures { sums.new ≡ block_added sums.old here.now there.now }
 {
-    let mut r: usize = 0;
-    while r < 5 {
+    for r in 0..5 {
         add_five(sums, r, here, there);
-        r = r + 1;
     }
 }
 
 // The entries at the shifted sample; those here where nothing is shifted, since entries take most of the time.
 fn shifted(radius: usize, m: &[f64; 72], d: usize, x: usize, y: usize, here: [f64; 5]) -> [f64; 5]
-    requires radius_bound { (radius ≤ 7) × (d < 9) × (x < side radius) × (y < side radius) }
-    requires d_value { (stays radius x (d % 3) ≡ true) × (stays radius y (d / 3) ≡ true) × (here ≡ five_at radius m.now x y) }
+    requires in_square { (radius ≤ 7) × (d < 9) × (x < side radius) × (y < side radius) }
+    requires stays_in_square { (stays radius x (d % 3) ≡ true) × (stays radius y (d / 3) ≡ true) }
+    requires entries_here { here ≡ five_at radius m.now x y }
     ensures { result ≡ five_at radius m.now (x + d % 3 - 1) (y + d / 3 - 1) }
 {
     if d == 4 {
@@ -59,15 +53,11 @@ fn add_sample(radius: usize, m: &[f64; 72], d: usize, x: usize, y: usize, sums: 
     requires { (radius ≤ 7) × (d < 9) × (x < side radius) × (y < side radius) × (length sums.old ≡ 25) }
     ensures { sums.new ≡ sample_added radius m.now d x y sums.old }
 {
-    if !stays_inside(radius, x, d % 3) {
-        return;
+    if stays_inside(radius, x, d % 3) & stays_inside(radius, y, d / 3) {
+        let here = rows::five_of(radius, m, x, y);
+        let there = shifted(radius, m, d, x, y, here);
+        add_block(sums, &here, &there);
     }
-    if !stays_inside(radius, y, d / 3) {
-        return;
-    }
-    let here = rows::five_of(radius, m, x, y);
-    let there = shifted(radius, m, d, x, y, here);
-    add_block(sums, &here, &there);
 }
 
 // The samples of the row y.
@@ -75,10 +65,8 @@ fn add_line(radius: usize, m: &[f64; 72], d: usize, y: usize, sums: &mut [f64])
     requires { (radius ≤ 7) × (d < 9) × (y < side radius) × (sums.old ≡ sums_at radius m.now d (y * side radius)) }
     ensures { sums.new ≡ sums_at radius m.now d ((y + 1) * side radius) }
 {
-    let mut x: usize = 0;
-    while x < 2 * radius + 1 {
+    for x in 0..2 * radius + 1 {
         add_sample(radius, m, d, x, y, sums);
-        x = x + 1;
     }
 }
 
@@ -87,10 +75,8 @@ fn put(d: usize, sums: &[f64; 25], overlap: &mut [f32])
     requires { (d < 9) × (length overlap.old ≡ 225) }
     ensures { BlockPut d 25 sums.now overlap.old overlap.new }
 {
-    let mut i: usize = 0;
-    while i < 25 {
+    for i in 0..25 {
         overlap[25 * d + i] = floats::f64_to_f32(sums[i]);
-        i = i + 1;
     }
 }
 
@@ -99,10 +85,8 @@ fn fill_shift(radius: usize, m: &[f64; 72], d: usize, overlap: &mut [f32])
     ensures { Continued (25 * d) (25 * d + 25) (overlap_at radius m.now) overlap.old overlap.new }
 {
     let mut sums = [0.0f64; 25];
-    let mut y: usize = 0;
-    while y < 2 * radius + 1 {
+    for y in 0..2 * radius + 1 {
         add_line(radius, m, d, y, &mut sums);
-        y = y + 1;
     }
     put(d, &sums, overlap);
 }
@@ -112,10 +96,8 @@ fn mirror(overlap: &mut [f32])
     requires { length overlap.old ≡ 225 }
     ensures { Mirrored 225 overlap.old overlap.new }
 {
-    let mut i: usize = 125;
-    while i < 225 {
+    for i in 125..225 {
         overlap[i] = overlap[25 * (8 - i / 25) + 5 * (i % 5) + i % 25 / 5];
-        i = i + 1;
     }
 }
 
@@ -123,10 +105,8 @@ pub fn fill_overlap(radius: usize, m: &[f64; 72], overlap: &mut [f32])
     requires { (radius ≤ 7) × (length overlap.old ≡ 225) }
     ensures { overlap.new ≡ overlap_of radius m.now }
 {
-    let mut d: usize = 0;
-    while d < 5 {
+    for d in 0..5 {
         fill_shift(radius, m, d, overlap);
-        d = d + 1;
     }
     mirror(overlap);
 }

@@ -41,10 +41,8 @@ fn put(radius: usize, m: &[f64; 72], x: usize, y: usize, k: usize, columns: &mut
     ensures { Continued (5 * k) (5 * k + 5) (column_at radius m.now) columns.old columns.new }
 {
     let five = five_of(radius, m, x, y);
-    let mut c: usize = 0;
-    while c < 5 {
+    for c in 0..5 {
         columns[5 * k + c] = floats::f64_to_f32(five[c]);
-        c = c + 1;
     }
 }
 
@@ -53,10 +51,8 @@ fn fill_line(radius: usize, m: &[f64; 72], y: usize, from: usize, columns: &mut 
     requires { (radius ≤ 7) × (y < side radius) × (from ≡ y * side radius) × (from + side radius ≤ 225) × (length columns.old ≡ 1125) }
     ensures { Continued (5 * from) (5 * (from + side radius)) (column_at radius m.now) columns.old columns.new }
 {
-    let mut x: usize = 0;
-    while x < 2 * radius + 1 {
+    for x in 0..2 * radius + 1 {
         put(radius, m, x, y, from + x, columns);
-        x = x + 1;
     }
 }
 
@@ -64,9 +60,7 @@ pub fn fill_columns(radius: usize, m: &[f64; 72], columns: &mut [f32])
     requires { (radius ≤ 7) × (length columns.old ≡ 1125) }
     ensures { columns.new ≡ overwritten (5 * samples radius) (column_at radius m.now) columns.old }
 {
-    let mut y: usize = 0;
-    while y < 2 * radius + 1 {
+    for y in 0..2 * radius + 1 {
         fill_line(radius, m, y, y * (2 * radius + 1), columns);
-        y = y + 1;
     }
 }

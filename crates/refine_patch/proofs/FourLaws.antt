@@ -15,7 +15,6 @@ use lib.Ieee.{Float, nan}
 use Rattle.shapes.specs.Numbers.{entry}
 use Rattle.shapes.proofs.ListLaws.{length-tabulated, get_d-tabulated, tabulated-by, tabulated-cong}
 use Rattle.refine_patch.specs.declared.Firsts.{Firsts}
-use Rattle.refine_patch.specs.declared.Quad.{Quad}
 use Rattle.refine_patch.specs.declared.Sums.{Sums}
 use Rattle.refine_patch.specs.StepsFrom.{four_written}
 use Rattle.refine_patch.specs.StepsFour.{four_of, lane_of, lane_in, sum_in, quad_by, four_set, blocks, Gathered}
@@ -192,12 +191,12 @@ pub blocks-none : (f : ℕ → ℕ → Float) (to : ℕ) (old : List Float) → 
 unfolding blocks
 blocks-none f to old = refl
 
-pub block_more : (f : ℕ → ℕ → Float) (to n : ℕ) (old l after : List Float) (v : Quad) → l ≡ blocks n f to old → v ≡ quad_by (f n) → after ≡ four_set l (to + 4 * n) (lane_in v) → after ≡ blocks (n + 1) f to old
+pub block_more : (f : ℕ → ℕ → Float) (to n : ℕ) (old l after : List Float) (v : List Float) → l ≡ blocks n f to old → v ≡ quad_by (f n) → after ≡ four_set l (to + 4 * n) (lane_in v) → after ≡ blocks (n + 1) f to old
 unfolding blocks
 block_more f to n old l after v e q p =
     p
     ∙ ap (λ (k : List Float). four_set k (to + 4 * n) (lane_in v)) e
-    ∙ ap (λ (w : Quad). four_set (blocks n f to old) (to + 4 * n) (lane_in w)) q
+    ∙ ap (λ (w : List Float). four_set (blocks n f to old) (to + 4 * n) (lane_in w)) q
     ∙ ap (λ (k : ℕ). blocks k f to old) (sym (add-one n))
 
 -- five blocks

@@ -1,12 +1,14 @@
 -- Sample by sample, row by row, the sums of four patches become their coefficients; and where the rows and the centres lie.
 use mathlib.Core.Path.{◌≡◌, refl, sym, ap, ◌∙◌, subst}
-use mathlib.Core.Bool.{Bool, true, false, ◌&&◌, cond, and-eq-true_iff}
+use mathlib.Core.Bool.{Bool, true, ◌&&◌, cond, and-eq-true_iff}
 use mathlib.Core.Logic.{⊎_elim}
 use mathlib.Core.List.{List}
-use Prim.Native.Nat.{ℕ, zero, suc, ◌+◌, ◌-◌, ◌*◌, ◌/◌, ◌%◌, ◌≤◌, ◌<◌}
+use Prim.Native.Nat.{ℕ, zero, suc, ◌+◌, ◌-◌, ◌*◌, ◌/◌, ◌%◌, ◌≤◌, ◌<◌, ◌^◌}
 use native.Mathlib.Nat.{add_assoc, add-zero, add-suc, add-mul, mul_assoc, one-mul, zero-mul, le_refl, le_trans, suc-mul, mul-le-mul, mul-le-mul_right, eq-or-lt_of_le, div-add-mod', mod-lt}
 use native.Mathlib.Numerals.{add-one}
 use native.Mathlib.Omega.{arith}
+use Rattle.std.specs.Ordering.{ord_min, nat_cmp}
+use Rattle.std.proofs.lemmas.Grind.{common_steps}
 use borrow.Author.Tests.{leb-true, lt-ltb, le-ltb}
 use lib.Dec.{leb}
 use lib.Arith.{digits_div, digits_mod}
@@ -14,30 +16,26 @@ use lib.ListN.{length, get_or}
 use lib.Ieee.{Float}
 use Rattle.shapes.specs.Numbers.{plus_zero, entry}
 use Rattle.shapes.specs.Turns.{turns}
-use Rattle.imageview.specs.Image.{samples_of}
+use Rattle.imageview.specs.Image.{Image}
+use Rattle.imageview.specs.Steps.{IsTested}
+use Rattle.imageview.proofs.ImageLaws.{samples-most as image-most}
 use Rattle.refine_operator.specs.Basis.{side, samples}
 use Rattle.refine_formulas.specs.Numbers.{◌⊕◌, ◌⊖◌, ◌⊗◌}
 use Rattle.refine_patch.specs.declared.Firsts.{Firsts}
-use Rattle.refine_patch.specs.declared.Quad.{Quad}
 use Rattle.refine_patch.specs.declared.Sums.{Sums}
-use Rattle.refine_patch.specs.StepsFrom.{sample_from, coefficient_from, Repeats}
-use Rattle.refine_patch.specs.StepsFour.{lane_of, lane_in, sum_in, quad_in, quad_by, sums_by, moved_by, float_of, level_of, added, row_added, blocks, wide_of, rows_of, FourReach, PatchesInside, Reaches, RowsReach, Gathered, Rows}
+use Rattle.refine_patch.specs.StepsFrom.{sample_from, coefficient_from}
+use Rattle.refine_patch.specs.StepsFour.{lane_of, lane_in, sum_in, quad_by, sums_by, moved_by, float_of, level_of, added, row_added, blocks, wide_of, rows_of, FourReach, PatchesInside, Reaches, RowsReach, Gathered, Rows}
 use Rattle.refine_patch.specs.StepsRows.{centres_of, term, sums_after}
 use Rattle.refine_patch.proofs.FourLaws.{lt-or-le}
 
 -- ---- by the lane
 quad-same : (f g : ℕ → Float) → ((l : ℕ) → l < 4 → f l ≡ g l) → quad_by f ≡ quad_by g
 quad-same f g e =
-    ap (λ (x : Float). record { p = x; q = f 1; r = f 2; s = f 3 }) (e 0 (omega arith))
-    ∙ ap (λ (x : Float). record { p = g 0; q = x; r = f 2; s = f 3 }) (e 1 (omega arith))
-    ∙ ap (λ (x : Float). record { p = g 0; q = g 1; r = x; s = f 3 }) (e 2 (omega arith))
-    ∙ ap (λ (x : Float). record { p = g 0; q = g 1; r = g 2; s = x }) (e 3 (omega arith))
-
--- four numbers, each that of its lane
-pub quad-of : (f : ℕ → Float) (p q r s : Float) → p ≡ f 0 → q ≡ f 1 → r ≡ f 2 → s ≡ f 3 → record { p = p; q = q; r = r; s = s } ≡ quad_by f
-quad-of f p q r s a b c d =
-    ap (λ (x : Float). record { p = x; q = q; r = r; s = s }) a ∙ ap (λ (x : Float). record { p = f 0; q = x; r = r; s = s }) b
-    ∙ ap (λ (x : Float). record { p = f 0; q = f 1; r = x; s = s }) c ∙ ap (λ (x : Float). record { p = f 0; q = f 1; r = f 2; s = x }) d
+    let a = e 0 (omega arith) in
+    let b = e 1 (omega arith) in
+    let c = e 2 (omega arith) in
+    let d = e 3 (omega arith) in
+    cc
 
 lane-quad : (f : ℕ → Float) (l : ℕ) → l < 4 → lane_in (quad_by f) l ≡ f l
 lane-quad f zero h = refl
@@ -105,16 +103,20 @@ rows-most radius = ⊎_elim (λ (p : radius < 3). omega (arith, rows-small radiu
 pub rows-least : (radius : ℕ) → 0 < rows_of radius
 rows-least radius = ⊎_elim (λ (p : radius < 3). omega (arith, rows-small radius p)) (λ (p : 3 ≤ radius). omega (arith, rows-large radius p)) (lt-or-le radius 3)
 
--- ---- adding samples
-pub row-none : (columns : List Float) (row : List ℕ) (centre : Quad) (from : ℕ) (s : Sums) → s ≡ row_added columns row centre from 0 s
-unfolding row_added
-row-none columns row centre from s = refl
+-- the lesser of two numbers
+pub lesser-of : (a b r : ℕ) → r ≡ ord_min nat_cmp a b → (r ≤ a) × (r ≤ b) × (0 < a → 0 < b → 0 < r)
+lesser-of a b r e = (grind (arith, common_steps), grind (arith, common_steps), λ p q. grind (arith, common_steps))
 
-pub row_more : (columns : List Float) (row : List ℕ) (centre : Quad) (from n : ℕ) (s t u : Sums) (z : Quad) → t ≡ row_added columns row centre from n s → z ≡ level_of (λ l. get_or row (4 * n + l) 0) centre → u ≡ added columns (from + n) z t → u ≡ row_added columns row centre from (n + 1) s
+-- ---- adding samples
+pub row_none : (columns : List Float) (row : List ℕ) (centre : List Float) (from : ℕ) (s : Sums) → s ≡ row_added columns row centre from 0 s
+unfolding row_added
+row_none columns row centre from s = refl
+
+pub row_more : (columns : List Float) (row : List ℕ) (centre : List Float) (from n : ℕ) (s t u : Sums) (z : List Float) → t ≡ row_added columns row centre from n s → z ≡ level_of (λ l. get_or row (4 * n + l) 0) centre → u ≡ added columns (from + n) z t → u ≡ row_added columns row centre from (n + 1) s
 unfolding row_added
 row_more columns row centre from n s t u z p e q =
     q
-    ∙ ap (λ (v : Quad). added columns (from + n) v t) e
+    ∙ ap (λ (v : List Float). added columns (from + n) v t) e
     ∙ ap (λ (v : Sums). added columns (from + n) (level_of (λ l. get_or row (4 * n + l) 0) centre) v) p
     ∙ ap (λ (k : ℕ). row_added columns row centre from k s) (sym (add-one n))
 
@@ -125,9 +127,9 @@ module _ (list : List ℕ) (pitch : ℕ) (columns : List Float) (radius : ℕ) (
 
   sums-more : (k : ℕ) (f : ℕ → Float) → ((l : ℕ) → l < 4 → f l ≡ height k l) → added columns k (quad_by f) (sums_after list pitch columns radius at k) ≡ sums_after list pitch columns radius at (suc k)
   unfolding turns
-  sums-more k f e = ap (λ (v : Quad). added columns k v (sums_after list pitch columns radius at k)) (quad-same f (height k) e)
+  sums-more k f e = ap (λ (v : List Float). added columns k v (sums_after list pitch columns radius at k)) (quad-same f (height k) e)
 
-  rows-height : (row : List ℕ) (centre : Quad) (j rows n : ℕ) → Rows list pitch (side radius) (moved_by at (j * pitch)) rows row → centre ≡ centres_of list at (radius * pitch + radius) → n < rows * side radius → (l : ℕ) → l < 4 → float_of (get_or row (4 * n + l) 0) ⊖ lane_in centre l ≡ height (j * side radius + n) l
+  rows-height : (row : List ℕ) (centre : List Float) (j rows n : ℕ) → Rows list pitch (side radius) (moved_by at (j * pitch)) rows row → centre ≡ centres_of list at (radius * pitch + radius) → n < rows * side radius → (l : ℕ) → l < 4 → float_of (get_or row (4 * n + l) 0) ⊖ lane_in centre l ≡ height (j * side radius + n) l
   rows-height row centre j rows n g c h l q =
       let d = n / side radius in
       let m = n % side radius in
@@ -138,9 +140,9 @@ module _ (list : List ℕ) (pitch : ℕ) (columns : List Float) (radius : ℕ) (
       (g.here d m l (whole_below rows (side radius) n d m e h) p q ∙ ap (λ (k : ℕ). get_or list (k + d * pitch + m) 0) (lane-moved at (j * pitch) l) ∙ ap (λ (k : ℕ). get_or list (k + m) 0) (add_assoc (lane_of at l) (j * pitch) (d * pitch) ∙ ap (λ (k : ℕ). lane_of at l + k) (sym (add-mul j d pitch))))
       ∙ ap (λ (v : Float). v ⊖ lane_in centre l) (row-sample list pitch radius (lane_of at l) (j + d) m p ∙ ap (λ (k : ℕ). sample_from list pitch radius (lane_of at l) k) (ap (λ (k : ℕ). k + m) (add-mul j d (side radius)) ∙ add_assoc (j * side radius) (d * side radius) m ∙ ap (λ (k : ℕ). j * side radius + k) e))
       ∙ ap (λ (v : Float). sample_from list pitch radius (lane_of at l) (j * side radius + n) ⊖ v)
-      (ap (λ (v : Quad). lane_in v l) c ∙ lane-quad (λ m. float_of (get_or list (lane_of at m + (radius * pitch + radius)) 0)) l q ∙ centre-sample list pitch radius (lane_of at l))
+      (ap (λ (v : List Float). lane_in v l) c ∙ lane-quad (λ m. float_of (get_or list (lane_of at m + (radius * pitch + radius)) 0)) l q ∙ centre-sample list pitch radius (lane_of at l))
 
-  along-rows : (row : List ℕ) (centre : Quad) (j rows n : ℕ) → Rows list pitch (side radius) (moved_by at (j * pitch)) rows row → centre ≡ centres_of list at (radius * pitch + radius) → n ≤ rows * side radius → row_added columns row centre (j * side radius) n (sums_after list pitch columns radius at (j * side radius)) ≡ sums_after list pitch columns radius at (j * side radius + n)
+  along-rows : (row : List ℕ) (centre : List Float) (j rows n : ℕ) → Rows list pitch (side radius) (moved_by at (j * pitch)) rows row → centre ≡ centres_of list at (radius * pitch + radius) → n ≤ rows * side radius → row_added columns row centre (j * side radius) n (sums_after list pitch columns radius at (j * side radius)) ≡ sums_after list pitch columns radius at (j * side radius + n)
   unfolding row_added
   along-rows row centre j rows zero g c h = ap (λ (k : ℕ). sums_after list pitch columns radius at k) (sym (add-zero (j * side radius)))
   along-rows row centre j rows (suc n) g c h =
@@ -153,7 +155,7 @@ module _ (list : List ℕ) (pitch : ℕ) (columns : List Float) (radius : ℕ) (
   unfolding turns
   sums_none s e = e ∙ ap (λ (n : ℕ). sums_after list pitch columns radius at n) (sym (zero-mul (side radius)))
 
-  pub rows-done : (row : List ℕ) (centre : Quad) (j rows : ℕ) (s r : Sums) → s ≡ sums_after list pitch columns radius at (j * side radius) → Rows list pitch (side radius) (moved_by at (j * pitch)) rows row → centre ≡ centres_of list at (radius * pitch + radius) → r ≡ row_added columns row centre (j * side radius) (rows * side radius) s → r ≡ sums_after list pitch columns radius at ((j + rows) * side radius)
+  pub rows-done : (row : List ℕ) (centre : List Float) (j rows : ℕ) (s r : Sums) → s ≡ sums_after list pitch columns radius at (j * side radius) → Rows list pitch (side radius) (moved_by at (j * pitch)) rows row → centre ≡ centres_of list at (radius * pitch + radius) → r ≡ row_added columns row centre (j * side radius) (rows * side radius) s → r ≡ sums_after list pitch columns radius at ((j + rows) * side radius)
   rows-done row centre j rows s r e g c q =
       q
       ∙ ap (λ (t : Sums). row_added columns row centre (j * side radius) (rows * side radius) t) e
@@ -242,10 +244,12 @@ sample-inside count pitch radius first k h q =
 pub samples-most : (radius : ℕ) → radius ≤ 7 → samples radius ≤ 225
 samples-most radius h = mul-le-mul {n₁ = side radius} {m₁ = side radius} {n₂ = 15} {m₂ = 15} (omega arith) (omega arith)
 
--- the lengths of both slices are below 2 ^ 64, and so is the count of the samples
-pub below : (bytes words : List ℕ) (deep : Bool) → length bytes < 18446744073709551616 → length words < 18446744073709551616 → length (samples_of bytes words deep) < 18446744073709551616
-below bytes words true p q = q
-below bytes words false p q = p
+-- the samples of an image are fewer than 2 ^ 64
+pub count-below : (img : Image) → IsTested img → length img.samples < 18446744073709551616
+count-below img t = below (length img.samples) (img.pitch * img.height) t.stands.count (image-most img.pitch img.height t.stands.pitch-most t.stands.sized.height-most)
+  where
+    below : (n p : ℕ) → n ≡ p → p ≤ 2 ^ 25 → n < 18446744073709551616
+    below n p e h = omega arith
 
 -- a row's samples are numbered below 225
 pub numbered : (radius j : ℕ) → radius ≤ 7 → j < side radius → j * side radius + side radius ≤ 225
@@ -277,10 +281,6 @@ rows-room radius j rows h q r =
     far : (a w : ℕ) → a ≤ 0 * 15 → w ≤ 16 → 4 * a + 4 * w ≤ 112
     far a w p q = omega arith
 
--- columns that repeat their numbers do so whatever the radius
-pub repeats-two : (fourfold : Bool) (radius : ℕ) (columns : List Float) → Repeats fourfold radius columns → Repeats fourfold 2 columns
-repeats-two fourfold radius columns w = record { few = λ e. le_refl 2; each = w.each }
-
 -- ---- rows one after the other
 -- an entry of an earlier row lies before a later one
 earlier : (side i j k l : ℕ) → i < side → l < 4 → j < k → 4 * (j * side + i) + l < 4 * (k * side)
@@ -308,25 +308,8 @@ module _ (list : List ℕ) (pitch side : ℕ) (at : Firsts) where
       }
 
 -- ---- a number that is read four times
-pub number-four : (columns : List Float) (i : ℕ) → Repeats true 2 columns → i < 125 → quad_by (λ l. entry columns (624 + 4 * i + l)) ≡ quad_by (λ l. entry columns i)
-number-four columns i w h = quad-same (λ l. entry columns (624 + 4 * i + l)) (λ l. entry columns i) (λ l q. w.each refl i l h q)
-
--- the sums of a sample, of its five numbers read so
-module _ (columns : List Float) (k : ℕ) (z : Quad) (s : Sums) where
-  -- the sum of one coefficient
-  part : (c : ℕ) (old n r : Quad) → n ≡ quad_by (λ l. entry columns (5 * k + c)) → r ≡ quad_by (λ l. lane_in old l ⊕ lane_in n l ⊗ lane_in z l) → r ≡ quad_by (λ l. lane_in old l ⊕ entry columns (5 * k + c) ⊗ lane_in z l)
-  part c old n r e q = q ∙ ap (λ (v : Quad). quad_by (λ l. lane_in old l ⊕ lane_in v l ⊗ lane_in z l)) e
-
-  pub sample-added : (n0 n1 n2 n3 n4 r0 r1 r2 r3 r4 : Quad)
-      → n0 ≡ quad_by (λ l. entry columns (5 * k + 0)) → n1 ≡ quad_by (λ l. entry columns (5 * k + 1)) → n2 ≡ quad_by (λ l. entry columns (5 * k + 2)) → n3 ≡ quad_by (λ l. entry columns (5 * k + 3)) → n4 ≡ quad_by (λ l. entry columns (5 * k + 4))
-      → r0 ≡ quad_by (λ l. lane_in s.a l ⊕ lane_in n0 l ⊗ lane_in z l) → r1 ≡ quad_by (λ l. lane_in s.b l ⊕ lane_in n1 l ⊗ lane_in z l) → r2 ≡ quad_by (λ l. lane_in s.c l ⊕ lane_in n2 l ⊗ lane_in z l) → r3 ≡ quad_by (λ l. lane_in s.d l ⊕ lane_in n3 l ⊗ lane_in z l) → r4 ≡ quad_by (λ l. lane_in s.e l ⊕ lane_in n4 l ⊗ lane_in z l)
-      → record { a = r0; b = r1; c = r2; d = r3; e = r4 } ≡ added columns k z s
-  sample-added n0 n1 n2 n3 n4 r0 r1 r2 r3 r4 a b c d e p q u v w =
-      ap (λ (x : Quad). record { a = x; b = r1; c = r2; d = r3; e = r4 }) (part 0 s.a n0 r0 a p)
-      ∙ ap (λ (x : Quad). record { a = quad_in (added columns k z s) 0; b = x; c = r2; d = r3; e = r4 }) (part 1 s.b n1 r1 b q)
-      ∙ ap (λ (x : Quad). record { a = quad_in (added columns k z s) 0; b = quad_in (added columns k z s) 1; c = x; d = r3; e = r4 }) (part 2 s.c n2 r2 c u)
-      ∙ ap (λ (x : Quad). record { a = quad_in (added columns k z s) 0; b = quad_in (added columns k z s) 1; c = quad_in (added columns k z s) 2; d = x; e = r4 }) (part 3 s.d n3 r3 d v)
-      ∙ ap (λ (x : Quad). record { a = quad_in (added columns k z s) 0; b = quad_in (added columns k z s) 1; c = quad_in (added columns k z s) 2; d = quad_in (added columns k z s) 3; e = x }) (part 4 s.e n4 r4 e w)
+pub number-four : (columns : List Float) (i : ℕ) → ((j l : ℕ) → j < 125 → l < 4 → entry columns (624 + 4 * j + l) ≡ entry columns j) → i < 125 → quad_by (λ l. entry columns (624 + 4 * i + l)) ≡ quad_by (λ l. entry columns i)
+number-four columns i each h = quad-same (λ l. entry columns (624 + 4 * i + l)) (λ l. entry columns i) (λ l q. each i l h q)
 
 -- ---- the sum of one coefficient of one patch
 module _ (list : List ℕ) (pitch : ℕ) (columns : List Float) (radius first i : ℕ) where

@@ -1,12 +1,11 @@
 -- Four patches side by side: a number for each, a row of their samples, their sums while samples are added, and where the sums are put.
-use Rattle.std.specs.Prelude.{◌≡◌, cond, List, ℕ, zero, suc, ◌+◌, ◌*◌, ◌≤◌, ◌<◌, ltb, pos, length, get_or, set, Float}
+use Rattle.std.specs.Prelude.{◌≡◌, cond, List, [], ◌∷◌, ℕ, zero, suc, ◌+◌, ◌*◌, ◌≤◌, ◌<◌, ltb, pos, length, get_or, set, Float}
 use Rattle.std.specs.Float.{binary32}
 use Rattle.std.specs.Float.Ieee.{of_int}
 use Rattle.shapes.specs.Numbers.{entry}
 use Rattle.refine_formulas.specs.Numbers.{◌⊕◌, ◌⊖◌, ◌⊗◌}
 use Rattle.refine_patch.specs.declared.Firsts.{Firsts}
-use Rattle.refine_patch.specs.declared.Four.{Four}
-use Rattle.refine_patch.specs.declared.Quad.{Quad}
+use Rattle.refine_formulas.specs.declared.Corners.{Corners}
 use Rattle.refine_patch.specs.declared.Sums.{Sums}
 
 -- ---- by the lane: what is told of each of the four
@@ -19,27 +18,27 @@ four_of a b c d (suc (suc (suc l))) = d
 abbrev pub lane_of : Firsts → ℕ → ℕ
 lane_of at = four_of at.a at.b at.c at.d
 
-abbrev pub lane_in : Quad → ℕ → Float
-lane_in v = four_of v.p v.q v.r v.s
+abbrev pub four_by : {A : Type 0} → (ℕ → A) → List A
+four_by f = f 0 ∷ f 1 ∷ f 2 ∷ f 3 ∷ []
 
-abbrev pub sample_in : Four → ℕ → ℕ
-sample_in v = four_of v.p v.q v.r v.s
+abbrev pub lane_in : List Float → ℕ → Float
+lane_in v l = entry v l
 
-abbrev pub four_by : (ℕ → ℕ) → Four
-four_by f = record { p = f 0; q = f 1; r = f 2; s = f 3 }
+abbrev pub sample_in : List ℕ → ℕ → ℕ
+sample_in v l = get_or v l 0
 
 -- the samples that lie `by` past the first ones
-abbrev pub four_at : List ℕ → Firsts → ℕ → Four
+abbrev pub four_at : List ℕ → Firsts → ℕ → List ℕ
 four_at list at by = four_by (λ l. get_or list (lane_of at l + by) 0)
 
-abbrev pub quad_by : (ℕ → Float) → Quad
-quad_by f = record { p = f 0; q = f 1; r = f 2; s = f 3 }
+abbrev pub quad_by : (ℕ → Float) → List Float
+quad_by f = four_by f
 
 abbrev pub sums_by : (ℕ → ℕ → Float) → Sums
 sums_by f = record { a = quad_by (f 0); b = quad_by (f 1); c = quad_by (f 2); d = quad_by (f 3); e = quad_by (f 4) }
 
 -- coefficient by coefficient, lane by lane
-abbrev pub quad_in : Sums → ℕ → Quad
+abbrev pub quad_in : Sums → ℕ → List Float
 quad_in s zero = s.a
 quad_in s (suc zero) = s.b
 quad_in s (suc (suc zero)) = s.c
@@ -48,6 +47,18 @@ quad_in s (suc (suc (suc (suc c)))) = s.e
 
 abbrev pub sum_in : Sums → ℕ → ℕ → Float
 sum_in s c = lane_in (quad_in s c)
+
+-- each sum has its four
+pub record FourLanes (s : Sums) : Type 0 where
+  pub a : length s.a ≡ 4
+  pub b : length s.b ≡ 4
+  pub c : length s.c ≡ 4
+  pub d : length s.d ≡ 4
+  pub e : length s.e ≡ 4
+
+-- the four fits about a base, coefficient by coefficient
+abbrev pub side_by_side : Corners → Sums
+side_by_side fits = sums_by (λ c l. entry (four_of fits.c00 fits.c10 fits.c01 fits.c11 l) c)
 
 abbrev pub moved_by : Firsts → ℕ → Firsts
 moved_by at by = record { a = at.a + by; b = at.b + by; c = at.c + by; d = at.d + by }
@@ -108,14 +119,14 @@ pub record Rows (list : List ℕ) (pitch side : ℕ) (at : Firsts) (rows : ℕ) 
 abbrev pub float_of : ℕ → Float
 float_of n = of_int binary32 (pos n)
 
-abbrev pub level_of : (ℕ → ℕ) → Quad → Quad
+abbrev pub level_of : (ℕ → ℕ) → List Float → List Float
 level_of f centre = quad_by (λ l. float_of (f l) ⊖ lane_in centre l)
 
 -- with the sample k, which is z above the centres
-abbrev pub added : List Float → ℕ → Quad → Sums → Sums
+abbrev pub added : List Float → ℕ → List Float → Sums → Sums
 added columns k z s = sums_by (λ c l. sum_in s c l ⊕ entry columns (5 * k + c) ⊗ lane_in z l)
 
 -- with n samples, the first of which is the sample from
-unfoldable pub row_added : List Float → List ℕ → Quad → ℕ → ℕ → Sums → Sums
+unfoldable pub row_added : List Float → List ℕ → List Float → ℕ → ℕ → Sums → Sums
 row_added columns row centre from zero s = s
 row_added columns row centre from (suc n) s = added columns (from + n) (level_of (λ l. get_or row (4 * n + l) 0) centre) (row_added columns row centre from n s)

@@ -5,13 +5,12 @@ use Rattle.shapes.specs.Turns.{turns}
 use Rattle.refine_operator.specs.Basis.{samples}
 use Rattle.refine_formulas.specs.Numbers.{◌⊕◌, ◌⊖◌, ◌⊗◌}
 use Rattle.refine_patch.specs.declared.Firsts.{Firsts}
-use Rattle.refine_patch.specs.declared.Quad.{Quad}
 use Rattle.refine_patch.specs.declared.Sums.{Sums}
 use Rattle.refine_patch.specs.StepsFrom.{sample_from}
 use Rattle.refine_patch.specs.StepsFour.{lane_of, quad_by, sums_by, float_of}
 
 -- the samples that lie `by` past the first ones
-abbrev pub centres_of : List ℕ → Firsts → ℕ → Quad
+abbrev pub centres_of : List ℕ → Firsts → ℕ → List Float
 centres_of list at by = quad_by (λ l. float_of (get_or list (lane_of at l + by) 0))
 
 -- what the sample k adds to the coefficient i of the patch that begins at first

@@ -1,79 +1,58 @@
 // Samples added with columns that have each number four times: it is read as the four patches need it.
-ghost use Rattle.std.specs.Prelude.{◌≡◌, true, ◌+◌, ◌*◌, ◌≤◌, ◌<◌};
+ghost use Rattle.std.specs.Prelude.{◌≡◌, true, ◌+◌, ◌*◌, ◌≤◌, ◌<◌, length};
 ghost use Rattle.shapes.specs.Numbers.{entry};
-ghost use Rattle.refine_formulas.specs.Numbers.{◌⊕◌, ◌⊗◌};
-ghost use Rattle.refine_patch.specs.StepsFrom.{Repeats};
-ghost use Rattle.refine_patch.specs.StepsFour.{lane_in, quad_by, added, row_added};
+ghost use Rattle.refine_patch.specs.StepsFour.{quad_by, added, row_added, FourLanes};
 
-use super::{Quad, Sums};
+use super::{Columns, Sums, levelled, plus};
+use std::simd::prelude::*;
 
 // The number i, four times.
-fn number(columns: &[f32; 1125], i: usize) -> Quad
-    requires fact_1 { i < 125 }
-    requires fact_2 { Repeats true 2 columns.now }
-    ensures { result ≡ quad_by (λ l. entry columns.now i) }
+fn number(columns: &Columns, i: usize) -> f32x4
+    requires { (columns.now.fourfold ≡ true) × (i < 125) }
+    ensures { result ≡ quad_by (λ l. entry columns.now.numbers.now i) }
 {
-    let at = 624 + 4 * i;
-    Quad {
-        p: columns[at + 0],
-        q: columns[at + 1],
-        r: columns[at + 2],
-        s: columns[at + 3],
-    }
+    four_from(columns.numbers, 624 + 4 * i)
 }
 
-fn plus(s: Quad, a: Quad, z: Quad) -> Quad
-    ensures { result ≡ quad_by (λ l. lane_in s l ⊕ lane_in a l ⊗ lane_in z l) }
+fn four_from(numbers: &[f32; 1125], at: usize) -> f32x4
+    requires { at + 4 ≤ 1125 }
+    ensures { result ≡ quad_by (λ l. entry numbers.now (at + l)) }
 {
-    Quad {
-        p: s.p + a.p * z.p,
-        q: s.q + a.q * z.q,
-        r: s.r + a.r * z.r,
-        s: s.s + a.s * z.s,
-    }
+    f32x4::from_slice(&numbers[at..at + 4])
 }
 
 // The sums with the sample k, which is z above the centres.
-fn add_sample(s: Sums, columns: &[f32; 1125], k: usize, z: Quad) -> Sums
-    requires fact_1 { k < 25 }
-    requires fact_2 { Repeats true 2 columns.now }
-    ensures { result ≡ added columns.now k z s }
+fn add_sample(s: Sums, columns: &Columns, k: usize, z: f32x4) -> Sums
+    requires { (columns.now.fourfold ≡ true) × (k < 25) × FourLanes s × (length z ≡ 4) }
+    ensures { result ≡ added columns.now.numbers.now k z s }
 {
     let i = 5 * k;
-    let a = number(columns, i + 0);
-    let b = number(columns, i + 1);
-    let c = number(columns, i + 2);
-    let d = number(columns, i + 3);
-    let e = number(columns, i + 4);
     Sums {
-        a: plus(s.a, a, z),
-        b: plus(s.b, b, z),
-        c: plus(s.c, c, z),
-        d: plus(s.d, d, z),
-        e: plus(s.e, e, z),
+        a: plus(s.a, number(columns, i + 0), z),
+        b: plus(s.b, number(columns, i + 1), z),
+        c: plus(s.c, number(columns, i + 2), z),
+        d: plus(s.d, number(columns, i + 3), z),
+        e: plus(s.e, number(columns, i + 4), z),
     }
 }
 
 // The sums with so many samples, the first of which is the sample `from`.
+#[tactic(auto, using(crate::proofs::RowLaws::row_none, crate::proofs::RowLaws::row_more))]
 pub fn add_row(
     s: Sums,
-    columns: &[f32; 1125],
+    columns: &Columns,
     row: &[u16; 112],
     count: usize,
-    centre: Quad,
+    centre: f32x4,
     from: usize,
 ) -> Sums
-    requires fact_1 { from + count ≤ 25 }
-    requires fact_2 { Repeats true 2 columns.now }
-    ensures { result ≡ row_added columns.now row.now centre from count s }
+    requires in_columns { (columns.now.fourfold ≡ true) × (from + count ≤ 25) }
+    requires four_lanes { FourLanes s × (length centre ≡ 4) }
+    ensures { result ≡ row_added columns.now.numbers.now row.now centre from count s }
 {
     let mut sums = s;
-    let mut i: usize = 0;
-    while i < count {
-        let n = 4 * i;
-        let z = super::levelled(row[n + 0], row[n + 1], row[n + 2], row[n + 3], centre);
-        sums = add_sample(sums, columns, from + i, z);
-        i += 1;
+    for i in 0..count {
+        sums = add_sample(sums, columns, from + i, levelled(row, 4 * i, centre));
     }
     sums
 }

@@ -2,18 +2,30 @@
 // An index with `+ 0` is the definition's `+ c` or `+ l` at 0.
 #![tactic(auto)]
 
-ghost use Rattle.std.specs.Prelude.{◌≡◌, true, ◌+◌, ◌-◌, ◌*◌, ◌≤◌, ◌<◌, leb, length};
+ghost use Rattle.std.specs.Prelude.{◌≡◌, true, ◌+◌, ◌-◌, ◌*◌, ◌≤◌, ◌<◌, leb, length, get_or};
 ghost use Rattle.shapes.specs.Numbers.{plus_zero};
-ghost use Rattle.imageview.specs.Image.{samples_of};
 ghost use Rattle.refine_operator.specs.Basis.{side, samples};
+ghost use Rattle.refine_formulas.specs.Numbers.{◌⊕◌, ◌⊗◌};
 ghost use Rattle.refine_patch.specs.StepsFrom.{coefficient_from, four_written, Repeats};
-ghost use Rattle.refine_patch.specs.StepsFour.{lane_of, sample_in, sum_in, four_of, four_set, quad_by, sums_by, moved_by, float_of, level_of, added, row_added, wide_of, rows_of, FourReach, PatchesInside, Reaches, RowsReach, Gathered, Rows};
+ghost use Rattle.refine_patch.specs.StepsFour.{lane_of, lane_in, sample_in, sum_in, four_at, four_set, quad_by, sums_by, side_by_side, moved_by, level_of, added, row_added, wide_of, rows_of, FourLanes, FourReach, PatchesInside, Reaches, RowsReach, Gathered, Rows};
 ghost use Rattle.refine_patch.specs.StepsRows.{centres_of, sums_after};
 
 mod each;
 mod fourfold;
-mod reads;
 mod stores;
+
+use imageview::{Image, Sample};
+use refine_formulas::Corners;
+use std::simd::prelude::*;
+
+/// An operator's columns for the patches of a radius: five numbers a sample. Where they are fourfold, each number stands four times more behind them, side by side.
+#[derive(Clone, Copy)]
+pub struct Columns<'a> {
+    pub numbers: &'a [f32; 1125],
+    pub fourfold: bool,
+    pub radius: usize,
+    ghost repeats: { Repeats fourfold radius numbers.now },
+}
 
 // The four first places of patches, as indices of the image's samples.
 #[derive(Clone, Copy)]
@@ -24,93 +36,68 @@ pub struct Firsts {
     pub d: usize,
 }
 
-// A sample of each of the four patches.
-#[derive(Drop)]
-struct Four {
-    p: u16,
-    q: u16,
-    r: u16,
-    s: u16,
-}
-
-// A number for each of the four patches.
+// The sums of the coefficients a to e while samples are added, the four patches side by side in each.
 #[derive(Clone, Copy)]
-pub struct Quad {
-    pub p: f32,
-    pub q: f32,
-    pub r: f32,
-    pub s: f32,
-}
-
-// The sums of the coefficients a to e while samples are added.
-#[derive(Drop)]
-pub struct Sums {
-    pub a: Quad,
-    pub b: Quad,
-    pub c: Quad,
-    pub d: Quad,
-    pub e: Quad,
+struct Sums {
+    a: f32x4,
+    b: f32x4,
+    c: f32x4,
+    d: f32x4,
+    e: f32x4,
 }
 
 // Writes coefficient c of patch l to `out` at `to + 4 · c + l`.
-pub fn fit_four(
-    bytes: &[u8],
-    words: &[u16],
-    deep: bool,
-    pitch: usize,
-    columns: &[f32; 1125],
-    fourfold: bool,
-    radius: usize,
+pub fn fit_four<S: Sample>(
+    image: &Image<S>,
+    columns: &Columns,
     at: Firsts,
     out: &mut [f32],
     to: usize,
 )
     requires out_len { (length out.old ≡ 40) × (to ≤ 20) }
-    requires patches_inside { PatchesInside (length (samples_of bytes.now words.now deep)) pitch radius at }
-    requires repeats { Repeats fourfold radius columns.now }
-    ensures { out.new ≡ four_written (λ c l. coefficient_from (samples_of bytes.now words.now deep) pitch columns.now radius (lane_of at l) c) to out.old }
+    requires patches_inside { PatchesInside (length image.now.samples) image.now.pitch columns.now.radius at }
+    ensures { out.new ≡ four_written (λ c l. coefficient_from image.now.samples image.now.pitch columns.now.numbers.now columns.now.radius (lane_of at l) c) to out.old }
 {
-    if reach(imageview::count(bytes, words, deep), pitch, radius, at) {
-        fit_rows(
-            bytes, words, deep, pitch, columns, fourfold, radius, at, out, to,
-        );
+    if reach(image.count(), image.pitch(), columns.radius, at) {
+        fit_rows(image, columns, at, out, to);
     } else {
-        each::fit_each(bytes, words, deep, pitch, columns, radius, at, out, to);
+        each::fit_each(image, columns, at, out, to);
     }
 }
 
 // The same where some more samples than its own lie behind each row.
-fn fit_rows(
-    bytes: &[u8],
-    words: &[u16],
-    deep: bool,
-    pitch: usize,
-    columns: &[f32; 1125],
-    fourfold: bool,
-    radius: usize,
-    at: Firsts,
-    out: &mut [f32],
-    to: usize,
-)
-    requires fact_1 { (length out.old ≡ 40) × (to ≤ 20) }
-    requires fact_2 { PatchesInside (length (samples_of bytes.now words.now deep)) pitch radius at }
-    requires fact_3 { Repeats fourfold radius columns.now }
-    requires fact_4 { Reaches (length (samples_of bytes.now words.now deep)) pitch radius at }
-    ensures { out.new ≡ four_written (λ c l. coefficient_from (samples_of bytes.now words.now deep) pitch columns.now radius (lane_of at l) c) to out.old }
+fn fit_rows<S: Sample>(image: &Image<S>, columns: &Columns, at: Firsts, out: &mut [f32], to: usize)
+    requires out_len { (length out.old ≡ 40) × (to ≤ 20) }
+    requires patches_inside { PatchesInside (length image.now.samples) image.now.pitch columns.now.radius at }
+    requires reaches { Reaches (length image.now.samples) image.now.pitch columns.now.radius at }
+    ensures { out.new ≡ four_written (λ c l. coefficient_from image.now.samples image.now.pitch columns.now.numbers.now columns.now.radius (lane_of at l) c) to out.old }
 {
-    let centre = centres(bytes, words, deep, at, radius * pitch + radius);
-    let sums = sum_rows(
-        bytes, words, deep, pitch, columns, fourfold, radius, at, centre,
-    );
+    let middle = columns.radius * image.pitch() + columns.radius;
+    let centre = centres(image.samples(), at, middle);
+    let sums = sum_rows(image, columns, at, centre);
     stores::store(out, to, sums);
 }
 
-// Writes four fits that are known to `out`, at the same places.
-pub fn lay_four(out: &mut [f32], to: usize, fits: Sums)
+// Writes the four fits about a base that are known to `out`, at the same places.
+pub fn lay_four(out: &mut [f32], to: usize, fits: Corners)
     requires { (length out.old ≡ 40) × (to ≤ 20) }
-    ensures { out.new ≡ four_written (sum_in fits) to out.old }
+    ensures { out.new ≡ four_written (sum_in (side_by_side fits)) to out.old }
 {
-    stores::store(out, to, fits);
+    stores::store(out, to, side_by_side(fits));
+}
+
+// Coefficient by coefficient.
+fn side_by_side(fits: Corners) -> Sums
+    ensures { result ≡ side_by_side fits }
+{
+    let Corners { c00, c10, c01, c11 } = fits;
+    Sums {
+        a: f32x4::from_array([c00[0], c10[0], c01[0], c11[0]]),
+        b: f32x4::from_array([c00[1], c10[1], c01[1], c11[1]]),
+        c: f32x4::from_array([c00[2], c10[2], c01[2], c11[2]]),
+        d: f32x4::from_array([c00[3], c10[3], c01[3], c11[3]]),
+        e: f32x4::from_array([c00[4], c10[4], c01[4], c11[4]]),
+    }
 }
 
 // The places that lie `by` further on.
@@ -126,86 +113,68 @@ fn moved(at: Firsts, by: usize) -> Firsts
     }
 }
 
-fn floats(v: Four) -> Quad
-    ensures { result ≡ quad_by (λ l. float_of (sample_in v l)) }
+// The levels of the centres, which lie `by` past the first samples.
+fn centres<S: Sample>(samples: &[S], at: Firsts, by: usize) -> f32x4
+    requires { FourReach (length samples.now) by at }
+    ensures { result ≡ centres_of (S.levels samples.now) at by }
 {
-    Quad {
-        p: v.p as f32,
-        q: v.q as f32,
-        r: v.r as f32,
-        s: v.s as f32,
-    }
+    u16x4::from_array(read_four(samples, at, by)).cast::<f32>()
 }
 
-// The levels of the centres, which lie `by` past the first samples.
-fn centres(bytes: &[u8], words: &[u16], deep: bool, at: Firsts, by: usize) -> Quad
-    requires { FourReach (length (samples_of bytes.now words.now deep)) by at }
-    ensures { result ≡ centres_of (samples_of bytes.now words.now deep) at by }
+// The samples that lie `by` past the first ones.
+fn read_four<S: Sample>(samples: &[S], at: Firsts, by: usize) -> [u16; 4]
+    requires { FourReach (length samples.now) by at }
+    ensures { result ≡ four_at (S.levels samples.now) at by }
 {
-    floats(reads::read_four(bytes, words, deep, at, by))
+    [
+        S::level_at(samples, at.a + by),
+        S::level_at(samples, at.b + by),
+        S::level_at(samples, at.c + by),
+        S::level_at(samples, at.d + by),
+    ]
 }
 
 // Four samples side by side.
-fn put_four(row: &mut [u16; 112], at: usize, v: Four)
+fn put_four(row: &mut [u16; 112], at: usize, v: [u16; 4])
     requires { (length row.old ≡ 112) × (at + 4 ≤ 112) }
     ensures { row.new ≡ four_set row.old at (sample_in v) }
 {
-    row[at + 0] = v.p;
-    row[at + 1] = v.q;
-    row[at + 2] = v.r;
-    row[at + 3] = v.s;
+    row[at + 0] = v[0];
+    row[at + 1] = v[1];
+    row[at + 2] = v[2];
+    row[at + 3] = v[3];
 }
 
 // So many samples of one row of the four patches: sample i of patch l goes to `to + 4 · i + l`. The place is counted beside i: as a product the compiler does not read eight at once.
-fn gather(
-    bytes: &[u8],
-    words: &[u16],
-    deep: bool,
-    at: Firsts,
-    count: usize,
-    row: &mut [u16; 112],
-    to: usize,
-)
+fn gather<S: Sample>(samples: &[S], at: Firsts, count: usize, row: &mut [u16; 112], to: usize)
     requires row_len { (length row.old ≡ 112) × (to + 4 * count ≤ 112) }
-    requires four_reach { FourReach (length (samples_of bytes.now words.now deep) + 1) count at }
-    ensures { Gathered (samples_of bytes.now words.now deep) at count to row.old row.new }
+    requires four_reach { FourReach (length samples.now + 1) count at }
+    ensures { Gathered (S.levels samples.now) at count to row.old row.new }
 {
-    let mut i: usize = 0;
-    let mut n: usize = to;
-    while i < count {
-        put_four(row, n, reads::read_four(bytes, words, deep, at, i));
-        i += 1;
+    let mut n = to;
+    for i in 0..count {
+        put_four(row, n, read_four(samples, at, i));
         n += 4;
     }
 }
 
 // So many rows, sample after sample: what is read of a row past its own samples is written over by the next row.
-fn gather_rows(
-    bytes: &[u8],
-    words: &[u16],
-    deep: bool,
-    pitch: usize,
+fn gather_rows<S: Sample>(
+    image: &Image<S>,
     at: Firsts,
     radius: usize,
     rows: usize,
     row: &mut [u16; 112],
 )
     requires row_len { (length row.old ≡ 112) × (radius ≤ 7) × (rows ≤ rows_of radius) }
-    requires rows_reach { RowsReach (length (samples_of bytes.now words.now deep)) pitch radius at rows }
-    ensures { Rows (samples_of bytes.now words.now deep) pitch (side radius) at rows row.new }
+    requires rows_reach { RowsReach (length image.now.samples) image.now.pitch radius at rows }
+    ensures { Rows image.now.samples image.now.pitch (side radius) at rows row.new }
 {
-    let mut j: usize = 0;
-    while j < rows {
-        gather(
-            bytes,
-            words,
-            deep,
-            moved(at, j * pitch),
-            wide_of(radius),
-            row,
-            4 * (j * (2 * radius + 1)),
-        );
-        j += 1;
+    let pitch = image.pitch();
+    let samples = image.samples();
+    for j in 0..rows {
+        let to = 4 * (j * (2 * radius + 1));
+        gather(samples, moved(at, j * pitch), wide_of(radius), row, to);
     }
 }
 
@@ -221,12 +190,6 @@ fn rows_of(radius: usize) -> usize
     ensures { result ≡ rows_of radius }
 {
     if radius < 3 { 5 } else { 1 }
-}
-
-fn lesser(a: usize, b: usize) -> usize
-    ensures { (result ≤ a) × (result ≤ b) × (0 < a → 0 < b → 0 < result) }
-{
-    if a < b { a } else { b }
 }
 
 // Whether so many samples lie from the first of a patch's last row on.
@@ -250,82 +213,54 @@ fn reach(count: usize, pitch: usize, radius: usize, at: Firsts) -> bool
         & has_more(count, at.d, last, n)
 }
 
-// Four samples from the levels of their centres.
-fn levelled(p: u16, q: u16, r: u16, s: u16, centre: Quad) -> Quad
-    ensures { result ≡ level_of (four_of p q r s) centre }
+// The four samples that stand at n, from the levels of their centres.
+fn levelled(row: &[u16; 112], n: usize, centre: f32x4) -> f32x4
+    requires { (n + 4 ≤ 112) × (length centre ≡ 4) }
+    ensures { result ≡ level_of (λ l. get_or row.now (n + l) 0) centre }
 {
-    Quad {
-        p: p as f32 - centre.p,
-        q: q as f32 - centre.q,
-        r: r as f32 - centre.r,
-        s: s as f32 - centre.s,
-    }
+    u16x4::from_slice(&row[n..n + 4]).cast::<f32>() - centre
+}
+
+// The sum with a number times the four levels.
+fn plus(s: f32x4, number: f32x4, z: f32x4) -> f32x4
+    requires { (length s ≡ 4) × (length number ≡ 4) × (length z ≡ 4) }
+    ensures { result ≡ quad_by (λ l. lane_in s l ⊕ lane_in number l ⊗ lane_in z l) }
+{
+    s + number * z
 }
 
 // The sums with the sample k, which is z above the centres.
-fn add_sample(s: Sums, columns: &[f32; 1125], k: usize, z: Quad) -> Sums
-    requires { k < 225 }
+fn add_sample(s: Sums, columns: &[f32; 1125], k: usize, z: f32x4) -> Sums
+    requires { (k < 225) × FourLanes s × (length z ≡ 4) }
     ensures { result ≡ added columns.now k z s }
 {
     let i = 5 * k;
-    let a = columns[i + 0];
-    let b = columns[i + 1];
-    let c = columns[i + 2];
-    let d = columns[i + 3];
-    let e = columns[i + 4];
     Sums {
-        a: Quad {
-            p: s.a.p + a * z.p,
-            q: s.a.q + a * z.q,
-            r: s.a.r + a * z.r,
-            s: s.a.s + a * z.s,
-        },
-        b: Quad {
-            p: s.b.p + b * z.p,
-            q: s.b.q + b * z.q,
-            r: s.b.r + b * z.r,
-            s: s.b.s + b * z.s,
-        },
-        c: Quad {
-            p: s.c.p + c * z.p,
-            q: s.c.q + c * z.q,
-            r: s.c.r + c * z.r,
-            s: s.c.s + c * z.s,
-        },
-        d: Quad {
-            p: s.d.p + d * z.p,
-            q: s.d.q + d * z.q,
-            r: s.d.r + d * z.r,
-            s: s.d.s + d * z.s,
-        },
-        e: Quad {
-            p: s.e.p + e * z.p,
-            q: s.e.q + e * z.q,
-            r: s.e.r + e * z.r,
-            s: s.e.s + e * z.s,
-        },
+        a: plus(s.a, f32x4::splat(columns[i + 0]), z),
+        b: plus(s.b, f32x4::splat(columns[i + 1]), z),
+        c: plus(s.c, f32x4::splat(columns[i + 2]), z),
+        d: plus(s.d, f32x4::splat(columns[i + 3]), z),
+        e: plus(s.e, f32x4::splat(columns[i + 4]), z),
     }
 }
 
 // The sums with so many samples, the first of which is the sample `from`.
+#[tactic(auto, using(crate::proofs::RowLaws::row_none, crate::proofs::RowLaws::row_more))]
 fn add_row(
     s: Sums,
     columns: &[f32; 1125],
     row: &[u16; 112],
     count: usize,
-    centre: Quad,
+    centre: f32x4,
     from: usize,
 ) -> Sums
-    requires { (count ≤ 25) × (from + count ≤ 225) }
+    requires in_columns { (count ≤ 25) × (from + count ≤ 225) }
+    requires four_lanes { FourLanes s × (length centre ≡ 4) }
     ensures { result ≡ row_added columns.now row.now centre from count s }
 {
     let mut sums = s;
-    let mut i: usize = 0;
-    while i < count {
-        let n = 4 * i;
-        let z = levelled(row[n + 0], row[n + 1], row[n + 2], row[n + 3], centre);
-        sums = add_sample(sums, columns, from + i, z);
-        i += 1;
+    for i in 0..count {
+        sums = add_sample(sums, columns, from + i, levelled(row, 4 * i, centre));
     }
     sums
 }
@@ -333,12 +268,7 @@ fn add_row(
 fn no_sums() -> Sums
     ensures { result ≡ sums_by (λ c l. plus_zero) }
 {
-    let zero = Quad {
-        p: 0.0,
-        q: 0.0,
-        r: 0.0,
-        s: 0.0,
-    };
+    let zero = f32x4::splat(0.0);
     Sums {
         a: zero,
         b: zero,
@@ -351,59 +281,41 @@ fn no_sums() -> Sums
 // The same with the numbers of the columns as they are lent.
 fn add_rows(
     s: Sums,
-    columns: &[f32; 1125],
-    fourfold: bool,
+    columns: &Columns,
     row: &[u16; 112],
     count: usize,
-    centre: Quad,
+    centre: f32x4,
     from: usize,
 ) -> Sums
-    requires count_bound { (count ≤ 25) × (from + count ≤ 225) × (fourfold ≡ true → from + count ≤ 25) }
-    requires repeats { Repeats fourfold 2 columns.now }
-    ensures { result ≡ row_added columns.now row.now centre from count s }
+    requires in_columns { (count ≤ 25) × (from + count ≤ 225) × (columns.now.fourfold ≡ true → from + count ≤ 25) }
+    requires four_lanes { FourLanes s × (length centre ≡ 4) }
+    ensures { result ≡ row_added columns.now.numbers.now row.now centre from count s }
 {
-    if fourfold {
-        return fourfold::add_row(s, columns, row, count, centre, from);
+    if columns.fourfold {
+        fourfold::add_row(s, columns, row, count, centre, from)
+    } else {
+        add_row(s, columns.numbers, row, count, centre, from)
     }
-    add_row(s, columns, row, count, centre, from)
 }
 
 // The sums of all samples, some rows at a time.
-fn sum_rows(
-    bytes: &[u8],
-    words: &[u16],
-    deep: bool,
-    pitch: usize,
-    columns: &[f32; 1125],
-    fourfold: bool,
-    radius: usize,
-    at: Firsts,
-    centre: Quad,
-) -> Sums
-    requires fact_1 { PatchesInside (length (samples_of bytes.now words.now deep)) pitch radius at }
-    requires fact_2 { centre ≡ centres_of (samples_of bytes.now words.now deep) at (radius * pitch + radius) }
-    requires fact_3 { Repeats fourfold radius columns.now }
-    requires fact_4 { Reaches (length (samples_of bytes.now words.now deep)) pitch radius at }
-    ensures { result ≡ sums_after (samples_of bytes.now words.now deep) pitch columns.now radius at (samples radius) }
+fn sum_rows<S: Sample>(image: &Image<S>, columns: &Columns, at: Firsts, centre: f32x4) -> Sums
+    requires patches_inside { PatchesInside (length image.now.samples) image.now.pitch columns.now.radius at }
+    requires reaches { Reaches (length image.now.samples) image.now.pitch columns.now.radius at }
+    requires of_centres { centre ≡ centres_of image.now.samples at (columns.now.radius * image.now.pitch + columns.now.radius) }
+    ensures { result ≡ sums_after image.now.samples image.now.pitch columns.now.numbers.now columns.now.radius at (samples columns.now.radius) }
 {
+    let radius = columns.radius;
     let side = 2 * radius + 1;
     let most = rows_of(radius);
+    let pitch = image.pitch();
     let mut row = [0u16; 112];
     let mut sums = no_sums();
     let mut j: usize = 0;
     while j < side {
-        let rows = lesser(most, side - j);
-        gather_rows(
-            bytes,
-            words,
-            deep,
-            pitch,
-            moved(at, j * pitch),
-            radius,
-            rows,
-            &mut row,
-        );
-        sums = add_rows(sums, columns, fourfold, &row, rows * side, centre, j * side);
+        let rows = std::cmp::min(most, side - j);
+        gather_rows(image, moved(at, j * pitch), radius, rows, &mut row);
+        sums = add_rows(sums, columns, &row, rows * side, centre, j * side);
         j += rows;
     }
     sums

@@ -1,6 +1,7 @@
 -- The number of each refusal; docs/RULES.md says when each is given.
-use Rattle.std.specs.Prelude.{ℕ}
+use Rattle.std.specs.Prelude.{◌≡◌, ◌≢◌, ℕ, Result, MatchResult}
 use Rattle.refusals.specs.declared.Refusal.{Refusal}
+use Rattle.refusals.specs.declared.NoRefusal.{NoRefusal}
 use Rattle.refusals.specs.declared.Refusal.TheVariants.{BadImage, BadRadius, BadLimit, BadRing, EmptyRoi, BadOut, TooMany, GridTooBig, BadScratch, BadLength, NoMagic, BadHeader, BadGraymapSize, TooShort, LeftOver, BadSample, BadBuffer, BadBoard, BadPlaces, BadList, NoSuchCorner}
 
 abbrev pub number_of : Refusal → ℕ
@@ -25,3 +26,7 @@ number_of BadBoard = 30
 number_of BadPlaces = 31
 number_of BadList = 32
 number_of NoSuchCorner = 35
+
+-- a result is the refusal of this number, or an error that holds the number, which is then no refusal's
+abbrev pub Names : ℕ → Result Refusal NoRefusal → Type 0
+Names n r = MatchResult r (λ refusal. number_of refusal ≡ n) (λ e. (e.0 ≡ n) × ((refusal : Refusal) → number_of refusal ≢ n))

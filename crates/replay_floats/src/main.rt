@@ -1,7 +1,7 @@
 // Replays the stored answers of Rust's own float library (data/, written by the oracle) on the crate floats. A line a list.
 #![tactic(auto)]
 
-use floats::Order;
+use std::cmp::Ordering;
 use replay::{Spoilt, Tally};
 use std::io;
 
@@ -70,7 +70,7 @@ fn spoil_narrowing(turn: u32, case: &mut [u8]) -> Spoilt {
 fn holds(kind: Kind, case: &[u8]) -> bool {
     match kind {
         Kind::Floats32 => whole_numbers(case) && conversions(case),
-        Kind::Ints32 => replay::float_stands(case, 0, 1, floats::i32_to_f32(words::int(case, 0))),
+        Kind::Ints32 => replay::float_stands(case, 0, 1, std::num::nearest_i32_to_f32(words::int(case, 0))),
         Kind::Floats64 => narrowing(case),
         Kind::Order64 => order(case),
     }
@@ -118,11 +118,11 @@ fn order(case: &[u8]) -> bool {
     rank(floats::total_cmp_magnitudes(a, b)) == words::word(case, 16)
 }
 
-fn rank(o: Order) -> u32 {
+fn rank(o: Ordering) -> u32 {
     match o {
-        Order::Less => 0,
-        Order::Equal => 1,
-        Order::Greater => 2,
+        Ordering::Less => 0,
+        Ordering::Equal => 1,
+        Ordering::Greater => 2,
     }
 }
 

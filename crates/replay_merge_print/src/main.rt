@@ -94,7 +94,7 @@ fn merged_stands(
     match answer {
         Merge::Merged(count) => text::corners_stand(case, start, list, count),
         Merge::Refused(refusal) => {
-            text::refusal_stands(case, start, refusals::number(refusal) as u64)
+            text::refusal_stands(case, start, u32::from(refusal) as u64)
         }
     }
 }

@@ -63,7 +63,7 @@ fn run(
     let n = input::read_input(&mut rt.reader(), file).map_err(Failure::Input)?;
     match salvage::salvage_corners(&file[..n], width, height, out, faults) {
         Salvage::Saved { kept, dropped } => print_saved(rt, errors, out, kept, faults, dropped),
-        Salvage::Refused(refusal) => print_refused(errors, refusals::number(refusal)),
+        Salvage::Refused(refusal) => print_refused(errors, u32::from(refusal)),
     }
 }
 

@@ -8,4 +8,4 @@ pub returns-in-Merged : goal.returns-in-Merged
 returns-in-Merged c = merging c.args.count.now (Merged c.in-Merged.kept) 0 refl c.in-Merged.is c.merge_corners_simple-answer.ensures
 
 pub returns-in-Refused : goal.returns-in-Refused
-returns-in-Refused c = merging c.args.count.now (Refused c.in-Refused.refusal) c.number.result c.number.ensures c.in-Refused.is c.merge_corners_simple-answer.ensures
+returns-in-Refused c = merging c.args.count.now (Refused c.in-Refused.refusal) c.from.result c.from.ensures c.in-Refused.is c.merge_corners_simple-answer.ensures

@@ -8,4 +8,4 @@ pub returns-in-Wanted : goal.returns-in-Wanted
 returns-in-Wanted c = wanting _ (Wanted c.in-Wanted.wanted) 0 refl c.in-Wanted.is c.heads_wanted-answer.ensures
 
 pub returns-in-Refused : goal.returns-in-Refused
-returns-in-Refused c = wanting _ (Refused c.in-Refused.refusal) c.number.result c.number.ensures c.in-Refused.is c.heads_wanted-answer.ensures
+returns-in-Refused c = wanting _ (Refused c.in-Refused.refusal) c.from.result c.from.ensures c.in-Refused.is c.heads_wanted-answer.ensures

@@ -8,4 +8,4 @@ pub returns-in-Found : goal.returns-in-Found
 returns-in-Found c = scanning c.args.count.now (Found c.in-Found.found) 0 refl c.in-Found.is c.detect_peaks_from_response_with_refine_radius-answer.ensures
 
 pub returns-in-Refused : goal.returns-in-Refused
-returns-in-Refused c = scanning c.args.count.now (Refused c.in-Refused.refusal) c.number.result c.number.ensures c.in-Refused.is c.detect_peaks_from_response_with_refine_radius-answer.ensures
+returns-in-Refused c = scanning c.args.count.now (Refused c.in-Refused.refusal) c.from.result c.from.ensures c.in-Refused.is c.detect_peaks_from_response_with_refine_radius-answer.ensures

@@ -14,4 +14,4 @@ pub returns-in-UsedTwice : goal.returns-in-UsedTwice
 returns-in-UsedTwice c = tying c.args.place.now (UsedTwice c.in-UsedTwice.at) 34 refl c.in-UsedTwice.is c.tie_corners-answer.ensures
 
 pub returns-in-Refused : goal.returns-in-Refused
-returns-in-Refused c = tying c.args.place.now (Refused c.in-Refused.refusal) c.number.result c.number.ensures c.in-Refused.is c.tie_corners-answer.ensures
+returns-in-Refused c = tying c.args.place.now (Refused c.in-Refused.refusal) c.from.result c.from.ensures c.in-Refused.is c.tie_corners-answer.ensures

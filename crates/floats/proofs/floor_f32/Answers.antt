@@ -1,32 +1,26 @@
--- `floats::floor_f32` meets its contract: each branch is one law, for a small value of either sign, a large one, and the rest.
-use Rattle.std.proofs.Common.{T, sym, ap, ◌∙◌, subst}
-use lib.Ieee.{Float, binary32, of_bits}
+-- `floats::floor_f32` meets its contract: a small value of either sign is one law, and what is left stays.
+use Rattle.std.proofs.Common.{T, false, pos, sym, ap, ◌∙◌, subst}
+use mathlib.Core.Bool.{and-eq-true_iff}
+use lib.Ieee.{Float, fin, binary32, of_bits, lt, neg}
 use Rattle.floats.specs.Whole.{floor}
-use Rattle.floats.proofs.WholeLaws.{floor-keeps, large, large-below, neither, flipped, neg-neg}
+use Rattle.floats.proofs.WholeLaws.{floor-keeps, kept, flipped, neg-neg}
 use Rattle.floats.proofs.floor_f32.Goals as goal
 
-pub whole_below-requires : goal.whole_below-requires
+pub whole_below-requires-clause-with_fractions : goal.whole_below-requires-clause-with_fractions
 unfolding of_bits
-whole_below-requires c = record { fact_1 = subst T (sym c.if-x.true) tt; fact_2 = subst T (sym c.if-x-2.true) tt }
-
-pub returns-then-x : goal.returns-then-x
-unfolding of_bits
-returns-then-x c = large binary32 (floor binary32) (floor-keeps binary32) c.args.x (subst T (sym c.well_formed.0.1) tt) c.if-x.true c.if-x-2.false
+whole_below-requires-clause-with_fractions c = subst T (sym ((and-eq-true_iff (lt (fin false 0 (pos 0)) c.args.x) (lt c.args.x (fin false 1 (pos 23)))).0 c.if-x.true).1) tt
 
 pub whole_above-requires : goal.whole_above-requires
 unfolding of_bits
 whole_above-requires c =
-    let both = flipped 23 c.args.x c.if-x-3.true c.if-x-4.true in
-    record { fact_1 = both.0; fact_2 = both.1 }
+    let t = (and-eq-true_iff (lt c.args.x (fin false 0 (pos 0))) (lt (neg (fin false 1 (pos 23))) c.args.x)).0 c.if-x-2.true in
+    let both = flipped 23 c.args.x t.0 t.1 in
+    record { above_zero = both.0; with_fractions = both.1 }
 
-pub returns-then-x-4 : goal.returns-then-x-4
+pub returns-then-x-2 : goal.returns-then-x-2
 unfolding of_bits
-returns-then-x-4 c = c.whole_above.ensures ∙ ap (λ (z : Float). floor binary32 z) (neg-neg c.args.x)
+returns-then-x-2 c = c.whole_above.ensures ∙ ap (λ (z : Float). floor binary32 z) (neg-neg c.args.x)
 
-pub returns-then-x-3 : goal.returns-then-x-3
+pub returns-else-x-2 : goal.returns-else-x-2
 unfolding of_bits
-returns-then-x-3 c = large-below binary32 (floor binary32) (floor-keeps binary32) c.args.x (subst T (sym c.well_formed.0.1) tt) c.if-x-3.true c.if-x-4.false
-
-pub returns : goal.returns
-unfolding of_bits
-returns c = neither binary32 (floor binary32) (floor-keeps binary32) c.args.x (subst T (sym c.well_formed.0.1) tt) c.if-x.false c.if-x-3.false
+returns-else-x-2 c = kept binary32 (floor binary32) (floor-keeps binary32) c.args.x (subst T (sym c.well_formed.0.1) tt) c.if-x.false c.if-x-2.false

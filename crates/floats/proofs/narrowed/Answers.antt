@@ -26,7 +26,7 @@ pub returns-then-field-ge897 : goal.returns-then-field-ge897
 returns-then-field-ge897 c = normal c.args.bits c.nearest_even.result c.nearest_even.ensures c.if-field-ge897.true c.if-field-ge1151.false
 
 pub nearest_even-requires-then-field-ge872 : goal.nearest_even-requires-then-field-ge872
-nearest_even-requires-then-field-ge872 c = (omega arith, subst (λ (z : ℕ). 0 < z) (sym (shifted (925 - c.args.bits / 2 ^ 52) (omega arith))) (pow_pos (925 - c.args.bits / 2 ^ 52)), subst (λ (z : ℕ). z ≤ 2 ^ 53) (sym (shifted (925 - c.args.bits / 2 ^ 52) (omega arith))) (pow_mono {i = 925 - c.args.bits / 2 ^ 52} {j = 53} (omega arith)))
+nearest_even-requires-then-field-ge872 c = record { digits = omega arith; some = subst (λ (z : ℕ). 0 < z) (sym (shifted (925 - c.args.bits / 2 ^ 52) (omega arith))) (pow_pos (925 - c.args.bits / 2 ^ 52)); halves = subst (λ (z : ℕ). z ≤ 2 ^ 53) (sym (shifted (925 - c.args.bits / 2 ^ 52) (omega arith))) (pow_mono {i = 925 - c.args.bits / 2 ^ 52} {j = 53} (omega arith)) }
 
 pub overflow_cast-result-then-field-ge872 : goal.overflow_cast-result-then-field-ge872
 overflow_cast-result-then-field-ge872 c = omega (arith, (small c.args.bits c.nearest_even-then-field-ge872.result c.nearest_even-then-field-ge872.ensures c.if-field-ge872.true c.if-field-ge897.false).number)

@@ -4,4 +4,4 @@ use Rattle.floats.proofs.NarrowLaws.{closest-even}
 use Rattle.floats.proofs.nearest_even.Goals as goal
 
 pub returns : goal.returns
-returns c = sym (closest-even c.args.n c.args.half c.requires.1)
+returns c = sym (closest-even c.args.n c.args.half c.requires.some)

@@ -1,32 +1,26 @@
--- `floats::round_f32` meets its contract: each branch is one law, for a small value of either sign, a large one, and the rest.
-use Rattle.std.proofs.Common.{T, sym, ap, ◌∙◌, subst}
-use lib.Ieee.{binary32, of_bits, neg}
+-- `floats::round_f32` meets its contract: a small value of either sign is one law, and what is left stays.
+use Rattle.std.proofs.Common.{T, false, pos, sym, ap, ◌∙◌, subst}
+use mathlib.Core.Bool.{and-eq-true_iff}
+use lib.Ieee.{fin, binary32, of_bits, lt, neg}
 use Rattle.floats.specs.Whole.{round_away}
-use Rattle.floats.proofs.WholeLaws.{round_keeps, large, large-below, neither, flipped, round-neg}
+use Rattle.floats.proofs.WholeLaws.{round_keeps, kept, flipped, round-neg}
 use Rattle.floats.proofs.round_f32.Goals as goal
 
-pub whole_nearest-requires : goal.whole_nearest-requires
+pub whole_nearest-requires-clause-with_fractions : goal.whole_nearest-requires-clause-with_fractions
 unfolding of_bits
-whole_nearest-requires c = record { fact_1 = subst T (sym c.if-x.true) tt; fact_2 = subst T (sym c.if-x-2.true) tt }
+whole_nearest-requires-clause-with_fractions c = subst T (sym ((and-eq-true_iff (lt (fin false 0 (pos 0)) c.args.x) (lt c.args.x (fin false 1 (pos 23)))).0 c.if-x.true).1) tt
 
-pub returns-then-x : goal.returns-then-x
+pub whole_nearest-requires-then-x-2 : goal.whole_nearest-requires-then-x-2
 unfolding of_bits
-returns-then-x c = large binary32 (round_away binary32) (round_keeps binary32) c.args.x (subst T (sym c.well_formed.0.1) tt) c.if-x.true c.if-x-2.false
+whole_nearest-requires-then-x-2 c =
+    let t = (and-eq-true_iff (lt c.args.x (fin false 0 (pos 0))) (lt (neg (fin false 1 (pos 23))) c.args.x)).0 c.if-x-2.true in
+    let both = flipped 23 c.args.x t.0 t.1 in
+    record { above_zero = both.0; with_fractions = both.1 }
 
-pub whole_nearest-requires-then-x-4 : goal.whole_nearest-requires-then-x-4
+pub returns-then-x-2 : goal.returns-then-x-2
 unfolding of_bits
-whole_nearest-requires-then-x-4 c =
-    let both = flipped 23 c.args.x c.if-x-3.true c.if-x-4.true in
-    record { fact_1 = both.0; fact_2 = both.1 }
+returns-then-x-2 c = ap neg c.whole_nearest-then-x-2.ensures ∙ round-neg binary32 c.args.x
 
-pub returns-then-x-4 : goal.returns-then-x-4
+pub returns-else-x-2 : goal.returns-else-x-2
 unfolding of_bits
-returns-then-x-4 c = ap neg c.whole_nearest-then-x-4.ensures ∙ round-neg binary32 c.args.x
-
-pub returns-then-x-3 : goal.returns-then-x-3
-unfolding of_bits
-returns-then-x-3 c = large-below binary32 (round_away binary32) (round_keeps binary32) c.args.x (subst T (sym c.well_formed.0.1) tt) c.if-x-3.true c.if-x-4.false
-
-pub returns : goal.returns
-unfolding of_bits
-returns c = neither binary32 (round_away binary32) (round_keeps binary32) c.args.x (subst T (sym c.well_formed.0.1) tt) c.if-x.false c.if-x-3.false
+returns-else-x-2 c = kept binary32 (round_away binary32) (round_keeps binary32) c.args.x (subst T (sym c.well_formed.0.1) tt) c.if-x.false c.if-x-2.false

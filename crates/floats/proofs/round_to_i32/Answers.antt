@@ -19,10 +19,10 @@ pub number_nearest-requires : goal.number_nearest-requires
 unfolding of_bits
 number_nearest-requires c =
     let t = (and-eq-true_iff (lt (fin false 0 (pos 0)) c.args.x) (lt c.args.x (fin false 1 (pos 23)))).0 c.if-x.true in
-    record { fact_1 = subst T (sym t.0) tt; fact_2 = subst T (sym t.1) tt }
+    record { above_zero = subst T (sym t.0) tt; with_fractions = subst T (sym t.1) tt }
 
 pub returns-then-x : goal.returns-then-x
-returns-then-x c = converted c.number_nearest.result c.args.x c.number_nearest.ensures.1 c.number_nearest.ensures.0
+returns-then-x c = converted c.number_nearest.result c.args.x c.number_nearest.ensures.exact c.number_nearest.ensures.nearest
 
 pub returns : goal.returns
 returns c = in-steps c.args.x c.round_f32.result c.f32_to_i32.result c.round_f32.ensures c.f32_to_i32.ensures

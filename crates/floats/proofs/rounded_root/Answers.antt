@@ -4,7 +4,7 @@ use Rattle.floats.proofs.Roots.{root-square, root-under, nearest-root-up, neares
 use Rattle.floats.proofs.rounded_root.Goals as goal
 
 short : (c : goal.After-whole_root-q) → c.whole_root-q.result < 2 ^ 24
-short c = root-under c.args.n c.whole_root-q.result (2 ^ 24) c.whole_root-q.ensures c.requires.1
+short c = root-under c.args.n c.whole_root-q.result (2 ^ 24) c.whole_root-q.ensures c.requires.few
 
 square : (c : goal.After-whole_root-q) → c.whole_root-q.result * c.whole_root-q.result ≤ c.args.n
 square c = root-square c.args.n c.whole_root-q.result c.whole_root-q.ensures
@@ -23,7 +23,7 @@ overflow_sub-n c = square c
 
 pub overflow_add-result : goal.overflow_add-result
 overflow_add-result c =
-    let short : c.whole_root-q.result < 2 ^ 24 = root-under c.args.n c.whole_root-q.result (2 ^ 24) c.whole_root-q.ensures c.requires.1 in
+    let short : c.whole_root-q.result < 2 ^ 24 = root-under c.args.n c.whole_root-q.result (2 ^ 24) c.whole_root-q.ensures c.requires.few in
     omega (arith, short)
 
 pub returns-then-q-n : goal.returns-then-q-n

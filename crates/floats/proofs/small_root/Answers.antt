@@ -9,7 +9,7 @@ above_zero b n zero h l e = absurd (not-le_of_lt l (le_trans (lit≤ tt) (le_tra
 above_zero b n (suc k) h l e = zero-lt-suc k
 
 falls : (c : goal.In-loop-n) → 0 < c.loop-n.k
-falls c = above_zero c.args.bits c.loop-n.n c.loop-n.k c.requires.0 c.loop-n-test.true c.loop-n.invariant.0
+falls c = above_zero c.args.bits c.loop-n.n c.loop-n.k c.requires.above_zero c.loop-n-test.true c.loop-n.invariant.0
 
 pub loop-n-init : goal.loop-n-init
 loop-n-init c = (mul_assoc c.args.bits (2 ^ 23) (2 ^ 126), omega arith, lit< tt)
@@ -31,6 +31,6 @@ returns c =
     let bits = c.args.bits in
     let n = c.loop-n.n in
     let k = c.loop-n.k in
-    rooted bits bits 0 n k c.rounded_root.result c.requires.0 (omega arith) (inr refl) (lit< tt)
+    rooted bits bits 0 n k c.rounded_root.result c.requires.above_zero (omega arith) (inr refl) (lit< tt)
     (ap (λ (z : ℕ). z * 2 ^ 149) (mul-one bits) ∙ sym c.loop-n.invariant.0)
     (omega arith) (omega arith) (omega arith) (sym (zero-add bits)) c.rounded_root.ensures

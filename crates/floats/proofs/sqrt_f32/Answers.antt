@@ -33,7 +33,7 @@ pub root_bits-requires : goal.root_bits-requires
 root_bits-requires c =
     let held : T (fits binary32 c.args.x) = subst T (sym c.well_formed.0.1) tt in
     let x = c.args.x in
-    (above_zero binary32 x (held) (is-root c), below_inf binary32 x (held) (is-root c))
+    record { above_zero = above_zero binary32 x (held) (is-root c); is_finite = below_inf binary32 x (held) (is-root c) }
 
 pub float_from_bits-result : goal.float_from_bits-result
 float_from_bits-result c =

@@ -5,10 +5,10 @@ use Rattle.floats.proofs.PartLaws.{in-float}
 use Rattle.floats.proofs.whole_nearest.Goals as goal
 
 pub number_nearest-requires : goal.number_nearest-requires
-number_nearest-requires c = record { fact_1 = c.requires.fact_1; fact_2 = c.requires.fact_2 }
+number_nearest-requires c = record { above_zero = c.requires.above_zero; with_fractions = c.requires.with_fractions }
 
 pub int_to_float-result : goal.int_to_float-result
-int_to_float-result c = in-float binary32 _ (omega (arith, c.number_nearest.ensures.1))
+int_to_float-result c = in-float binary32 _ (omega (arith, c.number_nearest.ensures.exact))
 
 pub returns : goal.returns
-returns c = c.number_nearest.ensures.0
+returns c = c.number_nearest.ensures.nearest

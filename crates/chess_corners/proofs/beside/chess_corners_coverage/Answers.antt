@@ -10,4 +10,4 @@ returns-in-Counted c =
     still (still-tested a.width a.height a.count _ refl) (covering a.count (Counted _) 0 refl c.in-Counted.is c.coverage_afresh-answer.ensures)
 
 pub returns-in-Refused : goal.returns-in-Refused
-returns-in-Refused c = covering c.args.count (Refused c.in-Refused.refusal) c.number.result c.number.ensures c.in-Refused.is c.coverage_afresh-answer.ensures
+returns-in-Refused c = covering c.args.count (Refused c.in-Refused.refusal) c.from.result c.from.ensures c.in-Refused.is c.coverage_afresh-answer.ensures

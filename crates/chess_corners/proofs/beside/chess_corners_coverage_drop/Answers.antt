@@ -8,4 +8,4 @@ pub returns-in-Counted : goal.returns-in-Counted
 returns-in-Counted c = covering c.args.count.now (Counted c.in-Counted.left) 0 refl c.in-Counted.is c.drop_corner-answer.ensures
 
 pub returns-in-Refused : goal.returns-in-Refused
-returns-in-Refused c = covering c.args.count.now (Refused c.in-Refused.refusal) c.number.result c.number.ensures c.in-Refused.is c.drop_corner-answer.ensures
+returns-in-Refused c = covering c.args.count.now (Refused c.in-Refused.refusal) c.from.result c.from.ensures c.in-Refused.is c.drop_corner-answer.ensures

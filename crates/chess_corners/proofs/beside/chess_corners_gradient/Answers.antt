@@ -8,4 +8,4 @@ pub returns-in-Added : goal.returns-in-Added
 returns-in-Added c = grading Added 0 refl c.in-Added.is c.add_gradient-answer.ensures
 
 pub returns-in-Refused : goal.returns-in-Refused
-returns-in-Refused c = grading (Refused c.in-Refused.refusal) c.number.result c.number.ensures c.in-Refused.is c.add_gradient-answer.ensures
+returns-in-Refused c = grading (Refused c.in-Refused.refusal) c.from.result c.from.ensures c.in-Refused.is c.add_gradient-answer.ensures

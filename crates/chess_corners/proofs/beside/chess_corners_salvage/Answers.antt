@@ -12,4 +12,4 @@ returns-in-Saved c =
 pub returns-in-Refused : goal.returns-in-Refused
 returns-in-Refused c =
     let given = c.args in
-    salvaging given.kept.now given.dropped.now (Refused c.in-Refused.refusal) c.number.result c.number.ensures c.in-Refused.is c.salvage_corners-answer.ensures
+    salvaging given.kept.now given.dropped.now (Refused c.in-Refused.refusal) c.from.result c.from.ensures c.in-Refused.is c.salvage_corners-answer.ensures

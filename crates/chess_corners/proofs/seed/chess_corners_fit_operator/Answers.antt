@@ -11,4 +11,4 @@ pub returns-in-Singular : goal.returns-in-Singular
 returns-in-Singular c = operating Singular 3 refl c.in-Singular.is c.fit_operator-answer.ensures
 
 pub returns-in-Refused : goal.returns-in-Refused
-returns-in-Refused c = operating (Refused c.in-Refused.refusal) c.number.result c.number.ensures c.in-Refused.is c.fit_operator-answer.ensures
+returns-in-Refused c = operating (Refused c.in-Refused.refusal) c.from.result c.from.ensures c.in-Refused.is c.fit_operator-answer.ensures

@@ -17,4 +17,4 @@ returns-in-Unmoved c =
 pub returns-in-Refused : goal.returns-in-Refused
 returns-in-Refused c =
     let a = c.args in
-    told a.x a.y a.place.now a.state.now a.covariance.now a.answer (Refused c.in-Refused.refusal) c.number.result c.number.ensures c.in-Refused.is
+    told a.x a.y a.place.now a.state.now a.covariance.now a.answer (Refused c.in-Refused.refusal) c.from.result c.from.ensures c.in-Refused.is

@@ -12,4 +12,4 @@ returns-in-Refined c =
 pub returns-in-Refused : goal.returns-in-Refused
 returns-in-Refused c =
     let a = c.args in
-    counted a.answer (Refused c.in-Refused.refusal) a.count.now c.number.result c.in-Refused.is c.number.ensures
+    counted a.answer (Refused c.in-Refused.refusal) a.count.now c.from.result c.in-Refused.is c.from.ensures

@@ -11,4 +11,4 @@ pub returns-in-Above : goal.returns-in-Above
 returns-in-Above c = reading c.args.answer (Above c.in-Above.at) _ 24 c.in-Above.is refl
 
 pub returns-in-Refused : goal.returns-in-Refused
-returns-in-Refused c = reading c.args.answer (Refused c.in-Refused.refusal) _ c.number.result c.in-Refused.is c.number.ensures
+returns-in-Refused c = reading c.args.answer (Refused c.in-Refused.refusal) _ c.from.result c.in-Refused.is c.from.ensures

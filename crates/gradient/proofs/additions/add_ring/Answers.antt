@@ -1,32 +1,17 @@
--- `gradient::additions::add_ring` meets its contract. The invariant: the grid is what k turns leave.
-use Rattle.gradient.proofs.AdditionLaws.{ring-more}
-use native.Mathlib.Omega.{arith}
-use Rattle.shapes.proofs.TurnLaws.{ended}
-use borrow.Author.Rules.{rules}
+-- `gradient::additions::add_ring` meets its contract: one turn more.
 use mathlib.Core.Path.{ap, ◌∙◌}
-use Prim.Native.Nat.{ℕ}
-use Rattle.shapes.specs.Turns.{turns}
+use lib.IntN.{ℤ}
+use lib.Ieee.{binary32, of_int}
+use mir.Syntax.{w32}
+use mir.Val.{to_z, of_z}
+use mir.ValLaws.{to_z-of_z}
 use Rattle.pixel_response.specs.Steps.{listed}
-use Rattle.gradient.specs.Steps.{ring_step}
+use Rattle.gradient.proofs.AdditionLaws.{ring_turned}
 use Rattle.gradient.proofs.additions.add_ring.Goals as goal
-
-pub loop-k-init : goal.loop-k-init
-unfolding turns
-loop-k-init c = search rules
-
-pub add_at-requires : goal.add_at-requires
-add_at-requires c =
-    let l = c.loop-k in
-    omega (arith, c.requires.1 l.k (omega arith), l.invariant.1)
 
 pub loop-k-preserved : goal.loop-k-preserved
 loop-k-preserved c =
     let a = c.args in
     let l = c.loop-k in
-    (search rules, c.add_at.auto.grid ∙ l.invariant.1, ring-more (listed a.samples.now) a.mean (listed a.cells.now) a.scale l.k c.ring_coefficient.result c.whole-c.result a.grid.now l.grid c.add_at.new.grid l.invariant.2 c.ring_coefficient.ensures.0 c.whole-c.ensures c.add_at.ensures)
-
-pub returns : goal.returns
-returns c =
-    let a = c.args in
-    let l = c.loop-k in
-    l.invariant.2 ∙ ap (λ (n : ℕ). turns n (ring_step (listed a.samples.now) a.mean (listed a.cells.now) a.scale) a.grid.now) (ended l.invariant.0 c.loop-k-test.false)
+    let r = c.ring_coefficient-c in
+    (c.add_at.auto.grid ∙ l.invariant.0, ring_turned (listed a.samples.now) (to_z w32 (of_z w32 a.mean)) (listed a.cells.now) a.scale l.k _ a.grid.now l.grid c.add_at.new.grid l.invariant.1 (ap (λ (z : ℤ). of_int binary32 z) (to_z-of_z w32 r.result (record { sfits = r.type_inv }) ∙ r.ensures.is)) c.add_at.ensures)

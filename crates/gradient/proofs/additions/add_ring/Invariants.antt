@@ -1,6 +1,5 @@
 -- `gradient::additions::add_ring` meets its contract. The invariant: the grid is what k turns leave.
 use mathlib.Core.Path.{◌≡◌}
-use Prim.Native.Nat.{◌-◌, ◌≤◌}
 use lib.ListN.{length}
 use Rattle.shapes.specs.Turns.{turns}
 use Rattle.pixel_response.specs.Steps.{listed}
@@ -8,7 +7,4 @@ use Rattle.gradient.specs.Steps.{ring_step}
 use Rattle.gradient.proofs.additions.add_ring.Given as goal
 
 abbrev pub invariant-loop-k : goal.invariant-loop-k
-invariant-loop-k l = (l.k ≤ 16) × (length l.grid ≡ length l.initial.grid) × (l.grid ≡ turns l.k (ring_step (listed l.samples) l.mean (listed l.cells) l.scale) l.initial.grid)
-
-abbrev pub decreases-loop-k : goal.decreases-loop-k
-decreases-loop-k l = 16 - l.k
+invariant-loop-k l = (length l.grid ≡ length l.initial.grid) × (l.grid ≡ turns l.k (ring_step (listed l.samples) l.mean (listed l.cells) l.scale) l.initial.grid)

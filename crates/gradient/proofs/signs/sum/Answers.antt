@@ -1,29 +1,23 @@
--- `gradient::signs::sum` meets its contract. The invariant: the sum is that of the first k samples, at most 255 each.
-use native.Mathlib.Omega.{arith}
-use Rattle.shapes.proofs.TurnLaws.{ended}
-use Rattle.pixel_response.proofs.PixelLaws.{total-more}
+-- `gradient::signs::sum` meets its contract: one sample more.
 use borrow.Author.Rules.{rules}
-use mathlib.Core.Path.{ap, ◌∙◌}
+use mathlib.Core.Path.{refl, ap, ◌∙◌}
 use Prim.Native.Nat.{ℕ, ◌+◌}
+use native.Mathlib.Omega.{arith}
 use lib.ListN.{get_or}
 use Rattle.pixel_response.specs.Samples.{total}
 use Rattle.pixel_response.specs.Steps.{listed}
+use Rattle.pixel_response.proofs.PixelLaws.{total-more}
 use Rattle.gradient.proofs.signs.sum.Goals as goal
 
 pub loop-k-init : goal.loop-k-init
 unfolding total
-loop-k-init c = search rules
+loop-k-init c = record { is = refl; most = omega arith }
 
 pub loop-k-preserved : goal.loop-k-preserved
 loop-k-preserved c =
     let l = c.loop-k in
     let a = c.args in
-    let m = c.more-sum.ensures in
-    (search rules, m.0 ∙ ap (λ (n : ℕ). n + get_or a.samples.now (a.from + l.k) 0) l.invariant.1 ∙ total-more l.k (λ j. listed a.samples.now (a.from + j)), omega (arith, m.1, l.invariant.2))
-
-pub returns : goal.returns
-returns c =
-    let l = c.loop-k in
-    let a = c.args in
-    let e = ended l.invariant.0 c.loop-k-test.false in
-    (l.invariant.1 ∙ ap (λ (n : ℕ). total n (λ j. listed a.samples.now (a.from + j))) e, omega (arith, l.invariant.2, e))
+    record {
+      is = ap (λ (n : ℕ). n + get_or a.samples.now (a.from + l.k) 0) l.invariant.is ∙ total-more l.k (λ j. listed a.samples.now (a.from + j));
+      most = search rules;
+    }

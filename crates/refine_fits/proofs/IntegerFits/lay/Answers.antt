@@ -1,16 +1,17 @@
 -- `refine_fits::IntegerFits::lay` meets its contract: the four fits that were looked up are laid last.
-use mathlib.Core.Path.{◌∙◌, ap}
-use Rattle.imageview.specs.Image.{image_of}
-use Rattle.refine_patch.specs.declared.Sums.{Sums}
-use Rattle.refine_patch.specs.StepsFrom.{four_written}
-use Rattle.refine_patch.specs.StepsFour.{sum_in}
+use mathlib.Core.Path.{sym, ◌∙◌, ap}
+use Prim.Native.Nat.{ℕ}
+use lib.IntN.{pos}
+use Rattle.refine_fits.specs.Windows.{corners_at}
 use Rattle.refine_fits.proofs.BaseLaws.{laid_kept}
 use Rattle.refine_fits.proofs.IntegerFits.lay.Goals as goal
 
-pub returns : goal.returns
-returns c =
+pub returns-clause-laid : goal.returns-clause-laid
+returns-clause-laid g c =
     let a = c.args in
-    record {
-      kept = c.look-corners.ensures.kept;
-      laid = laid_kept (image_of a.bytes.now a.words.now a.sizes) a.columns.now a.radius a.w.base_x a.w.base_y a.flat.now _ (record { fits = c.look-corners.new.self; corners = c.look-corners.result }) c.requires.fact_1 c.look-corners.ensures (c.lay_four.ensures ∙ ap (λ (v : Sums). four_written (sum_in v) 20 a.flat.now) c.side_by_side.ensures);
-    }
+    let s = a.columns.now in
+    laid_kept a.image.now s.numbers.now s.radius a.base.x a.base.y a.flat.now _ c.look-corners.result c.requires.within
+    (ap (λ (n : ℕ). corners_at a.image.now s.numbers.now s.radius (pos n) (pos a.base.y)) (sym c.from.ensures)
+    ∙ ap (λ (n : ℕ). corners_at a.image.now s.numbers.now s.radius (pos c.from.result) (pos n)) (sym c.from-2.ensures)
+    ∙ c.look-corners.ensures.corners)
+    c.lay_four.ensures

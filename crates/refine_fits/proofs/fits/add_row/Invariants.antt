@@ -1,12 +1,7 @@
--- `refine_fits::fits::add_row` meets its contract. After i turns the sums have i samples of the row.
+-- After i turns the sums have i samples of the row.
 use mathlib.Core.Path.{◌≡◌}
-use Prim.Native.Nat.{◌-◌, ◌≤◌}
-use lib.ListN.{length}
 use Rattle.refine_fits.specs.StepsAdding.{row_added}
 use Rattle.refine_fits.proofs.fits.add_row.Given as goal
 
 abbrev pub invariant-loop-i : goal.invariant-loop-i
-invariant-loop-i l = (l.i ≤ length l.row) × (l.sums ≡ row_added l.columns l.row l.centre l.from l.i l.initial.sums)
-
-abbrev pub decreases-loop-i : goal.decreases-loop-i
-decreases-loop-i l = length l.row - l.i
+invariant-loop-i g l = l.sums ≡ row_added l.numbers (g.S.Sample.levels l.row) l.centre l.from l.i l.initial.sums

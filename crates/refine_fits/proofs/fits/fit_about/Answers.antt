@@ -1,37 +1,27 @@
 -- `refine_fits::fits::fit_about` meets its contract: the four patches lie in the image, and what is written of them are the fits about the base.
-use mathlib.Core.Path.{◌∙◌}
-use native.Mathlib.Omega.{arith}
-use Rattle.imageview.specs.Image.{image_of}
-use Rattle.refine_fits.proofs.BaseLaws.{place-most, inside-four, laid-about, firsts-are}
+use mathlib.Core.Path.{sym, ap, ◌∙◌, subst}
+use Prim.Native.Nat.{ℕ}
+use lib.ListN.{length}
+use Rattle.refine_patch.specs.StepsFrom.{coefficient_from, four_written}
+use Rattle.refine_patch.specs.StepsFour.{lane_of, PatchesInside}
+use Rattle.refine_fits.proofs.BaseLaws.{from, inside-four, laid-about, firsts-are}
 use Rattle.refine_fits.proofs.fits.fit_about.Goals as goal
 
-pub overflow_add-firsts : goal.overflow_add-firsts
-overflow_add-firsts c =
+pub fit_four-requires-clause-patches_inside : goal.fit_four-requires-clause-patches_inside
+fit_four-requires-clause-patches_inside g c =
     let a = c.args in
-    omega (arith, c.first_place-at.ensures, c.requires.four_within_1.right, c.requires.four_within_1.below, c.requires.four_within_1.sound.image.sized.width-most, c.requires.four_within_1.sound.image.sized.height-most, c.requires.four_within_1.sound.image.pitch-most, place-most a.sizes.pitch a.radius a.y (omega (arith, c.requires.four_within_1.below, c.requires.four_within_1.sound.image.sized.height-most)) c.requires.four_within_1.sound.image.pitch-most)
-
-pub overflow_add-firsts-2 : goal.overflow_add-firsts-2
-overflow_add-firsts-2 c =
-    let a = c.args in
-    omega (arith, c.first_place-at.ensures, c.requires.four_within_1.right, c.requires.four_within_1.below, c.requires.four_within_1.sound.image.sized.width-most, c.requires.four_within_1.sound.image.sized.height-most, c.requires.four_within_1.sound.image.pitch-most, place-most a.sizes.pitch a.radius a.y (omega (arith, c.requires.four_within_1.below, c.requires.four_within_1.sound.image.sized.height-most)) c.requires.four_within_1.sound.image.pitch-most)
-
-pub overflow_add-firsts-3 : goal.overflow_add-firsts-3
-overflow_add-firsts-3 c =
-    let a = c.args in
-    omega (arith, c.first_place-at.ensures, c.requires.four_within_1.right, c.requires.four_within_1.below, c.requires.four_within_1.sound.image.sized.width-most, c.requires.four_within_1.sound.image.sized.height-most, c.requires.four_within_1.sound.image.pitch-most, place-most a.sizes.pitch a.radius a.y (omega (arith, c.requires.four_within_1.below, c.requires.four_within_1.sound.image.sized.height-most)) c.requires.four_within_1.sound.image.pitch-most)
-
-pub overflow_add-firsts-4 : goal.overflow_add-firsts-4
-overflow_add-firsts-4 c =
-    let a = c.args in
-    omega (arith, c.first_place-at.ensures, c.requires.four_within_1.right, c.requires.four_within_1.below, c.requires.four_within_1.sound.image.sized.width-most, c.requires.four_within_1.sound.image.sized.height-most, c.requires.four_within_1.sound.image.pitch-most, place-most a.sizes.pitch a.radius a.y (omega (arith, c.requires.four_within_1.below, c.requires.four_within_1.sound.image.sized.height-most)) c.requires.four_within_1.sound.image.pitch-most)
-
-pub fit_four-requires : goal.fit_four-requires
-fit_four-requires c =
-    let a = c.args in
-    record { out_len = c.requires.four_within_2; patches_inside = inside-four (image_of a.bytes.now a.words.now a.sizes) a.radius a.x a.y c.first_place-at.result c.requires.four_within_1 c.first_place-at.ensures; repeats = c.requires.repeats }
+    let img = a.image.now in
+    let r = a.columns.now.radius in
+    let at = c.first_place-at in
+    subst (λ (p : ℕ). PatchesInside (length img.samples) img.pitch r (from at.result p)) (sym c.pitch-pitch.ensures.pitch) (inside-four img r a.base.x a.base.y at.result c.requires.within at.ensures)
 
 pub returns : goal.returns
-returns c =
+returns g c =
     let a = c.args in
-    laid-about (image_of a.bytes.now a.words.now a.sizes) a.columns.now a.radius a.x a.y a.to a.flat.now c.fit_four.new.out c.requires.four_within_1 c.requires.four_within_2.1
-    (c.fit_four.ensures ∙ firsts-are (image_of a.bytes.now a.words.now a.sizes) a.columns.now a.radius a.x a.y c.first_place-at.result a.to a.flat.now c.first_place-at.ensures)
+    let img = a.image.now in
+    let s = a.columns.now in
+    let at = c.first_place-at in
+    laid-about img s.numbers.now s.radius a.base.x a.base.y a.to a.flat.now c.fit_four.new.out c.requires.within c.requires.low
+    (c.fit_four.ensures
+    ∙ ap (λ (p : ℕ). four_written (λ i l. coefficient_from img.samples img.pitch s.numbers.now s.radius (lane_of (from at.result p) l) i) a.to a.flat.now) c.pitch-pitch.ensures.pitch
+    ∙ firsts-are img s.numbers.now s.radius a.base.x a.base.y at.result a.to a.flat.now at.ensures)

@@ -12,8 +12,8 @@ returns-then-cfg-edge c =
     let cfg = c.args.cfg in
     sym (ap (λ (b : Bool). cond b cfg.max_offset (of_int binary32 (pos cfg.radius) ⊕ half)) c.if-cfg-edge.true)
 
-pub returns : goal.returns
+pub returns-else-cfg-edge : goal.returns-else-cfg-edge
 unfolding of_bits
-returns c =
+returns-else-cfg-edge c =
     let cfg = c.args.cfg in
     sym (ap (λ (b : Bool). cond b cfg.max_offset (of_int binary32 (pos cfg.radius) ⊕ half)) c.if-cfg-edge.false)

@@ -2,44 +2,39 @@
 use mathlib.Core.Path.{◌≡◌, refl, ap, ◌∙◌}
 use Prim.Native.Nat.{ℕ}
 use native.Mathlib.Omega.{arith}
-use lib.Ieee.{of_bits}
+use borrow.Author.Tests.{not-true, not-false}
+use lib.Ieee.{of_bits, ne}
 use Rattle.shapes.proofs.ListLaws.{overwritten-none}
 use Rattle.shapes.specs.Lists.{tabulated, overwritten}
 use Rattle.shapes.specs.Numbers.{entry}
 use Rattle.shapes.specs.Turns.{turns}
 use Rattle.refine_formulas.specs.Steps.{entry_after}
-use Rattle.refine_formulas.proofs.KernelLaws.{after, plus, passed_over, entry_more, added}
+use Rattle.refine_formulas.proofs.KernelLaws.{plus, passed_over, entry_more, added}
 use Rattle.refine_formulas.proofs.noise.kernel.Goals as goal
+use Rattle.refine_formulas.proofs.noise.kernel.Goals.{then-w+else-loop-i-test, else-w}
 
-pub shifts-init : goal.shifts-init
+pub loop-d-init : goal.loop-d-init
 unfolding tabulated entry_after turns of_bits
-shifts-init c = (omega arith, refl)
+loop-d-init c = refl
 
-pub shifts-preserved-then-w : goal.shifts-preserved-then-w
-unfolding of_bits
-shifts-preserved-then-w c =
-    let l = c.shifts in
-    (omega arith, passed_over c.args.overlap.now c.args.weights l.d c.if-w.true l.k l.invariant.1)
+pub loop-i-init : goal.loop-i-init
+loop-i-init c = overwritten-none _ _
 
-pub entries-init : goal.entries-init
-entries-init c = (omega arith, overwritten-none _ _)
+pub loop-i-preserved : goal.loop-i-preserved
+loop-i-preserved c =
+    let e = c.loop-i in
+    let l = c.loop-d in
+    entry_more c.args.overlap.now c.args.weights l.d l.k l.invariant e.i (omega arith) e.k e.invariant
 
-pub entries-preserved : goal.entries-preserved
-entries-preserved c =
-    let e = c.entries in
-    let l = c.shifts in
-    (omega arith, entry_more c.args.overlap.now c.args.weights l.d l.k l.invariant.1 e.i (omega arith) e.k e.invariant.1)
-
-pub shifts-preserved : goal.shifts-preserved
-unfolding of_bits
-shifts-preserved c =
-    let e = c.entries in
-    let l = c.shifts in
-    let h : e.i ≡ 25 = omega arith in
-    (omega arith, added c.args.overlap.now c.args.weights l.d l.k l.invariant.1 c.if-w.false e.k (e.invariant.1 ∙ ap (λ (n : ℕ). overwritten n (plus c.args.overlap.now (entry c.args.weights l.d) l.d l.k) l.k) h))
-
-pub returns : goal.returns
-returns c =
-    let l = c.shifts in
-    let h : l.d ≡ 9 = omega arith in
-    l.invariant.1 ∙ ap (λ (n : ℕ). after c.args.overlap.now c.args.weights n) h
+pub loop-d-preserved : goal.loop-d-preserved
+unfolding of_bits ne
+loop-d-preserved c =
+    let a = c.args in
+    let l = c.loop-d in
+    elim c.if-w.branch [
+      | then-w+else-loop-i-test w ↦
+          w.k-is
+          ∙ added a.overlap.now a.weights l.d l.k l.invariant (not-true _ w.if-w.true) w.loop-i.k
+          (w.loop-i.invariant ∙ ap (λ (n : ℕ). overwritten n (plus a.overlap.now (entry a.weights l.d) l.d l.k) l.k) (let h : w.loop-i.i ≡ 25 = omega arith in h))
+      | else-w w ↦ w.k-is ∙ passed_over a.overlap.now a.weights l.d (not-false _ w.if-w.false) l.k l.invariant
+    ]

@@ -12,5 +12,5 @@ pub returns : goal.returns
 returns c =
     let i = c.args.i in
     let radius = c.args.radius in
-    c.i32_to_f32.ensures
+    c.nearest_i32_to_f32.ensures
     ∙ ap (λ (z : ℤ). of_int binary32 z) (to_z-of_z w32 _ (difference-fits i radius c.requires.0 c.requires.1) ∙ difference i radius c.requires.0 c.requires.1)

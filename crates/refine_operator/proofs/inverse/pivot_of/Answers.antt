@@ -4,19 +4,19 @@ use Rattle.refine_operator.proofs.InverseLaws.{pivot-none, pivot-more, pivot-all
 use Rattle.refine_operator.proofs.inverse.pivot_of.Goals as goal
 
 pub loop-p-init : goal.loop-p-init
-loop-p-init c = (omega arith, omega arith, pivot-none c.args.m.now c.args.col)
+loop-p-init c = (omega arith, pivot-none c.args.m.now c.args.col)
 
 pub loop-p-preserved : goal.loop-p-preserved
 loop-p-preserved c =
     let l = c.loop-p in
     let a = c.args in
-    (omega arith, c.better_of-best.ensures.row, pivot-more a.m.now a.col l.best l.p c.better_of-best.result c.loop-p-test.true c.better_of-best.ensures.is ∙ l.invariant.2)
+    (c.better_of-best.ensures.row, pivot-more a.m.now a.col l.best l.p c.better_of-best.result c.loop-p-test.true c.better_of-best.ensures.is ∙ l.invariant.1)
 
 pub returns : goal.returns
 returns c =
     let l = c.loop-p in
     let a = c.args in
     record {
-      is = sym (pivot-all a.m.now a.col l.best l.p c.loop-p-test.false) ∙ l.invariant.2;
-      row = l.invariant.1;
+      is = sym (pivot-all a.m.now a.col l.best l.p c.loop-p-test.false) ∙ l.invariant.1;
+      row = l.invariant.0;
     }

@@ -6,17 +6,17 @@ use Rattle.refine_operator.proofs.WrittenLaws.{more_rows}
 use Rattle.refine_operator.proofs.normal.add_line.Goals as goal
 
 pub loop-x-init : goal.loop-x-init
-loop-x-init c = (omega arith, upper-to c.args.radius _ _ c.args.s c.requires.2 (sym (add-zero (c.args.y * side c.args.radius))))
+loop-x-init c = upper-to c.args.radius _ _ c.args.s c.requires.2 (sym (add-zero (c.args.y * side c.args.radius)))
 
 pub loop-x-preserved : goal.loop-x-preserved
 loop-x-preserved c =
     let l = c.loop-x in
     let a = c.args in
-    (omega arith, upper-along a.radius l.x a.y l.sums c.add_sample-sums.result c.phi_of.result c.loop-x-test.true l.invariant.1 c.phi_of.ensures c.add_sample-sums.ensures)
+    upper-along a.radius l.x a.y l.sums c.add_sample-sums.result c.phi_of.result c.loop-x-test.true l.invariant c.phi_of.ensures c.add_sample-sums.ensures
 
 pub returns : goal.returns
 returns c =
     let l = c.loop-x in
     let a = c.args in
     let e : l.x ≡ 2 * a.radius + 1 = omega arith in
-    upper-to a.radius _ _ l.sums l.invariant.1 (ap (λ (n : ℕ). a.y * side a.radius + n) e ∙ more_rows a.y (side a.radius))
+    upper-to a.radius _ _ l.sums l.invariant (ap (λ (n : ℕ). a.y * side a.radius + n) e ∙ more_rows a.y (side a.radius))

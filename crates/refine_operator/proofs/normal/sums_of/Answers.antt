@@ -8,17 +8,11 @@ use Rattle.refine_operator.proofs.normal.sums_of.Goals as goal
 
 pub loop-y-init : goal.loop-y-init
 unfolding of_bits turns
-loop-y-init c = (omega arith, upper-none c.args.radius)
-
-pub add_line-sums-requires : goal.add_line-sums-requires
-add_line-sums-requires c = (c.requires, c.loop-y-test.true, c.loop-y.invariant.1)
-
-pub loop-y-preserved : goal.loop-y-preserved
-loop-y-preserved c = (omega arith, c.add_line-sums.ensures)
+loop-y-init c = upper-none c.args.radius
 
 pub returns : goal.returns
 returns c =
     let l = c.loop-y in
     let a = c.args in
     let e : l.y ≡ 2 * a.radius + 1 = omega arith in
-    upper-to a.radius _ _ l.sums l.invariant.1 (ap (λ (n : ℕ). n * side a.radius) e)
+    upper-to a.radius _ _ l.sums l.invariant (ap (λ (n : ℕ). n * side a.radius) e)

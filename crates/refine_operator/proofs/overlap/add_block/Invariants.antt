@@ -1,11 +1,8 @@
 -- `refine_operator::overlap::add_block` meets its contract. After r turns the products of the first r rows are added.
-use Rattle.std.proofs.Common.{◌≡◌, ◌-◌, ◌*◌, ◌≤◌, length}
+use Rattle.std.proofs.Common.{◌≡◌, ◌*◌}
 use Rattle.shapes.specs.Lists.{overwritten}
 use Rattle.refine_operator.specs.Steps.{product_added}
 use Rattle.refine_operator.proofs.overlap.add_block.Given as goal
 
 abbrev pub invariant-loop-r : goal.invariant-loop-r
-invariant-loop-r l = (l.r ≤ 5) × (l.sums ≡ overwritten (5 * l.r) (product_added l.initial.sums l.here l.there) l.initial.sums) × (length l.sums ≡ length l.initial.sums)
-
-abbrev pub decreases-loop-r : goal.decreases-loop-r
-decreases-loop-r l = 5 - l.r
+invariant-loop-r l = l.sums ≡ overwritten (5 * l.r) (product_added l.initial.sums l.here l.there) l.initial.sums

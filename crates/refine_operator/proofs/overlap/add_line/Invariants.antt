@@ -1,11 +1,8 @@
 -- `refine_operator::overlap::add_line` meets its contract. After x turns the sums have x samples of the row.
-use Rattle.std.proofs.Common.{◌≡◌, ◌+◌, ◌-◌, ◌*◌, ◌≤◌, length}
+use Rattle.std.proofs.Common.{◌≡◌, ◌+◌, ◌*◌}
 use Rattle.refine_operator.specs.Basis.{side}
 use Rattle.refine_operator.specs.Steps.{sums_at}
 use Rattle.refine_operator.proofs.overlap.add_line.Given as goal
 
 abbrev pub invariant-loop-x : goal.invariant-loop-x
-invariant-loop-x l = (l.x ≤ 2 * l.radius + 1) × (l.sums ≡ sums_at l.radius l.m l.d (l.y * side l.radius + l.x)) × (length l.sums ≡ 25)
-
-abbrev pub decreases-loop-x : goal.decreases-loop-x
-decreases-loop-x l = 2 * l.radius + 1 - l.x
+invariant-loop-x l = l.sums ≡ sums_at l.radius l.m l.d (l.y * side l.radius + l.x)

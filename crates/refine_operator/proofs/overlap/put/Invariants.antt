@@ -1,10 +1,6 @@
 -- `refine_operator::overlap::put` meets its contract. After i turns the first i sums are written.
-use Rattle.std.proofs.Common.{◌≡◌, ◌-◌, ◌≤◌, length}
 use Rattle.refine_operator.specs.Steps.{BlockPut}
 use Rattle.refine_operator.proofs.overlap.put.Given as goal
 
 abbrev pub invariant-loop-i : goal.invariant-loop-i
-invariant-loop-i l = (l.i ≤ 25) × BlockPut l.d l.i l.sums l.initial.overlap l.overlap × (length l.overlap ≡ length l.initial.overlap)
-
-abbrev pub decreases-loop-i : goal.decreases-loop-i
-decreases-loop-i l = 25 - l.i
+invariant-loop-i l = BlockPut l.d l.i l.sums l.initial.overlap l.overlap
