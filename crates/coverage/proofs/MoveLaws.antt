@@ -3,11 +3,14 @@ use mathlib.Core.Path.{◌≡◌, refl, sym, ap, ◌∙◌}
 use mathlib.Core.Logic.{◌≢◌}
 use mathlib.Core.Bool.{Bool, true, false, cond}
 use mathlib.Core.List.{List}
-use Prim.Native.Nat.{ℕ, suc, ◌+◌, ◌-◌, ◌*◌, ◌≤◌, ◌<◌}
+use Prim.Native.Nat.{ℕ, zero, suc, ◌+◌, ◌-◌, ◌*◌, ◌≤◌, ◌<◌}
 use native.Mathlib.Numerals.{lt_of_le_of_ne}
 use native.Mathlib.Omega.{arith}
 use lib.Dec.{ltb}
-use lib.ListN.{length, set}
+use lib.ListN.{length, get_or, set, drop, length-drop}
+use Rattle.std.proofs.Math.Seq.{paste, paste-suc}
+use Rattle.std.proofs.lemmas.List.Edits.{paste_none}
+use Rattle.std.proofs.lemmas.List.{get_or-drop}
 use lib.Ieee.{Float, nan}
 use borrow.Author.Tests.{ltb-true, ltb-false, lt-ltb, le-ltb}
 use Rattle.shapes.specs.Lists.{tabulated}
@@ -54,21 +57,30 @@ module _ (list : List Float) (a : ℕ) where
   abbrev moved_at : ℕ → ℕ → Float
   moved_at b i = pieced (entry list i) (entry list (i + 3)) (entry list i) a b i
 
-  pub moved_none : list ≡ moved_to a a list
+  moved_none : list ≡ moved_to a a list
   unfolding moved_to
   moved_none =
       sym
       (tabulated-cong (length list) (moved_at a) (λ i. entry list i) (λ i l. same-pieces (ltb i a) (entry list i) (entry list (i + 3)))
       ∙ tabulated-by (length list) nan list refl)
 
-  pub moved_more : (b : ℕ) → a ≤ b → b + 3 < length list → set (moved_to a b list) b (entry (moved_to a b list) (b + 3)) ≡ moved_to a (b + 1) list
+  moved_more : (b : ℕ) → a ≤ b → b < length list → set (moved_to a b list) b (entry list (b + 3)) ≡ moved_to a (b + 1) list
   unfolding moved_to
   moved_more b h l =
-      set-tabulated (length list) (moved_at b) (moved_at (b + 1)) b (omega arith) _
-      (get_d-tabulated (length list) (moved_at b) (b + 3) nan l
-      ∙ last-piece (entry list (b + 3)) (entry list (b + 3 + 3)) (entry list (b + 3)) a b (b + 3) (omega arith) (omega arith)
-      ∙ sym (second-piece (entry list b) (entry list (b + 3)) (entry list b) a (b + 1) b h (omega arith)))
+      set-tabulated (length list) (moved_at b) (moved_at (b + 1)) b l _
+      (sym (second-piece (entry list b) (entry list (b + 3)) (entry list b) a (b + 1) b h (omega arith)))
       (λ i g d. ap (λ (t : Bool). cond (ltb i a) (entry list i) (cond t (entry list (i + 3)) (entry list i))) (ltb-more i b d))
+
+  -- so many copied from three places on
+  pub copied : (n : ℕ) → a + n + 3 ≤ length list → paste list a (drop (a + 3) list) n ≡ moved_to a (a + n) list
+  copied zero h = sym (paste_none list a (drop (a + 3) list)) ∙ moved_none ∙ ap (λ (b : ℕ). moved_to a b list) (let e : a ≡ a + 0 = omega arith in e)
+  copied (suc n) h =
+      let behind = drop (a + 3) list in
+      sym (paste-suc list a behind n nan (omega arith) (omega (arith, length-drop (a + 3) list)))
+      ∙ ap (λ (l : List Float). set l (a + n) (get_or behind n nan)) (copied n (omega arith))
+      ∙ ap (λ (v : Float). set (moved_to a (a + n) list) (a + n) v) (get_or-drop (a + 3) list n nan ∙ ap (λ (k : ℕ). entry list k) (let e : a + 3 + n ≡ a + n + 3 = omega arith in e))
+      ∙ moved_more (a + n) (omega arith) (omega arith)
+      ∙ ap (λ (b : ℕ). moved_to a b list) (let e : a + n + 1 ≡ a + suc n = omega arith in e)
 
   -- ---- then cleared
   module _ (b : ℕ) where
@@ -92,12 +104,14 @@ module _ (list : List Float) (a : ℕ) where
 
 module _ (list : List Float) (n k : ℕ) (h : k < n) (room : 3 * n ≤ length list) where
   -- the entries behind the dropped corner moved down, and the record that is freed cleared
-  pub dropped-by : recorded (moved_to (3 * k) (3 * (n - 1)) list) (n - 1) nowhere ≡ dropped n k list
+  pub dropped_by : recorded (paste list (3 * k) (drop (3 * k + 3) list) (3 * n - (3 * k + 3))) (n - 1) nowhere ≡ dropped n k list
   unfolding dropped
-  dropped-by =
+  dropped_by =
       let a = 3 * k in
       let b = 3 * (n - 1) in
-      ap (λ (l : List Float). recorded l (n - 1) nowhere) (cleared-none list a b)
+      ap (λ (l : List Float). recorded l (n - 1) nowhere)
+      (copied list a (3 * n - (a + 3)) (omega arith) ∙ ap (λ (m : ℕ). moved_to a m list) (let e : a + (3 * n - (a + 3)) ≡ b = omega arith in e))
+      ∙ ap (λ (l : List Float). recorded l (n - 1) nowhere) (cleared-none list a b)
       ∙ ap (λ (l : List Float). set (set l (b + 1) plus_zero) (b + 2) plus_zero) (cleared_more list a b b (b + 1) refl (omega arith) (omega arith) (omega arith))
       ∙ ap (λ (l : List Float). set l (b + 2) plus_zero) (cleared_more list a b (b + 1) (b + 2) (omega arith) (omega arith) (omega arith) (omega arith))
       ∙ cleared_more list a b (b + 2) (3 * n) (omega arith) (omega arith) (omega arith) (omega arith)

@@ -10,7 +10,8 @@ use native.Mathlib.Omega.{arith}
 use lib.Dec.{eqb, ltb}
 use lib.ListN.{length, get_or, replicate}
 use lib.Ieee.{Float}
-use borrow.Author.Tests.{eq-eqb, ne_eqb, lt-ltb}
+use borrow.Author.Tests.{eq-eqb, ne_eqb, lt-ltb, ltb-true, ltb-false}
+use Rattle.std.specs.Prelude.{min}
 use Rattle.shapes.specs.Lists.{tabulated}
 use Rattle.shapes.specs.Numbers.{entry}
 use Rattle.shapes.proofs.ListLaws.{length-tabulated, get_d-tabulated, tabulated-cong}
@@ -20,6 +21,14 @@ use Rattle.coverage.specs.Summary.{in_tile, summary}
 use Rattle.coverage.specs.Call.{more, less}
 use Rattle.coverage.proofs.TileLaws.{tile-under}
 use Rattle.coverage.proofs.EntryLaws.{set-tabulated}
+
+-- one more, where 65,535 stays
+pub more_is : (n : ℕ) → min (n + 1) 65535 ≡ cond (ltb n 65535) (n + 1) 65535
+more_is n = go (ltb n 65535) refl
+  where
+    go : (b : Bool) → ltb n 65535 ≡ b → min (n + 1) 65535 ≡ cond b (n + 1) 65535
+    go true e = let l = ltb-true n 65535 e in omega arith
+    go false e = let l = ltb-false n 65535 e in omega arith
 
 -- 1 where a corner of tile a lies in tile t
 abbrev pub hit : ℕ → ℕ → ℕ
@@ -140,17 +149,17 @@ module _ (n : ℕ) (f : ℕ → ℕ) (t : ℕ) (h : t < n) where
       none a b e = omega arith
 
 -- ---- of a list
-pub summary-none : (w h : ℕ) (l : List Float) → replicate 65 0 ≡ summary w h l 0
+pub summary_none : (w h : ℕ) (l : List Float) → replicate 65 0 ≡ summary w h l 0
 unfolding summary tabulated in_tile
-summary-none w h l = refl
+summary_none w h l = refl
 
 module _ (w h : ℕ) (s : Sized w h) where
   pub tile-at-under : (l : List Float) (i : ℕ) → tile_at w h l i < 65
   tile-at-under l i = tile-under w h (entry l (3 * i)) (entry l (3 * i + 1)) s
 
-  pub length-summary : (l : List Float) (n : ℕ) → length (summary w h l n) ≡ 65
+  pub length_summary : (l : List Float) (n : ℕ) → length (summary w h l n) ≡ 65
   unfolding summary
-  length-summary l n = length-tabulated 65 (in_tile (tile_at w h l) n)
+  length_summary l n = length-tabulated 65 (in_tile (tile_at w h l) n)
 
   pub get_d-summary : (l : List Float) (n i : ℕ) → i < 65 → get_or (summary w h l n) i 0 ≡ in_tile (tile_at w h l) n i
   unfolding summary
@@ -161,9 +170,9 @@ module _ (w h : ℕ) (s : Sized w h) where
   same-summary l m n e = tabulated-cong 65 (in_tile (tile_at w h l) n) (in_tile (tile_at w h m) n) (λ i g. same_in (tile_at w h l) (tile_at w h m) i n e)
 
   -- the next corner
-  pub summary-next : (l : List Float) (n : ℕ) → n < 65535 → more (summary w h l n) (tile_at w h l n) ≡ summary w h l (n + 1)
+  pub summary_next : (l : List Float) (n : ℕ) → n < 65535 → more (summary w h l n) (tile_at w h l n) ≡ summary w h l (n + 1)
   unfolding summary
-  summary-next l n g =
+  summary_next l n g =
       let tile : ℕ → ℕ = λ i. tile_at w h l i in
       more-tabulated 65 (in_tile tile n) (tile n) (tile-at-under l n) (let m = most-in tile (tile n) n in omega arith)
       ∙ tabulated-cong 65 (λ i. in_tile tile n i + hit (tile n) i) (in_tile tile (n + 1)) (λ i d. sym (ap (λ (m : ℕ). in_tile tile m i) (add-one n) ∙ next-in tile i n))

@@ -21,7 +21,7 @@ use Rattle.coverage.specs.Summary.{in_tile, summary}
 use Rattle.coverage.specs.Call.{Way, refused, kept, dropped, more, less}
 use Rattle.coverage.specs.Claims.{Asked, add, replace, drop, Held, way_of, held, Summed, StaysSummed, sum_of, AddsUp}
 use Rattle.coverage.proofs.EntryLaws.{length-recorded, recorded-tile, recorded-other-tile}
-use Rattle.coverage.proofs.SummaryLaws.{hit, next-in, none_in, same-summary, summary-next, summary-replaced, summary-dropped, get_d-summary, tile-at-under}
+use Rattle.coverage.proofs.SummaryLaws.{hit, next-in, none_in, same-summary, summary_next, summary-replaced, summary-dropped, get_d-summary, tile-at-under}
 use Rattle.coverage.proofs.MoveLaws.{length-dropped, front-tile, back-tile}
 use Rattle.coverage.proofs.WayLaws.{many, few, unlisted, listed}
 
@@ -48,7 +48,7 @@ module _ (w h : ℕ) (e : is_size w h ≡ true) (t : Held) (s : Summed w h t) wh
       becomes _ (recorded l n c) (n + 1) (more t.counts (tile_of w h x y)) (few w h (n + 1) _ e m) (length-recorded l n c) m
       (ap (λ (k : List ℕ). more k (tile_of w h x y)) (s.is ∙ same-summary w h size l (recorded l n c) n (λ i g. recorded-other-tile l n c w h i (λ q. omega arith)))
       ∙ ap (λ (k : ℕ). more (summary w h (recorded l n c) n) k) (recorded-tile l n c w h fits)
-      ∙ summary-next w h size (recorded l n c) n (omega arith))
+      ∙ summary_next w h size (recorded l n c) n (omega arith))
 
   replaced : (k : ℕ) (x y v : Float) (b : Bool) → ltb k t.count ≡ b → Summed w h (held t (way_of w h (replace k x y v) t))
   replaced k x y v false d = stays _ NoSuchCorner (few w h t.count _ e s.few ∙ unlisted k t.count _ (ltb-false k t.count d))

@@ -1,5 +1,5 @@
 -- How large the eighth of a pixel and the tile of a corner can be.
-use mathlib.Core.Path.{◌≡◌, refl, sym, ap, ◌∙◌, subst}
+use mathlib.Core.Path.{◌≡◌, refl, sym, ◌∙◌, subst}
 use mathlib.Core.Bool.{Bool, true, false, ◌&&◌, cond, false≢true}
 use Prim.Native.Nat.{ℕ, ◌+◌, ◌-◌, ◌*◌, ◌/◌, ◌^◌, ◌≤◌, ◌<◌}
 use native.Mathlib.Nat.{lt_of_le_of_lt, min-le_left, mul-one, div-lt_iff_lt-mul}
@@ -38,15 +38,15 @@ whole-value : (f : Format) (n : ℕ) → n ≤ 2 ^ prec f → HasValue (of_int f
 unfolding of_int
 whole-value f n h = round_whole f false n h
 
-pub whole-under : (n : ℕ) (v : Float) → 1 ≤ n → n ≤ 4096 → lt v (of_int binary32 (pos n)) ≡ true → to_unsigned 64 v < n
-whole-under n v p m h = under-value 64 n v (of_int binary32 (pos n)) p (whole-value binary32 n (few n m)) h
+pub whole_under : (n : ℕ) (v : Float) → 1 ≤ n → n ≤ 4096 → lt v (of_int binary32 (pos n)) ≡ true → to_unsigned 64 v < n
+whole_under n v p m h = under-value 64 n v (of_int binary32 (pos n)) p (whole-value binary32 n (few n m)) h
   where
     few : (n : ℕ) → n ≤ 4096 → n ≤ 2 ^ prec binary32
     few n h = omega arith
 
 -- ---- eighths and tiles
-pub eighth-under : (n : ℕ) (v : Float) → 1 ≤ n → n ≤ 4096 → lt v (of_int binary32 (pos n)) ≡ true → to_unsigned 64 v * 8 / n < 8
-eighth-under n v p m h = (div-lt_iff_lt-mul p).1 (scaled n (to_unsigned 64 v) (whole-under n v p m h))
+pub eighth_under : (n : ℕ) (v : Float) → 1 ≤ n → n ≤ 4096 → lt v (of_int binary32 (pos n)) ≡ true → to_unsigned 64 v * 8 / n < 8
+eighth_under n v p m h = (div-lt_iff_lt-mul p).1 (scaled n (to_unsigned 64 v) (whole_under n v p m h))
   where
     scaled : (n t : ℕ) → t < n → t * 8 < 8 * n
     scaled n t h = omega arith
@@ -65,29 +65,6 @@ tile-under width height x y s = go (on_axis width x && on_axis height y) refl
     go : (b : Bool) → (on_axis width x && on_axis height y) ≡ b → cond b (8 * eighth height y + eighth width x) 64 < 65
     go false e = omega arith
     go true e =
-        let a = eighth-under width (floor binary32 x) s.wide s.width-most (below_end _ width (floor binary32 x) refl (first_of (on_axis width x) (on_axis height y) e)) in
-        let b = eighth-under height (floor binary32 y) s.high s.height-most (below_end _ height (floor binary32 y) refl (second-of (on_axis width x) (on_axis height y) e)) in
+        let a = eighth_under width (floor binary32 x) s.wide s.width-most (below_end _ width (floor binary32 x) refl (first_of (on_axis width x) (on_axis height y) e)) in
+        let b = eighth_under height (floor binary32 y) s.high s.height-most (below_end _ height (floor binary32 y) refl (second-of (on_axis width x) (on_axis height y) e)) in
         omega arith
-
-pub tile-with-bound : (width height : ℕ) (x y : Float) → Sized width height → {t : ℕ} → t ≡ tile_of width height x y → (t ≡ tile_of width height x y) × (t < 65)
-tile-with-bound width height x y s e = (e, subst (λ (n : ℕ). n < 65) (sym e) (tile-under width height x y s))
-
--- ---- the tile by the steps that find it
-module _ (width height : ℕ) (x y across down : Float) (p q : Bool) (a : across ≡ floor binary32 x) (d : down ≡ floor binary32 y) (h : p ≡ is_pixel width across) (g : q ≡ is_pixel height down) where
-  tests-are : (on_axis width x && on_axis height y) ≡ (p && q)
-  tests-are =
-      ap (λ (v : Float). is_pixel width v && on_axis height y) (sym a)
-      ∙ ap (λ (v : Float). is_pixel width across && is_pixel height v) (sym d)
-      ∙ ap (λ (b : Bool). b && is_pixel height down) (sym h)
-      ∙ ap (λ (b : Bool). p && b) (sym g)
-
-  pub tile-inside : (row column : ℕ) → (p && q) ≡ true → row ≡ to_unsigned 64 down * 8 / height → column ≡ to_unsigned 64 across * 8 / width → 8 * row + column ≡ tile_of width height x y
-  unfolding tile_of
-  tile-inside row column t r c =
-      ap (λ (n : ℕ). 8 * n + column) (r ∙ ap (λ (v : Float). to_unsigned 64 v * 8 / height) d)
-      ∙ ap (λ (n : ℕ). 8 * eighth height y + n) (c ∙ ap (λ (v : Float). to_unsigned 64 v * 8 / width) a)
-      ∙ ap (λ (b : Bool). cond b (8 * eighth height y + eighth width x) 64) (sym (tests-are ∙ t))
-
-  pub tile-outside : (p && q) ≡ false → 64 ≡ tile_of width height x y
-  unfolding tile_of
-  tile-outside t = ap (λ (b : Bool). cond b (8 * eighth height y + eighth width x) 64) (sym (tests-are ∙ t))

@@ -1,6 +1,6 @@
 -- The calls that keep a summary beside a list of corners: afresh, adding, replacing, dropping. The tests in their order, the answer and what is left in the lent list and counts.
 -- The counts may hold anything: each call decides them all the same. No refusal writes.
-use Rattle.std.specs.Prelude.{◌≡◌, not, cond, List, ℕ, ◌+◌, ◌-◌, ◌*◌, ltb, length, get_or, set, Float}
+use Rattle.std.specs.Prelude.{◌≡◌, not, cond, Result, Ok, Err, List, ℕ, ◌+◌, ◌-◌, ◌*◌, ltb, length, get_or, set, Float}
 use Rattle.shapes.specs.Lists.{tabulated}
 use Rattle.shapes.specs.Numbers.{plus_zero, entry}
 use Rattle.corners.specs.Corners.{most_corners, corner, recorded}
@@ -8,14 +8,12 @@ use Rattle.imageview.specs.Image.{is_size}
 use Rattle.refusals.specs.declared.Refusal.{Refusal}
 use Rattle.refusals.specs.declared.Refusal.TheVariants.{BadImage, TooMany, NoSuchCorner}
 use Rattle.refusals.specs.Numbers as Refusals
-use Rattle.coverage.specs.declared.Coverage.{Coverage}
-use Rattle.coverage.specs.declared.Coverage.TheVariants.{Counted, Refused}
 use Rattle.coverage.specs.Tiles.{tile_of, tile_at}
 use Rattle.coverage.specs.Summary.{summary}
 
-abbrev pub number_of : Coverage → ℕ
-number_of (Counted n) = 0
-number_of (Refused r) = Refusals.number_of r
+abbrev pub number_of : Result ℕ Refusal → ℕ
+number_of (Ok n) = 0
+number_of (Err r) = Refusals.number_of r
 
 -- ---- one more in a tile, 65,535 stays; one less, 0 stays
 abbrev pub more : List ℕ → ℕ → List ℕ
@@ -61,9 +59,9 @@ abbrev pub drop_way : ℕ → ℕ → List Float → ℕ → List ℕ → ℕ �
 drop_way width height list n counts k =
     tested width height n (in_list k n (kept (dropped n k list) (n - 1) (less counts (tile_at width height list k))))
 
-abbrev pub answer_of : Way → Coverage
-answer_of (refused r) = Refused r
-answer_of (kept list n counts) = Counted n
+abbrev pub answer_of : Way → Result ℕ Refusal
+answer_of (refused r) = Err r
+answer_of (kept list n counts) = Ok n
 
 abbrev pub list_after : List Float → Way → List Float
 list_after old (refused r) = old
@@ -73,7 +71,7 @@ abbrev pub counts_after : List ℕ → Way → List ℕ
 counts_after old (refused r) = old
 counts_after old (kept list n counts) = counts
 
-pub record Done (way : Way) (list : List Float) (counts : List ℕ) (answer : Coverage) (list' : List Float) (counts' : List ℕ) : Type 0 where
+pub record Done (way : Way) (list : List Float) (counts : List ℕ) (answer : Result ℕ Refusal) (list' : List Float) (counts' : List ℕ) : Type 0 where
   pub answers : answer ≡ answer_of way
   pub leaves-list : list' ≡ list_after list way
   pub leaves-counts : counts' ≡ counts_after counts way

@@ -1,13 +1,17 @@
 -- What the steps of the calls promise each other.
-use Rattle.std.specs.Prelude.{cond, List, [], ℕ, ◌+◌, ltb, length, Float}
+use Rattle.std.specs.Prelude.{Result, Ok, Err, cond, List, [], ℕ, ◌+◌, ltb, length, Float}
 use Rattle.shapes.specs.Lists.{tabulated}
 use Rattle.shapes.specs.Numbers.{entry}
-use Rattle.coverage.specs.declared.Coverage.{Coverage}
-use Rattle.coverage.specs.Call.{kept, tested, in_list, answer_of}
+use Rattle.refusals.specs.declared.Refusal.{Refusal}
+use Rattle.coverage.specs.Call.{Way, refused, kept, tested, in_list}
 
--- what replacing and dropping answer, as far as their tests decide it
-abbrev pub tests_of : ℕ → ℕ → ℕ → ℕ → Coverage
-tests_of width height n k = answer_of (tested width height n (in_list k n (kept [] n [])))
+-- what the tests of replacing and dropping say
+abbrev pub passed_of : Way → Result Unit Refusal
+passed_of (refused r) = Err r
+passed_of (kept list n counts) = Ok tt
+
+abbrev pub tests_of : ℕ → ℕ → ℕ → ℕ → Result Unit Refusal
+tests_of width height n k = passed_of (tested width height n (in_list k n (kept [] n [])))
 
 -- the floats from a on, up to b, are those three places on
 unfoldable pub moved_to : ℕ → ℕ → List Float → List Float

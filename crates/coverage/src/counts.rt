@@ -1,58 +1,34 @@
 // The counts: one more, one less, and those of a whole list.
-ghost use Rattle.std.specs.Prelude.{◌≡◌, cond, ◌+◌, ◌-◌, ◌≤◌, ◌<◌, ltb, length};
-ghost use Rattle.imageview.specs.Steps.{Sized};
+ghost use Rattle.std.specs.Prelude.{◌≡◌, ◌≤◌, ◌<◌, length};
 ghost use Rattle.coverage.specs.Summary.{summary};
 ghost use Rattle.coverage.specs.Call.{more, less};
 
-use crate::tiles;
+use crate::tiles::Tiles;
 
 // The counts are those of no corner; those of the first `count` of the list.
-pub fn count_corners(
-    width: usize,
-    height: usize,
-    list: &[f32; 12288],
-    count: usize,
-    counts: &mut [u16],
-)
-    requires { Sized width height × (count ≤ 4096) × (counts.old ≡ summary width height list.now 0) }
-    ensures { counts.new ≡ summary width height list.now count }
+#[tactic(auto, using(crate::proofs::SummaryLaws::length_summary, crate::proofs::SummaryLaws::summary_next))]
+pub fn count_corners(tiles: Tiles, list: &[f32; 12288], count: usize, counts: &mut [u16])
+    requires few { count ≤ 4096 }
+    requires none { counts.old ≡ summary tiles.width tiles.height list.now 0 }
+    ensures { counts.new ≡ summary tiles.width tiles.height list.now count }
 {
-    let mut i = 0;
-    while i < count {
-        let tile = tiles::tile_at(width, height, list, i);
+    for i in 0..count {
+        let tile = tiles.tile_at(list, i);
         count_more(counts, tile);
-        i += 1;
     }
 }
 
+#[tactic(auto, using(crate::proofs::SummaryLaws::more_is))]
 pub fn count_more(counts: &mut [u16], tile: usize)
     requires { tile < length counts.old }
     ensures { counts.new ≡ more counts.old tile }
 {
-    counts[tile] = one_more(counts[tile]);
+    counts[tile] = counts[tile].saturating_add(1);
 }
 
 pub fn count_less(counts: &mut [u16], tile: usize)
     requires { tile < length counts.old }
     ensures { counts.new ≡ less counts.old tile }
 {
-    counts[tile] = one_less(counts[tile]);
-}
-
-fn one_more(n: u16) -> u16
-    ensures { result ≡ cond (ltb n 65535) (n + 1) 65535 }
-{
-    if n < 65535 {
-        return n + 1;
-    }
-    65535
-}
-
-fn one_less(n: u16) -> u16
-    ensures { result ≡ n - 1 }
-{
-    if 0 < n {
-        return n - 1;
-    }
-    0
+    counts[tile] = counts[tile].saturating_sub(1);
 }

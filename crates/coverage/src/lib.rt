@@ -10,33 +10,28 @@ ghost use Rattle.coverage.specs.Call.{fresh_way, add_way, replace_way, drop_way,
 
 use corners::Corner;
 use refusals::Refusal;
-
-// How a call ended: with the count of the list, or refused.
-#[derive(Drop)]
-pub enum Coverage {
-    Counted(usize),
-    Refused(Refusal),
-}
+use tiles::Tiles;
 
 // The summary of the first `count` corners, worked out afresh.
+#[tactic(auto, using(crate::proofs::SummaryLaws::summary_none))]
 pub fn coverage_afresh(
     width: usize,
     height: usize,
     list: &[f32; 12288],
     count: usize,
     counts: &mut [u16; 65],
-) -> Coverage
+) -> Result<usize, Refusal>
     ensures { Done (fresh_way width height list.now count) list.now counts.old result list.now counts.new }
 {
     if !imageview::is_size(width, height) {
-        return Coverage::Refused(Refusal::BadImage);
+        return Err(Refusal::BadImage);
     }
     if 4096 < count {
-        return Coverage::Refused(Refusal::TooMany);
+        return Err(Refusal::TooMany);
     }
-    *counts = [0u16; 65];
-    counts::count_corners(width, height, list, count, counts);
-    Coverage::Counted(count)
+    *counts = [0; 65];
+    counts::count_corners(Tiles { width, height }, list, count, counts);
+    Ok(count)
 }
 
 // One corner more, at the end of the list.
@@ -47,20 +42,19 @@ pub fn add_corner(
     count: usize,
     counts: &mut [u16; 65],
     corner: Corner,
-) -> Coverage
+) -> Result<usize, Refusal>
     ensures { Done (add_way width height list.old count counts.old corner.x corner.y corner.strength) list.old counts.old result list.new counts.new }
 {
     if !imageview::is_size(width, height) {
-        return Coverage::Refused(Refusal::BadImage);
+        return Err(Refusal::BadImage);
     }
     if 4096 <= count {
-        return Coverage::Refused(Refusal::TooMany);
+        return Err(Refusal::TooMany);
     }
-    let tile = tiles::tile_of(width, height, corner.x, corner.y);
-    counts::count_more(counts, tile);
+    let tiles = Tiles { width, height };
+    counts::count_more(counts, tiles.tile_of(corner.x, corner.y));
     corners::put(list, count, corner);
-    let longer = count + 1;
-    Coverage::Counted(longer)
+    Ok(count + 1)
 }
 
 // The corner of this number is another one from now on.
@@ -72,21 +66,17 @@ pub fn replace_corner(
     counts: &mut [u16; 65],
     number: usize,
     corner: Corner,
-) -> Coverage
+) -> Result<usize, Refusal>
     ensures { Done (replace_way width height list.old count counts.old number corner.x corner.y corner.strength) list.old counts.old result list.new counts.new }
 {
-    let tested = tests::of_number(width, height, count, number);
-    match tested {
-        Coverage::Refused(r) => Coverage::Refused(r),
-        Coverage::Counted(_) => {
-            let old = tiles::tile_at(width, height, list, number);
-            let new = tiles::tile_of(width, height, corner.x, corner.y);
-            counts::count_less(counts, old);
-            counts::count_more(counts, new);
-            corners::put(list, number, corner);
-            Coverage::Counted(count)
-        }
-    }
+    tests::of_number(width, height, count, number)?;
+    let tiles = Tiles { width, height };
+    let old = tiles.tile_at(list, number);
+    let new = tiles.tile_of(corner.x, corner.y);
+    counts::count_less(counts, old);
+    counts::count_more(counts, new);
+    corners::put(list, number, corner);
+    Ok(count)
 }
 
 // The corner of this number is left out; the later ones move down by one.
@@ -97,18 +87,12 @@ pub fn drop_corner(
     count: usize,
     counts: &mut [u16; 65],
     number: usize,
-) -> Coverage
+) -> Result<usize, Refusal>
     ensures { Done (drop_way width height list.old count counts.old number) list.old counts.old result list.new counts.new }
 {
-    let tested = tests::of_number(width, height, count, number);
-    match tested {
-        Coverage::Refused(r) => Coverage::Refused(r),
-        Coverage::Counted(_) => {
-            let tile = tiles::tile_at(width, height, list, number);
-            counts::count_less(counts, tile);
-            moves::drop_record(list, count, number);
-            let left = count - 1;
-            Coverage::Counted(left)
-        }
-    }
+    tests::of_number(width, height, count, number)?;
+    let tile = Tiles { width, height }.tile_at(list, number);
+    counts::count_less(counts, tile);
+    moves::drop_record(list, count, number);
+    Ok(count - 1)
 }

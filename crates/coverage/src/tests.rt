@@ -2,20 +2,19 @@
 ghost use Rattle.std.specs.Prelude.{◌≡◌};
 ghost use Rattle.coverage.specs.Steps.{tests_of};
 
-use crate::Coverage;
 use refusals::Refusal;
 
-pub fn of_number(width: usize, height: usize, count: usize, number: usize) -> Coverage
+pub fn of_number(width: usize, height: usize, count: usize, number: usize) -> Result<(), Refusal>
     ensures { result ≡ tests_of width height count number }
 {
     if !imageview::is_size(width, height) {
-        return Coverage::Refused(Refusal::BadImage);
+        return Err(Refusal::BadImage);
     }
     if 4096 < count {
-        return Coverage::Refused(Refusal::TooMany);
+        return Err(Refusal::TooMany);
     }
     if count <= number {
-        return Coverage::Refused(Refusal::NoSuchCorner);
+        return Err(Refusal::NoSuchCorner);
     }
-    Coverage::Counted(count)
+    Ok(())
 }

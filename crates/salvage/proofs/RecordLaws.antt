@@ -15,6 +15,10 @@ use lib.Ieee.{Float, nan, inf, binary32, odd, of_fields, of_bits}
 use lib.Ieee.Scale.{finite}
 use Rattle.words.specs.Words.{joined, word_at}
 use Rattle.words.proofs.WordLaws.{word-within}
+use Rattle.std.specs.Prelude.{Option, Some, None, is_some}
+use Rattle.salvage.specs.declared.faults.Fault.{Fault}
+use Rattle.salvage.specs.declared.faults.Fault.TheVariants.{Cut, NotFinite, Outside}
+use Rattle.salvage.specs.Faults.{code_of, told}
 use Rattle.salvage.specs.Records.{within_axis, fault_of, kept_of, faults_of}
 use Rattle.salvage.specs.Steps.{record_of, Counted}
 
@@ -52,37 +56,11 @@ by-words w h file i = refl
 same-words : (w h : ℕ) {x y s x' y' s' : ℕ} → x ≡ x' → y ≡ y' → s ≡ s' → judged w h x y s ≡ judged w h x' y' s'
 same-words w h p q r = λ i. judged w h (p i) (q i) (r i)
 
-pub fault-alone : (w h : ℕ) (file : List ℕ) (i : ℕ) → 12 * i + 12 ≤ length file → fault_of w h (record_of file i) 0 ≡ fault_of w h file i
-fault-alone w h file i l =
+pub fault_alone : (w h : ℕ) (file : List ℕ) (i : ℕ) → 12 * i + 12 ≤ length file → fault_of w h (record_of file i) 0 ≡ fault_of w h file i
+fault_alone w h file i l =
     by-words w h (record_of file i) 0
     ∙ same-words w h (word-alone file i 0 l (omega arith)) (word-alone file i 4 l (omega arith)) (word-alone file i 8 l (omega arith))
     ∙ sym (by-words w h file i)
-
--- ---- the tests of a record, one after the other
-module _ (w h : ℕ) (bytes : List ℕ) {x y s : ℕ} (ex : x ≡ word_at bytes 0) (ey : y ≡ word_at bytes 4) (es : s ≡ word_at bytes 8)
-    {fx fy fs : Bool} (px : fx ≡ finite (val x)) (py : fy ≡ finite (val y)) (ps : fs ≡ finite (val s)) where
-  first : fault_of w h bytes 0 ≡ cond (not (fx && fy && fs)) 2 (cond (not (within_axis w (val x) && within_axis h (val y))) 3 0)
-  first =
-      by-words w h bytes 0
-      ∙ same-words w h (sym ex) (sym ey) (sym es)
-      ∙ sym (λ i. cond (not (px i && py i && ps i)) 2 (cond (not (within_axis w (val x) && within_axis h (val y))) 3 0))
-
-  pub not_finite : not (fx && fy && fs) ≡ true → 2 ≡ fault_of w h bytes 0
-  not_finite e = sym (first ∙ ap (λ (b : Bool). cond b 2 (cond (not (within_axis w (val x) && within_axis h (val y))) 3 0)) e)
-
-  module _ (numbers : not (fx && fy && fs) ≡ false) {wx wy : Bool} (qx : wx ≡ within_axis w (val x)) (qy : wy ≡ within_axis h (val y)) where
-    second : (b : Bool) → not (wx && wy) ≡ b → cond b 3 0 ≡ fault_of w h bytes 0
-    second b e =
-        sym (first
-        ∙ ap (λ (b : Bool). cond b 2 (cond (not (within_axis w (val x) && within_axis h (val y))) 3 0)) numbers
-        ∙ sym (λ i. cond (not (qx i && qy i)) 3 0)
-        ∙ ap (λ (b : Bool). cond b 3 0) e)
-
-    pub outside : not (wx && wy) ≡ true → 3 ≡ fault_of w h bytes 0
-    outside e = second true e
-
-    pub nothing : not (wx && wy) ≡ false → 0 ≡ fault_of w h bytes 0
-    nothing e = second false e
 
 -- ---- which patterns are finite numbers'
 finite-odd : (d : ℕ) (s : Bool) (q k l : ℕ) → finite (odd d s q k l) ≡ true
@@ -108,9 +86,15 @@ ones-from m l = by (ltb m 2139095040) refl
     by true e = ap not (ne_eqb (m / 8388608) 255 (λ q. omega (arith, ltb-true m 2139095040 e)))
     by false e = ap not (eq-eqb (m / 8388608) 255 (omega (arith, ltb-false m 2139095040 e)))
 
-pub finite-bits : (n : ℕ) → ltb (n % 2147483648) 2139095040 ≡ finite (of_bits binary32 n)
+pub finite_bits : (n : ℕ) → ltb (n % 2147483648) 2139095040 ≡ finite (of_bits binary32 n)
 unfolding of_bits
-finite-bits n = sym (finite-fields (leb 2147483648 n) (n % 2147483648 / 8388608) (n % 8388608) ∙ ones-from (n % 2147483648) (omega arith))
+finite_bits n = sym (finite-fields (leb 2147483648 n) (n % 2147483648 / 8388608) (n % 8388608) ∙ ones-from (n % 2147483648) (omega arith))
+
+-- ---- a fault's number is not 0
+pub some_fault : (f : Fault) → code_of f ≡ 0 → ⊥
+some_fault Cut e = omega arith
+some_fault NotFinite e = omega arith
+some_fault Outside e = omega arith
 
 -- ---- one record more
 -- lists that grow do not become shorter
@@ -166,12 +150,19 @@ module _ (w h : ℕ) (file : List ℕ) where
     numbers = omega (arith, c.numbers, ap length (faults-more n false e) ∙ length-append (faults_of w h file n) (n ∷ fault_of w h file n ∷ []));
   }
 
-  pub counted-more : (n k : ℕ) → 12 * n + 12 ≤ length file → Counted w h file n k → Counted w h file (n + 1) (cond (eqb (fault_of w h file n) 0) (k + 1) k)
-  counted-more n k l c = counted-by n k l c (eqb (fault_of w h file n) 0) refl
+  -- by what the record alone was told to have
+  pub counted_told : (n k : ℕ) (r : Option Fault) (b : Bool) → 12 * n + 12 ≤ length file → Counted w h file n k → told r ≡ fault_of w h file n → is_some r ≡ not b → Counted w h file (n + 1) (cond b (k + 1) k)
+  counted_told n k None true l c e q = counted-by n k l c true (eq-eqb (fault_of w h file n) 0 (sym e))
+  counted_told n k None false l c e q = absurd (cc)
+  counted_told n k (Some f) true l c e q = absurd (cc)
+  counted_told n k (Some f) false l c e q = counted-by n k l c false (ne_eqb (fault_of w h file n) 0 (λ z. some_fault f (e ∙ z)))
+
+  pub counted_more : (n k : ℕ) → 12 * n + 12 ≤ length file → Counted w h file n k → Counted w h file (n + 1) (cond (eqb (fault_of w h file n) 0) (k + 1) k)
+  counted_more n k l c = counted-by n k l c (eqb (fault_of w h file n) 0) refl
 
   pub some-kept : (n : ℕ) → 12 * n ≤ length file → (kept : ℕ) × Counted w h file n kept
   some-kept zero l = (0, counted_none)
   some-kept (suc n) l =
       let r = some-kept n (omega arith) in
       let k = cond (eqb (fault_of w h file n) 0) (r.0 + 1) r.0 in
-      (k, subst (λ (m : ℕ). Counted w h file m k) (add-one n) (counted-more n r.0 (omega arith) r.1))
+      (k, subst (λ (m : ℕ). Counted w h file m k) (add-one n) (counted_more n r.0 (omega arith) r.1))

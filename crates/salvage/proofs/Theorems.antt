@@ -14,7 +14,7 @@ use borrow.Author.Tests.{eqb-true, eq-eqb, ltb-false, le-ltb}
 use Rattle.salvage.specs.Records.{whole_of, is_cut, fault_of, kept_of, faults_of, dropped_of}
 use Rattle.salvage.specs.Claims.{AllTold, SavedTwice, WholeStays}
 use Rattle.salvage.specs.Steps.{record_of, Counted}
-use Rattle.salvage.proofs.RecordLaws.{fault-alone, length-record, kept-none, faults-none, kept_more, faults-more, some-kept}
+use Rattle.salvage.proofs.RecordLaws.{fault_alone, length-record, kept-none, faults-none, kept_more, faults-more, some-kept}
 use Rattle.salvage.proofs.CallLaws.{dropped-long}
 
 module _ (w h : ℕ) (file : List ℕ) where
@@ -58,7 +58,7 @@ record-behind a b i l t =
 
 -- records of the same bytes have the same fault
 same-fault : (w h : ℕ) (a b : List ℕ) (i j : ℕ) → 12 * i + 12 ≤ length a → 12 * j + 12 ≤ length b → record_of a i ≡ record_of b j → fault_of w h a i ≡ fault_of w h b j
-same-fault w h a b i j l m e = sym (fault-alone w h a i l) ∙ ap (λ (r : List ℕ). fault_of w h r 0) e ∙ fault-alone w h b j m
+same-fault w h a b i j l m e = sym (fault_alone w h a i l) ∙ ap (λ (r : List ℕ). fault_of w h r 0) e ∙ fault_alone w h b j m
 
 -- ---- what was kept has nothing wrong
 module _ (w h : ℕ) where

@@ -1,8 +1,7 @@
 -- What the steps of the call promise each other.
 use Rattle.std.specs.Prelude.{◌≡◌, cond, List, [], ◌∷◌, ◌++◌, ℕ, ◌+◌, ◌-◌, ◌*◌, ◌/◌, ◌≤◌, ◌<◌, eqb, length, take, drop}
 use Rattle.std.proofs.lemmas.List.Edits.{sets}
-use Rattle.salvage.specs.declared.Salvage.{Salvage}
-use Rattle.salvage.specs.declared.Salvage.TheVariants.{Saved}
+use Rattle.salvage.specs.declared.Saved.{Saved}
 use Rattle.salvage.specs.Records.{whole_of, kept_of, faults_of, dropped_of}
 
 -- the twelve bytes of record i
@@ -29,8 +28,8 @@ pub record WholeRoom (width height : ℕ) (file : List ℕ) (out faults : ℕ) :
   pub kept-fit : length (kept_of width height file (whole_of file)) ≤ out
   pub faults-fit : length (faults_of width height file (whole_of file)) ≤ faults
 
-pub record Saving (width height : ℕ) (file out faults : List ℕ) (answer : Salvage) (out' faults' : List ℕ) : Type 0 where
-  pub answers : answer ≡ Saved (length (kept_of width height file (whole_of file)) / 12) (length (dropped_of width height file) / 2)
+pub record Saving (width height : ℕ) (file out faults : List ℕ) (answer : Saved) (out' faults' : List ℕ) : Type 0 where
+  pub answers : answer ≡ record { kept = length (kept_of width height file (whole_of file)) / 12; dropped = length (dropped_of width height file) / 2 }
   pub leaves-out : out' ≡ fronted (kept_of width height file (whole_of file)) out
   pub leaves-faults : faults' ≡ fronted (dropped_of width height file) faults
 

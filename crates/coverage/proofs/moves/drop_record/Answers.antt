@@ -5,7 +5,7 @@ use Prim.Native.Nat.{◌-◌}
 use native.Mathlib.Omega.{arith}
 use lib.Ieee.{Float, of_bits}
 use Rattle.corners.specs.Corners.{nowhere, recorded}
-use Rattle.coverage.proofs.MoveLaws.{dropped-by}
+use Rattle.coverage.proofs.MoveLaws.{dropped_by}
 use Rattle.coverage.proofs.moves.drop_record.Goals as goal
 
 pub returns : goal.returns
@@ -13,5 +13,5 @@ unfolding of_bits
 returns c =
     let a = c.args in
     c.put.ensures
-    ∙ ap (λ (l : List Float). recorded l (a.n - 1) nowhere) c.move_down.ensures
-    ∙ dropped-by a.list.now a.n a.k c.requires.0 (omega (arith, c.requires.1, c.requires.2))
+    ∙ ap (λ (l : List Float). recorded l (a.n - 1) nowhere) c.copy_within.ensures.after
+    ∙ dropped_by a.list.now a.n a.k c.requires.listed (omega (arith, c.requires.few, c.requires.whole))

@@ -1,17 +1,6 @@
--- `salvage::writing::copy_record` meets its contract: three words, one after the other.
-use mathlib.Core.Path.{ap, ◌∙◌}
-use mathlib.Core.List.{List}
-use Prim.Native.Nat.{ℕ, ◌+◌}
-use lib.ListN.{take, drop}
-use lib.Seq.{sets}
-use Rattle.salvage.proofs.WritingLaws.{three-words}
+-- `salvage::writing::copy_record` meets its contract: the part is the record.
+use Rattle.salvage.proofs.WritingLaws.{copied}
 use Rattle.salvage.proofs.writing.copy_record.Goals as goal
 
 pub returns : goal.returns
-returns c =
-    let a = c.args in
-    c.copy_word-3.ensures
-    ∙ ap (λ (l : List ℕ). sets l (a.at + 8) (take 4 (drop 8 a.bytes.now)))
-    (c.copy_word-2.ensures
-    ∙ ap (λ (l : List ℕ). sets l (a.at + 4) (take 4 (drop 4 a.bytes.now))) c.copy_word.ensures)
-    ∙ three-words a.out.now a.bytes.now a.at c.requires.0
+returns c = let a = c.args in copied a.at a.out.now a.bytes.now c.copy_from_slice.new.self c.copy_from_slice.ensures.after c.requires.record c.requires.room

@@ -1,8 +1,0 @@
--- `coverage::counts::count_less` meets its contract.
-use mathlib.Core.Path.{ap}
-use Prim.Native.Nat.{ℕ}
-use lib.ListN.{set}
-use Rattle.coverage.proofs.counts.count_less.Goals as goal
-
-pub returns : goal.returns
-returns c = let a = c.args in ap (λ (n : ℕ). set a.counts.now a.tile n) c.one_less.ensures
