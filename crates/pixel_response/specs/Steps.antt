@@ -7,6 +7,13 @@ pub record Bounded (v b r : ℕ) : Type 0 where
   pub is : r ≡ v
   pub most : r ≤ b
 
+-- four levels of at most twelve bits
+pub record Levels (a b c d : ℕ) : Type 0 where
+  pub first : a ≤ 4095
+  pub second : b ≤ 4095
+  pub third : c ≤ 4095
+  pub fourth : d ≤ 4095
+
 -- a quarter of the ring is the samples k, k + 4, k + 8 and k + 12: its square, its two edges and its sum
 unfoldable pub square_of : ℕ → ℕ → ℕ → ℕ → ℕ
 unfolding apart
@@ -62,7 +69,7 @@ pub record Spare (P n : ℕ) (square edge sum : List ℕ) : Type 0 where
   pub sums : Room n (12 * (P - 1)) sum
 
 -- parts of one length, at most 64
-pub record Abreast (a b c d : List ℕ) : Type 0 where
+pub record Abreast {A : Type 0} (a b c d : List A) : Type 0 where
   pub few : length a ≤ 64
   pub second : length b ≡ length a
   pub third : length c ≡ length a

@@ -10,20 +10,24 @@ pub mod pixel;
 pub fn chess_response_at_u8(ring: &[u8; 16], cross: &[u8; 5]) -> f32
     ensures { result ≡ response_of (λ k. get_or ring.now k 0) (λ k. get_or cross.now k 0) }
 {
-    let mut square: u16 = 0;
-    let mut edge: u16 = 0;
-    let mut sum: u16 = 0;
-    let mut k: usize = 0;
-    while k < 4 {
-        let a = ring[k];
-        let b = ring[k + 4];
-        let c = ring[k + 8];
-        let d = ring[k + 12];
+    let mut square = 0u16;
+    let mut edge = 0u16;
+    let mut sum = 0u16;
+    for k in 0..4usize {
+        let a = ring[k] as u16;
+        let b = ring[k + 4] as u16;
+        let c = ring[k + 8] as u16;
+        let d = ring[k + 12] as u16;
         square = square + pixel::square_of(a, b, c, d);
         edge = edge + pixel::edges_of(a, b, c, d);
         sum = sum + pixel::sum_of(a, b, c, d);
-        k = k + 1;
     }
-    let five = pixel::cross_of(cross[0], cross[1], cross[2], cross[3], cross[4]);
+    let five = pixel::cross_of(
+        cross[0] as u16,
+        cross[1] as u16,
+        cross[2] as u16,
+        cross[3] as u16,
+        cross[4] as u16,
+    );
     pixel::value_of(square, edge, sum, five)
 }

@@ -1,54 +1,36 @@
 -- The call: the clamped region's size, the values by the ring itself, the list that is written, and the tests in their order.
 use mathlib.Core.Path.{◌≡◌, refl, sym, ap, ◌∙◌, subst}
-use mathlib.Core.Bool.{Bool, true, false, not, ◌&&◌, ◌||◌, cond}
+use mathlib.Core.Bool.{Bool, true, false, not, ◌&&◌, ◌||◌, cond, and-false}
+use mathlib.Core.Logic.{⊎_elim}
 use mathlib.Core.List.{List}
 use Prim.Native.Nat.{ℕ, zero, suc, ◌+◌, ◌-◌, ◌*◌, ◌/◌, ◌%◌, min, ◌≤◌, ◌<◌}
 use native.Mathlib.Nat.{zero-add, le_trans}
 use native.Mathlib.Omega.{arith}
-use lib.Dec.{T, leb}
+use lib.Dec.{T, leb, ltb}
 use lib.IntN.{ℤ, pos, negsuc, nat_abs}
 use lib.ListN.{length, get_or}
 use lib.Seq.{ext_get_or}
 use lib.Ieee.{Float}
-use borrow.Author.Tests.{le-leb, lt-leb, leb-false, eqb-true, eq-eqb, ne_eqb}
-use Rattle.shapes.proofs.TestLaws.{first-not, second-not}
+use borrow.Author.Tests.{le-leb, lt-leb, leb-false, ltb-true, ltb-false, eqb-true, eq-eqb, ne_eqb}
+use Rattle.shapes.proofs.TestLaws.{either, first-not, second-not}
 use Rattle.shapes.specs.Numbers.{plus_zero}
 use Rattle.shapes.specs.Lists.{tabulated}
 use Rattle.shapes.proofs.ListLaws.{length-tabulated, get_d-tabulated}
 use Rattle.imageview.specs.Image.{Image, is_image, in_range, pixel}
-use Rattle.response.specs.declared.Response.{Response}
-use Rattle.response.specs.declared.Response.TheVariants.{Written, Refused}
+use Rattle.std.specs.Prelude.{Result, Ok, Err}
+use Rattle.imageview.specs.View.{IsRefusedBy}
+use Rattle.response.specs.declared.Extent.{Extent}
 use Rattle.refusals.specs.declared.Refusal.{Refusal}
 use Rattle.refusals.specs.declared.Refusal.TheVariants.{BadImage, BadSample, BadRadius, BadRing, EmptyRoi, BadOut}
 use Rattle.response.specs.Region.{Region, clamped, is_empty, width_of, height_of, moved, ring_sample, cross_sample, ring_fits, ring_within, written_at, written}
-use Rattle.response.specs.Call.{Way, refused, wrote, way_of, answer_of, out_after, Done}
+use Rattle.response.specs.Call.{Way, refused, wrote, way_of, extent_of, answer_of, out_after, Done}
 use Rattle.pixel_response.specs.Steps.{Wrote}
 use Rattle.response.specs.StepsStarts.{Offsets, start_of, started_at}
 use Rattle.response.specs.StepsFrame.{shifted_at, size_fits, Clamped}
 use Rattle.pixel_response.proofs.PixelLaws.{response-cong}
-use Rattle.response.proofs.RingLaws.{inside, all-within}
+use Rattle.response.proofs.RingLaws.{all-within}
 
 -- ---- sizes
-no-columns : (a b : Bool) (n : ℕ) → a ≡ true → 0 ≡ cond (a || b) 0 n
-no-columns a b n e = sym (ap (λ (z : Bool). cond (z || b) 0 n) e)
-
-no_lines : (a b : Bool) (n : ℕ) → b ≡ true → 0 ≡ cond (a || b) 0 n
-no_lines true b n e = refl
-no_lines false b n e = sym (ap (λ (z : Bool). cond z 0 n) e)
-
-some : (a b : Bool) (n : ℕ) → a ≡ false → b ≡ false → n ≡ cond (a || b) 0 n
-some a b n e f = sym (ap (λ (z : Bool). cond (z || b) 0 n) e ∙ ap (λ (z : Bool). cond z 0 n) f)
-
--- a side of a region that is empty one way, the other way, or not at all
-pub side-none : (r : Region) (n : ℕ) → r.x1 ≤ r.x0 → 0 ≡ cond (is_empty r) 0 n
-side-none r n h = no-columns (leb r.x1 r.x0) (leb r.y1 r.y0) n (le-leb r.x1 r.x0 h)
-
-pub side-none-2 : (r : Region) (n : ℕ) → r.y1 ≤ r.y0 → 0 ≡ cond (is_empty r) 0 n
-side-none-2 r n h = no_lines (leb r.x1 r.x0) (leb r.y1 r.y0) n (le-leb r.y1 r.y0 h)
-
-pub side : (r : Region) (n : ℕ) → r.x0 < r.x1 → r.y0 < r.y1 → n ≡ cond (is_empty r) 0 n
-side r n h l = some (leb r.x1 r.x0) (leb r.y1 r.y0) n (lt-leb r.x1 r.x0 h) (lt-leb r.y1 r.y0 l)
-
 -- it lies within what holds its corners
 side-within : (b : Bool) (from to most : ℕ) → from ≤ most → to ≤ most → (b ≡ false → from ≤ to) → from + cond b 0 (to - from) ≤ most
 side-within true from to most p q f = omega arith
@@ -62,6 +44,12 @@ width-within r most p q = side-within (is_empty r) r.x0 r.x1 most p q (λ e. let
 
 pub height-within : (r : Region) (most : ℕ) → r.y0 ≤ most → r.y1 ≤ most → r.y0 + height_of r ≤ most
 height-within r most p q = side-within (is_empty r) r.y0 r.y1 most p q (λ e. let l = leb-false r.y1 r.y0 (second-not (leb r.x1 r.x0) (leb r.y1 r.y0) e) in omega arith)
+
+abbrev sides : ℕ → ℕ → Extent
+sides w h = record { width = w; height = h }
+
+abbrev done : Extent → Result Extent Refusal
+done = Ok
 
 -- ---- the clamped region, from its corners
 abbrev pub corners : ℕ → ℕ → ℕ → ℕ → Region
@@ -98,22 +86,22 @@ module _ {img : Image} {r : Region} {a b c d w h : ℕ} (k : Cornered img r a b 
   size_is = ap (λ (z : ℕ). z * h) width_is ∙ ap (λ (z : ℕ). width_of (clamped img r) * z) height-is
 
   module _ (offsets : List ℕ) (radius : ℕ) (out : List Float) where
-    pub misfit : (length out ≡ w * h → ⊥) → Clamped img offsets radius r out (Refused BadOut) out
+    pub misfit : (length out ≡ w * h → ⊥) → Clamped img offsets radius r out (Err BadOut) out
     misfit f =
         let e : size_fits img r (length out) ≡ false = ne_eqb (length out) (width_of (clamped img r) * height_of (clamped img r)) (λ q. f (q ∙ sym size_is)) in
         record {
-          answers = sym (ap (λ (z : Bool). cond z (Written (width_of (clamped img r)) (height_of (clamped img r))) (Refused BadOut)) e);
+          answers = sym (ap (λ (z : Bool). cond z (Ok (extent_of (clamped img r))) (Err BadOut)) e);
           full = λ t. absurd (false-true (sym e ∙ t));
           kept = λ t. refl;
         }
 
-    pub fit : (out' : List Float) → length out ≡ w * h → Wrote plus_zero (length out) 0 (λ i. shifted_at img offsets radius (a + i % w) (b + i / w)) out out' → Clamped img offsets radius r out (Written w h) out'
+    pub fit : (out' : List Float) → length out ≡ w * h → Wrote plus_zero (length out) 0 (λ i. shifted_at img offsets radius (a + i % w) (b + i / w)) out out' → Clamped img offsets radius r out (Ok (sides w h)) out'
     fit out' q v =
         let e : size_fits img r (length out) ≡ true = eq-eqb (length out) (width_of (clamped img r) * height_of (clamped img r)) (q ∙ size_is) in
         record {
           answers =
-              ap (λ (z : ℕ). Written z h) width_is ∙ ap (λ (z : ℕ). Written (width_of (clamped img r)) z) height-is
-              ∙ sym (ap (λ (z : Bool). cond z (Written (width_of (clamped img r)) (height_of (clamped img r))) (Refused BadOut)) e);
+              ap (λ (z : ℕ). done (sides z h)) width_is ∙ ap (λ (z : ℕ). done (sides (width_of (clamped img r)) z)) height-is
+              ∙ sym (ap (λ (z : Bool). cond z (Ok (extent_of (clamped img r))) (Err BadOut)) e);
           full = λ t.
               subst (λ (z : ℕ). Wrote plus_zero (length out) 0 (λ i. shifted_at img offsets radius ((clamped img r).x0 + i % z) ((clamped img r).y0 + i / z)) out out') width_is
               (subst (λ (z : Region). Wrote plus_zero (length out) 0 (λ i. shifted_at img offsets radius (z.x0 + i % w) (z.y0 + i / w)) out out') is-clamped v);
@@ -129,7 +117,7 @@ module _ (img : Image) (ring : List ℤ) (offsets : List ℕ) (radius : ℕ) (o 
   component : (x k : ℕ) → k < 32 → x + get_or offsets k 0 - 10 ≡ moved x (get_or ring k (pos 0))
   component x k h =
       let near : nat_abs (get_or ring k (pos 0)) ≤ 10 = le_trans (all-within radius ring w k) high in
-      ap (λ (z : ℕ). x + z - 10) (o.each k h ∙ sym (inside (get_or ring k (pos 0)) near)) ∙ moved-is x (get_or ring k (pos 0)) near
+      ap (λ (z : ℕ). x + z - 10) (o.each k h) ∙ moved-is x (get_or ring k (pos 0)) near
 
   ring-sample : (x y k : ℕ) → k < 16 → get_or img.samples (start_of offsets img.pitch x y k) 0 ≡ ring_sample img ring x y k
   unfolding ring_sample pixel
@@ -206,46 +194,45 @@ module _ (img : Image) (ring : List ℤ) (radius : ℕ) (r : Region) (out : List
       ∙ ap (λ (z : Bool). way a f b c z (size_fits img r (length out))) t
       ∙ ap (λ (z : Bool). way a f b c d z) u
 
-  refuse : (a : Refusal) → left ≡ refused a → Done img ring radius r out (Refused a) out
+  refuse : (a : Refusal) → left ≡ refused a → Done img ring radius r out (Err a) out
   refuse a e = record { answers = sym (ap answer_of e); leaves = sym (ap (out_after img ring radius out) e) }
 
-  pub bad-image : is_image img ≡ false → Done img ring radius r out (Refused BadImage) out
+  pub bad-image : is_image img ≡ false → Done img ring radius r out (Err BadImage) out
   bad-image p = refuse BadImage (to false (in_range img) radius_fits (ring_within radius ring) (is_empty r) (size_fits img r (length out)) p refl refl refl refl refl)
 
-  pub bad-sample : is_image img ≡ true → in_range img ≡ false → Done img ring radius r out (Refused BadSample) out
+  pub bad-sample : is_image img ≡ true → in_range img ≡ false → Done img ring radius r out (Err BadSample) out
   bad-sample i p = refuse BadSample (to true false radius_fits (ring_within radius ring) (is_empty r) (size_fits img r (length out)) i p refl refl refl refl)
 
-  module _ (i : is_image img ≡ true) (f : in_range img ≡ true) where
-    pub small-radius : radius < 1 → Done img ring radius r out (Refused BadRadius) out
-    small-radius h = refuse BadRadius (to true true false (ring_within radius ring) (is_empty r) (size_fits img r (length out)) i f (ap (λ (z : Bool). z && leb radius 10) (lt-leb 1 radius h)) refl refl refl)
+  -- by the refusal that the image's tests gave
+  pub refused-image : (e : Refusal) → IsRefusedBy img e → Done img ring radius r out (Err e) out
+  refused-image e h =
+      ⊎_elim (λ p. subst (λ (z : Refusal). Done img ring radius r out (Err z) out) (sym p.1) (bad-image p.0)) (λ p. subst (λ (z : Refusal). Done img ring radius r out (Err z) out) (sym p.2) (bad-sample p.0 p.1)) h
 
-    pub large-radius : 1 ≤ radius → 10 < radius → Done img ring radius r out (Refused BadRadius) out
-    large-radius l h =
-        refuse BadRadius (to true true false (ring_within radius ring) (is_empty r) (size_fits img r (length out)) i f (ap (λ (z : Bool). z && leb radius 10) (le-leb 1 radius l) ∙ lt-leb radius 10 h) refl refl refl)
+  -- the test of the radius
+  pub radius-bad : (ltb radius 1 || ltb 10 radius) ≡ true → radius_fits ≡ false
+  radius-bad h =
+      ⊎_elim (λ p. ap (λ (z : Bool). z && leb radius 10) (lt-leb 1 radius (ltb-true radius 1 p))) (λ p. ap (λ (z : Bool). leb 1 radius && z) (lt-leb radius 10 (ltb-true 10 radius p)) ∙ and-false (leb 1 radius)) (either (ltb radius 1) (ltb 10 radius) h)
+
+  module _ (i : is_image img ≡ true) (f : in_range img ≡ true) where
+    pub bad-radius : radius_fits ≡ false → Done img ring radius r out (Err BadRadius) out
+    bad-radius e = refuse BadRadius (to true true false (ring_within radius ring) (is_empty r) (size_fits img r (length out)) i f e refl refl refl)
 
     module _ (low : 1 ≤ radius) (high : radius ≤ 10) where
       radius-fits : radius_fits ≡ true
       radius-fits = ap (λ (z : Bool). z && leb radius 10) (le-leb 1 radius low) ∙ le-leb radius 10 high
 
-      pub bad-ring : ring_within radius ring ≡ false → Done img ring radius r out (Refused BadRing) out
+      pub bad-ring : ring_within radius ring ≡ false → Done img ring radius r out (Err BadRing) out
       bad-ring q = refuse BadRing (to true true true false (is_empty r) (size_fits img r (length out)) i f radius-fits q refl refl)
 
       module _ (w : ring_within radius ring ≡ true) where
-        pub empty-columns : r.x1 ≤ r.x0 → Done img ring radius r out (Refused EmptyRoi) out
-        empty-columns h = refuse EmptyRoi (to true true true true true (size_fits img r (length out)) i f radius-fits w (ap (λ (z : Bool). z || leb r.y1 r.y0) (le-leb r.x1 r.x0 h)) refl)
+        pub empty : is_empty r ≡ true → Done img ring radius r out (Err EmptyRoi) out
+        empty e = refuse EmptyRoi (to true true true true true (size_fits img r (length out)) i f radius-fits w e refl)
 
-        pub empty-lines : r.x0 < r.x1 → r.y1 ≤ r.y0 → Done img ring radius r out (Refused EmptyRoi) out
-        empty-lines l h =
-            refuse EmptyRoi (to true true true true true (size_fits img r (length out)) i f radius-fits w (ap (λ (z : Bool). z || leb r.y1 r.y0) (lt-leb r.x1 r.x0 l) ∙ le-leb r.y1 r.y0 h) refl)
-
-        pub settled : (offsets : List ℕ) (a : Response) (out' : List Float) → Offsets ring offsets → r.x0 < r.x1 → r.y0 < r.y1 → Clamped img offsets radius r out a out' → Done img ring radius r out a out'
-        settled offsets a out' o h l c = go (size_fits img r (length out)) refl
+        pub settled : (offsets : List ℕ) (a : Result Extent Refusal) (out' : List Float) → Offsets ring offsets → is_empty r ≡ false → Clamped img offsets radius r out a out' → Done img ring radius r out a out'
+        settled offsets a out' o roomy c = go (size_fits img r (length out)) refl
           where
-            roomy : is_empty r ≡ false
-            roomy = ap (λ (z : Bool). z || leb r.y1 r.y0) (lt-leb r.x1 r.x0 h) ∙ lt-leb r.y1 r.y0 l
-
-            answer : (b : Bool) → size_fits img r (length out) ≡ b → a ≡ cond b (Written (width_of (clamped img r)) (height_of (clamped img r))) (Refused BadOut)
-            answer b e = c.answers ∙ ap (λ (z : Bool). cond z (Written (width_of (clamped img r)) (height_of (clamped img r))) (Refused BadOut)) e
+            answer : (b : Bool) → size_fits img r (length out) ≡ b → a ≡ cond b (Ok (extent_of (clamped img r))) (Err BadOut)
+            answer b e = c.answers ∙ ap (λ (z : Bool). cond z (Ok (extent_of (clamped img r))) (Err BadOut)) e
 
             go : (b : Bool) → size_fits img r (length out) ≡ b → Done img ring radius r out a out'
             go true e =
@@ -259,3 +246,6 @@ module _ (img : Image) (ring : List ℤ) (radius : ℕ) (r : Region) (out : List
             go false e =
                 let y = to true true true true false false i f radius-fits w roomy e in
                 record { answers = answer false e ∙ sym (ap answer_of y); leaves = c.kept e ∙ sym (ap (out_after img ring radius out) y) }
+
+pub radius-good : (radius : ℕ) → (ltb radius 1 || ltb 10 radius) ≡ false → (1 ≤ radius) × (radius ≤ 10)
+radius-good radius h = (ltb-false radius 1 (first-not (ltb radius 1) (ltb 10 radius) h), ltb-false 10 radius (second-not (ltb radius 1) (ltb 10 radius) h))

@@ -16,7 +16,9 @@ use Rattle.shapes.specs.Numbers.{plus_zero}
 use Rattle.refusals.specs.declared.Refusal.TheVariants.{BadImage, BadSample, BadRadius, BadRing}
 use Rattle.imageview.specs.Image.{Image, is_image, in_range}
 use Rattle.imageview.proofs.ImageLaws.{low}
-use Rattle.response.specs.declared.Response.{Response}
+use Rattle.std.specs.Prelude.{Result}
+use Rattle.refusals.specs.declared.Refusal.{Refusal}
+use Rattle.response.specs.declared.Extent.{Extent}
 use Rattle.pixel_response.specs.Samples.{response_of}
 use Rattle.response.specs.Region.{Region, width_of, height_of, ring_fits, ring_sample, cross_sample, ring_within, written_at, written}
 use Rattle.pixel_response.specs.Near.{Near, Under, Stands, Orders}
@@ -76,7 +78,7 @@ module _ (P : ℕ) (stands : Stands P) (orders : Orders P) (img : Image) (ring :
   }
 
 -- what the public contract gives: where the call wrote the region c, the buffer keeps demand 3
-pub call-keeps : (P : ℕ) → Stands P → Orders P → (img : Image) (ring : List ℤ) (radius : ℕ) (r c : Region) (out : List Float) (answer : Response) (out' : List Float)
+pub call-keeps : (P : ℕ) → Stands P → Orders P → (img : Image) (ring : List ℤ) (radius : ℕ) (r c : Region) (out : List Float) (answer : Result Extent Refusal) (out' : List Float)
     → PixelsBelow P img → Done img ring radius r out answer out' → way_of img ring radius r (length out) ≡ wrote c → DemandThree P img ring radius c out'
 call-keeps P stands orders img ring radius r c out answer out' b d w =
     subst (λ (l : List Float). DemandThree P img ring radius c l) (sym (d.leaves ∙ ap (λ (way : Way). out_after img ring radius out way) w))

@@ -1,7 +1,7 @@
 -- The region: a row by its starts, the columns and rows where the ring fits, and rows one after the other.
 use mathlib.Core.Path.{◌≡◌, refl, sym, ap, ◌∙◌, subst}
 use mathlib.Core.Logic.{⊎_elim}
-use mathlib.Core.Bool.{Bool, true, false, ◌&&◌, cond}
+use mathlib.Core.Bool.{Bool, true, false, ◌&&◌, ◌||◌, cond}
 use mathlib.Core.List.{List, ◌++◌}
 use Prim.Native.Nat.{ℕ, suc, ◌+◌, ◌-◌, ◌*◌, ◌/◌, ◌%◌, ◌≤◌, ◌<◌, suc-le-suc}
 use native.Mathlib.Nat.{zero-add, zero-mul, mul-le-mul_right, mul_comm, suc-mul, add_assoc}
@@ -11,13 +11,15 @@ use lib.Arith.{digits_mod, digits_div}
 use lib.Dec.{leb, ltb}
 use lib.ListN.{length, get_or, take, drop, replicate}
 use lib.Ieee.{Float}
-use borrow.Author.Tests.{lt-ltb, le-ltb, le-leb, lt-leb}
+use borrow.Author.Tests.{lt-ltb, le-ltb, le-leb, lt-leb, ltb-true, ltb-false, leb-true, leb-false}
+use Rattle.std.proofs.lemmas.List.{get_or_past, get_or-replicate, length-replicate}
+use Rattle.shapes.proofs.TestLaws.{either, first-not, second-not}
 use Rattle.shapes.specs.Numbers.{plus_zero}
 use Rattle.imageview.specs.Image.{Image, pixel}
-use Rattle.imageview.proofs.ImageLaws.{index, low}
+use Rattle.imageview.proofs.ImageLaws.{index}
 use Rattle.response.specs.Region.{ring_fits}
 use Rattle.pixel_response.specs.Steps.{listed, Wrote}
-use Rattle.response.specs.StepsStarts.{sample_of, value_at, Reach, DeepBelow, start_of, Startable, started_at, Started}
+use Rattle.response.specs.StepsStarts.{sample_of, value_at, Reach, Below, start_of, Startable, started_at, Started}
 use Rattle.response.specs.StepsFrame.{inside_at, shifted_at, From, To, Framed}
 use Rattle.pixel_response.proofs.PixelLaws.{response-cong}
 use Rattle.response.proofs.PassLaws.{lt-or-le, wrote_none, wrote-cong, wrote-next, part_count}
@@ -36,8 +38,8 @@ module _ (img offsets : List ℕ) (pitch x y : ℕ) (starts : List ℕ) (w : Wro
   pub reaches : (n : ℕ) → Started img offsets pitch x y n → Reach img starts n
   reaches n s k h = subst (λ (z : ℕ). z + n ≤ length img) (sym (start_is k h)) (s k h)
 
-  pub stays-below : (deep : Bool) (n : ℕ) → DeepBelow deep img (start_of offsets pitch x y) n → DeepBelow deep img (listed starts) n
-  stays-below deep n b e k h i l = subst (λ (z : ℕ). get_or img (z + i) 0 < 4096) (sym (start_is k h)) (b e k h i l)
+  pub stays-below : (n : ℕ) → Below img (start_of offsets pitch x y) n → Below img (listed starts) n
+  stays-below n b k h i l = subst (λ (z : ℕ). get_or img (z + i) 0 < 4096) (sym (start_is k h)) (b k h i l)
 
   sample-is : ((k : ℕ) → k < 42 → (10 ≤ x + get_or offsets k 0) × (10 ≤ y + get_or offsets k 0)) → (i k : ℕ) → k < 21 → sample_of img starts i k ≡ get_or img (start_of offsets pitch (x + i) y k) 0
   sample-is clear i k h = ap (λ (z : ℕ). get_or img z 0) (ap (λ (z : ℕ). z + i) (start_is k h) ∙ start-along offsets pitch x y k i (clear (2 * k) (omega arith)).0)
@@ -115,6 +117,20 @@ hit : {A : Type 0} (v z : A) (a b c d : Bool) → a ≡ true → b ≡ true → 
 hit v z a b c d p q r s =
     picked v z (a && b && c) d (ap (λ (t : Bool). t && b && c) p ∙ ap (λ (t : Bool). t && c) q ∙ r) s
 
+-- what the test of a row says where it fails
+pub record RowIn (radius height y from to : ℕ) : Type 0 where
+  pub above : radius ≤ y
+  pub below : y + radius < height
+  pub some : from < to
+
+pub row-in : (radius height y from to : ℕ) → (ltb y radius || leb height (y + radius) || leb to from) ≡ false → RowIn radius height y from to
+row-in radius height y from to h =
+    let a = ltb y radius in
+    let b = leb height (y + radius) in
+    let c = leb to from in
+    let ab = first-not (a || b) c h in
+    record { above = ltb-false y radius (first-not a b ab); below = leb-false height (y + radius) (second-not a b ab); some = leb-false to from (second-not (a || b) c h) }
+
 module _ (img : Image) (offsets : List ℕ) (radius x0 y : ℕ) where
   abbrev wanted : ℕ → Float
   wanted i = shifted_at img offsets radius (x0 + i) y
@@ -148,6 +164,14 @@ module _ (img : Image) (offsets : List ℕ) (radius x0 y : ℕ) where
     pub row-narrow : to ≤ from → (i : ℕ) → i < w → plus_zero ≡ wanted i
     row-narrow h i l = ⊎_elim (λ p. column-ahead i (f.ahead i p)) (λ p. column-past i (t.past i (omega arith) l)) (lt-or-le i from)
 
+    -- the rows that the ring leaves, at either end or for want of columns, by the test of them
+    pub row-out : (height : ℕ) → height ≡ img.height → (ltb y radius || leb height (y + radius) || leb to from) ≡ true → (i : ℕ) → i < w → plus_zero ≡ wanted i
+    row-out height e h i l =
+        ⊎_elim
+        (λ p. ⊎_elim (λ q. row-above (ltb-true y radius q) i) (λ q. row_below (subst (λ (z : ℕ). z ≤ y + radius) e (leb-true height (y + radius) q)) i) (either (ltb y radius) (leb height (y + radius)) p))
+        (λ p. row-narrow (leb-true to from p) i l)
+        (either (ltb y radius || leb height (y + radius)) (leb to from) h)
+
     pub row_is : radius ≤ y → y + radius < img.height → (i : ℕ) → i < w → inside_at img.samples offsets img.pitch x0 y from to i ≡ wanted i
     row_is c d i l =
         ⊎_elim
@@ -159,13 +183,11 @@ module _ (img : Image) (offsets : List ℕ) (radius x0 y : ℕ) where
         (lt-or-le i from)
 
     module _ (g : Framed img offsets radius x0 w) (c : radius ≤ y) (d : y + radius < img.height) (some : from < to) where
-      pub startable : Startable offsets img.width img.pitch (x0 + from) y
+      pub startable : Startable offsets (x0 + from) y
       startable =
           record {
-            holds = g.image.holds;
-            pitch-most = g.image.pitch-most;
-            x-most = omega (arith, g.right, f.most, g.image.sized.width-most);
-            y-most = omega (arith, g.image.sized.height-most);
+            x-most = omega (arith, g.right, f.most, g.image.stands.sized.width-most);
+            y-most = omega (arith, g.image.stands.sized.height-most);
             clear = λ k h.
                 let a = (g.around k h).0 in
                 let b = f.on from (omega arith) (omega (arith, t.most)) in
@@ -183,15 +205,15 @@ module _ (img : Image) (offsets : List ℕ) (radius x0 y : ℕ) where
 
       pub started-all : Started img.samples offsets img.pitch (x0 + from) y (to - from)
       started-all k h =
-          index img g.image (x0 + from + get_or offsets (2 * k) 0 - 10) (y + get_or offsets (2 * k + 1) 0 - 10) (to - from) (columns k h) (lines k h)
+          index img g.image.stands (x0 + from + get_or offsets (2 * k) 0 - 10) (y + get_or offsets (2 * k + 1) 0 - 10) (to - from) (columns k h) (lines k h)
 
-      pub started_below : DeepBelow img.deep img.samples (start_of offsets img.pitch (x0 + from) y) (to - from)
+      pub started_below : Below img.samples (start_of offsets img.pitch (x0 + from) y) (to - from)
       unfolding pixel
-      started_below e k h i l =
+      started_below k h i l =
           let u = x0 + from + get_or offsets (2 * k) 0 - 10 in
           let v = y + get_or offsets (2 * k + 1) 0 - 10 in
           subst (λ (z : ℕ). get_or img.samples z 0 < 4096) (sym (add_assoc (v * img.pitch) u i))
-          (suc-le-suc (low img g.range e (u + i) v (omega (arith, columns k h)) (lines k h)))
+          (suc-le-suc (g.image.low (u + i) v (omega (arith, columns k h)) (lines k h)))
 
 -- ---- row after row
 grid : (f : ℕ → ℕ → Float) (r w i : ℕ) → i < w → f i r ≡ f ((r * w + i) % w) ((r * w + i) / w)
@@ -218,3 +240,14 @@ no_rows f w l = subst (λ (n : ℕ). Wrote plus_zero n 0 f l l) (sym (zero-mul w
 
 pub all-rows : (f : ℕ → Float) (r w h : ℕ) (l m : List Float) → r ≡ h → length l ≡ w * h → Wrote plus_zero (r * w) 0 f l m → Wrote plus_zero (length l) 0 f l m
 all-rows f r w h l m e c v = subst (λ (n : ℕ). Wrote plus_zero n 0 f l m) (ap (λ (z : ℕ). z * w) e ∙ mul_comm h w ∙ sym c) v
+
+-- ---- +0.0 throughout
+pub zeros-wrote : (l m : List Float) → m ≡ replicate (length l) plus_zero → Wrote plus_zero (length l) 0 (λ i. plus_zero) l m
+zeros-wrote l m e =
+    let count : length m ≡ length l = ap length e ∙ length-replicate (length l) plus_zero in
+    record {
+      same = count;
+      ahead = λ i h. absurd (let z : ⊥ = omega arith in z);
+      here = λ i h. ap (λ (k : ℕ). get_or m k plus_zero) (zero-add i) ∙ ap (λ (n : List Float). get_or n i plus_zero) e ∙ get_or-replicate (length l) i plus_zero plus_zero h;
+      past = λ i h. get_or_past m i plus_zero (omega (arith, count)) ∙ sym (get_or_past l i plus_zero (omega arith));
+    }

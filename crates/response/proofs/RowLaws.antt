@@ -7,7 +7,7 @@ use native.Mathlib.Omega.{arith}
 use lib.ListN.{length, get_or, take, drop, replicate, get_or-replicate}
 use Rattle.imageview.proofs.ImageLaws.{cut, run-count, run_at}
 use Rattle.pixel_response.specs.Samples.{value_of}
-use Rattle.pixel_response.specs.Steps.{listed, square_of, edges_of, sum_of, cross_of, Added, AddedQuarter, Spare, Wrote}
+use Rattle.pixel_response.specs.Steps.{listed, Bounded, Levels, square_of, edges_of, sum_of, cross_of, Added, AddedQuarter, Spare, Wrote}
 use Rattle.response.specs.StepsStarts.{Below, Low, Part, SampledQuarter, SampledCross, sample_of, value_at}
 use Rattle.pixel_response.proofs.PixelLaws.{four, Quarters, none, more, all}
 use Rattle.response.proofs.PassLaws.{added-cong, wrote-cong}
@@ -22,6 +22,7 @@ part_of img starts k at n h =
     }
 
 -- an element of a low list, and a part of low samples
+-- a level of four low rows
 pub low-at : (l : List ℕ) (n i : ℕ) → Low l → length l ≡ n → i < n → listed l i ≤ 4095
 low-at l n i b e h = le_of_suc-le-suc (b i (subst (λ (z : ℕ). i < z) (sym e) h))
 
@@ -29,6 +30,14 @@ pub part_low : (img starts : List ℕ) (k at n : ℕ) (part : List ℕ) → k < 
 part_low img starts k at n part h b p i l =
     let m : i < n = subst (λ (z : ℕ). i < z) p.count l in
     subst (λ (v : ℕ). v < 4096) (sym (p.each i m)) (b k h (at + i) (omega arith))
+
+-- element i of four rows that lie abreast
+pub levels-low : (a b c d : List ℕ) (n i : ℕ) → Low a × Low b × Low c × Low d → length a ≡ n → length b ≡ n → length c ≡ n → length d ≡ n → i < n → Levels (listed a i) (listed b i) (listed c i) (listed d i)
+levels-low a b c d n i l p q r s h = record { first = low-at a n i l.0 p h; second = low-at b n i l.1 q h; third = low-at c n i l.2 r h; fourth = low-at d n i l.3 s h }
+
+-- what is bounded of four levels is of the samples that they were read from
+pub same-four : (m : ℕ) (f : ℕ → ℕ → ℕ → ℕ → ℕ) (a b c d a' b' c' d' r : ℕ) → a ≡ a' → b ≡ b' → c ≡ c' → d ≡ d' → Bounded (f a b c d) m r → Bounded (f a' b' c' d') m r
+same-four m f a b c d a' b' c' d' r p q s t w = record { is = w.is ∙ four f a b c d a' b' c' d' p q s t; most = w.most }
 
 five : (f : ℕ → ℕ → ℕ → ℕ → ℕ → ℕ) (a b c d e a' b' c' d' e' : ℕ) → a ≡ a' → b ≡ b' → c ≡ c' → d ≡ d' → e ≡ e' → f a b c d e ≡ f a' b' c' d' e'
 five f a b c d e a' b' c' d' e' p q r s t = cc

@@ -1,11 +1,12 @@
 -- Demand 3 of an image's samples and the elements of a buffer: what is said of one pixel's samples (`Near`) holds of every element whose ring fits.
-use Rattle.std.specs.Prelude.{◌≡◌, true, List, ℕ, ◌+◌, ◌*◌, ◌/◌, ◌%◌, ◌<◌, T, ℤ, length, get_or, Float}
+use Rattle.std.specs.Prelude.{◌≡◌, true, List, ℕ, ◌+◌, ◌*◌, ◌/◌, ◌%◌, ◌<◌, T, ℤ, length, get_or, Float, Result}
 use Rattle.std.specs.Float.Ieee.{lt}
 use Rattle.shapes.specs.Numbers.{plus_zero}
 use Rattle.imageview.specs.Image.{Image, pixel}
 use Rattle.pixel_response.specs.Samples.{gain, loss}
 use Rattle.pixel_response.specs.Near.{Near}
-use Rattle.response.specs.declared.Response.{Response}
+use Rattle.refusals.specs.declared.Refusal.{Refusal}
+use Rattle.response.specs.declared.Extent.{Extent}
 use Rattle.response.specs.Call.{wrote, way_of, Done}
 use Rattle.response.specs.Region.{Region, width_of, height_of, ring_fits, ring_sample, cross_sample}
 
@@ -39,11 +40,11 @@ pub record DemandThree (P : ℕ) (img : Image) (ring : List ℤ) (radius : ℕ) 
 -- the written values of bytes are within 1/2048 of N / 5 (40 · 256 fifths of 2 ^ -22)
 abbrev pub BytesKeep : Type 0
 BytesKeep =
-    (img : Image) (ring : List ℤ) (radius : ℕ) (r c : Region) (out : List Float) (answer : Response) (out' : List Float)
+    (img : Image) (ring : List ℤ) (radius : ℕ) (r c : Region) (out : List Float) (answer : Result Extent Refusal) (out' : List Float)
     → PixelsBelow 256 img → Done img ring radius r out answer out' → way_of img ring radius r (length out) ≡ wrote c → DemandThree 256 img ring radius c out'
 
 -- those of twelve bits within 1/128 (40 · 4096 of them)
 abbrev pub DeepKeep : Type 0
 DeepKeep =
-    (img : Image) (ring : List ℤ) (radius : ℕ) (r c : Region) (out : List Float) (answer : Response) (out' : List Float)
+    (img : Image) (ring : List ℤ) (radius : ℕ) (r c : Region) (out : List Float) (answer : Result Extent Refusal) (out' : List Float)
     → img.deep ≡ true → Done img ring radius r out answer out' → way_of img ring radius r (length out) ≡ wrote c → DemandThree 4096 img ring radius c out'

@@ -1,12 +1,13 @@
 -- The region, by starts: what is written for a pixel, the columns in which the ring fits, and what is left of the call once the ring has passed.
-use Rattle.std.specs.Prelude.{◌≡◌, Bool, true, false, ◌&&◌, cond, List, ℕ, ◌+◌, ◌*◌, ◌/◌, ◌%◌, ◌≤◌, ◌<◌, leb, ltb, eqb, length, Float}
+use Rattle.std.specs.Prelude.{◌≡◌, Bool, true, false, ◌&&◌, cond, List, ℕ, ◌+◌, ◌*◌, ◌/◌, ◌%◌, ◌≤◌, ◌<◌, leb, ltb, eqb, length, Float, Result, Ok, Err}
 use Rattle.shapes.specs.Numbers.{plus_zero}
-use Rattle.imageview.specs.Image.{Image, in_range}
-use Rattle.imageview.specs.Steps.{Tested}
+use Rattle.imageview.specs.Image.{Image}
+use Rattle.imageview.specs.Steps.{IsTested}
+use Rattle.refusals.specs.declared.Refusal.{Refusal}
 use Rattle.refusals.specs.declared.Refusal.TheVariants.{BadOut}
-use Rattle.response.specs.declared.Response.{Response}
-use Rattle.response.specs.declared.Response.TheVariants.{Written, Refused}
+use Rattle.response.specs.declared.Extent.{Extent}
 use Rattle.response.specs.Region.{Region, ring_fits, clamped, width_of, height_of}
+use Rattle.response.specs.Call.{extent_of}
 use Rattle.pixel_response.specs.Steps.{Wrote}
 use Rattle.response.specs.StepsStarts.{Around, started_at}
 
@@ -29,10 +30,9 @@ pub record To (x0 w width radius from to : ℕ) : Type 0 where
   pub inside : (i : ℕ) → i < to → from ≤ i → x0 + i + radius < width
   pub past : (i : ℕ) → to ≤ i → i < w → width ≤ x0 + i + radius
 
--- a region's columns lie in an image that is one and has samples in range, and its ring within the radius
+-- a region's columns lie in a tested image, and its ring within the radius
 pub record Framed (img : Image) (offsets : List ℕ) (radius x0 w : ℕ) : Type 0 where
-  pub image : Tested img
-  pub range : in_range img ≡ true
+  pub image : IsTested img
   pub radius-most : radius ≤ 10
   pub around : Around radius offsets
   pub right : x0 + w ≤ img.width
@@ -41,8 +41,8 @@ pub record Framed (img : Image) (offsets : List ℕ) (radius x0 w : ℕ) : Type 
 abbrev pub size_fits : Image → Region → ℕ → Bool
 size_fits img r room = eqb room (width_of (clamped img r) * height_of (clamped img r))
 
-pub record Clamped (img : Image) (offsets : List ℕ) (radius : ℕ) (r : Region) (out : List Float) (answer : Response) (out' : List Float) : Type 0 where
-  pub answers : answer ≡ cond (size_fits img r (length out)) (Written (width_of (clamped img r)) (height_of (clamped img r))) (Refused BadOut)
+pub record Clamped (img : Image) (offsets : List ℕ) (radius : ℕ) (r : Region) (out : List Float) (answer : Result Extent Refusal) (out' : List Float) : Type 0 where
+  pub answers : answer ≡ cond (size_fits img r (length out)) (Ok (extent_of (clamped img r))) (Err BadOut)
   pub full :
       size_fits img r (length out) ≡ true
       → Wrote plus_zero (length out) 0 (λ i. shifted_at img offsets radius ((clamped img r).x0 + i % width_of (clamped img r)) ((clamped img r).y0 + i / width_of (clamped img r))) out out'

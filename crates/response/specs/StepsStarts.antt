@@ -5,10 +5,6 @@ use Rattle.pixel_response.specs.Samples.{response_of}
 use Rattle.response.specs.Region.{moved}
 use Rattle.pixel_response.specs.Steps.{listed, cross_of, AddedQuarter, Wrote}
 
--- a component plus 10, or 255 where it is outside -10..=10
-unfoldable pub offset_of : ℤ → ℕ
-offset_of z = cond (leb (nat_abs z) 10) (moved 10 z) 255
-
 -- the pairs of the pixel and of those above, below, right and left of it, plus 10
 abbrev pub cross_pairs : List ℕ
 cross_pairs = 10 ∷ 10 ∷ 10 ∷ 9 ∷ 10 ∷ 11 ∷ 11 ∷ 10 ∷ 9 ∷ 10 ∷ []
@@ -16,7 +12,7 @@ cross_pairs = 10 ∷ 10 ∷ 10 ∷ 9 ∷ 10 ∷ 11 ∷ 11 ∷ 10 ∷ 9 ∷ 10 �
 -- the offsets of 21 pairs, the ring's and then the cross's
 pub record Offsets (ring : List ℤ) (offsets : List ℕ) : Type 0 where
   pub count : length ring ≡ 32
-  pub each : (k : ℕ) → k < 32 → get_or offsets k 0 ≡ offset_of (get_or ring k (pos 0))
+  pub each : (k : ℕ) → k < 32 → get_or offsets k 0 ≡ moved 10 (get_or ring k (pos 0))
   pub cross : (k : ℕ) → k < 10 → get_or offsets (32 + k) 0 ≡ get_or cross_pairs k 0
 
 -- every offset within the radius of 10
@@ -27,10 +23,8 @@ Around radius offsets = (k : ℕ) → k < 42 → (10 ≤ get_or offsets k 0 + ra
 abbrev pub start_of : List ℕ → ℕ → ℕ → ℕ → ℕ → ℕ
 start_of offsets pitch x y k = (y + get_or offsets (2 * k + 1) 0 - 10) * pitch + (x + get_or offsets (2 * k) 0 - 10)
 
--- sizes that no product wraps, and a pixel that the offsets do not take below 0
-pub record Startable (offsets : List ℕ) (width pitch x y : ℕ) : Type 0 where
-  pub holds : width ≤ pitch
-  pub pitch-most : pitch ≤ 8192
+-- a pixel that the offsets do not take below 0
+pub record Startable (offsets : List ℕ) (x y : ℕ) : Type 0 where
   pub x-most : x ≤ 4096
   pub y-most : y ≤ 4096
   pub clear : (k : ℕ) → k < 42 → (10 ≤ x + get_or offsets k 0) × (10 ≤ y + get_or offsets k 0)
@@ -43,16 +37,12 @@ started_at img offsets pitch x y = response_of (λ k. get_or img (start_of offse
 abbrev pub Started : List ℕ → List ℕ → ℕ → ℕ → ℕ → ℕ → Type 0
 Started img offsets pitch x y n = (k : ℕ) → k < 21 → start_of offsets pitch x y k + n ≤ length img
 
--- no element is above 4095, the greatest sample of a deep image; and none of the n elements from each of 21 starts on
+-- no element is above 4095, the greatest sample; and none of the n elements from each of 21 starts on
 abbrev pub Low : List ℕ → Type 0
 Low l = Under 4096 (length l) (listed l)
 
 abbrev pub Below : List ℕ → (ℕ → ℕ) → ℕ → Type 0
 Below img start n = (k : ℕ) → k < 21 → Under 4096 n (λ i. get_or img (start k + i) 0)
-
--- the same where the image is deep; bytes need no test
-abbrev pub DeepBelow : Bool → List ℕ → (ℕ → ℕ) → ℕ → Type 0
-DeepBelow deep img start n = deep ≡ true → Below img start n
 
 -- ---- pixels side by side: sample k of pixel i stands i past start k; the first 16 starts are the ring's, the rest the cross's
 abbrev pub sample_of : List ℕ → List ℕ → ℕ → ℕ → ℕ

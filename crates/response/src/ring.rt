@@ -1,26 +1,33 @@
-// The ring: its components as unsigned offsets, the test of them, and where the samples of a pixel stand in the image.
-ghost use Rattle.std.specs.Prelude.{◌≡◌, ◌+◌, ◌-◌, ◌*◌, ◌≤◌, ◌<◌, length, replicate};
-ghost use Rattle.pixel_response.specs.Steps.{Decides, Wrote};
-ghost use Rattle.response.specs.StepsStarts.{offset_of, Offsets, Around, start_of, Startable};
+// The ring: the test of its components, these as unsigned offsets, and where the samples of a pixel stand in the image.
+ghost use Rattle.std.specs.Prelude.{◌≡◌, true, ◌+◌, ◌-◌, ◌*◌, ◌≤◌, nat_abs, replicate};
+ghost use Rattle.pixel_response.specs.Steps.{Wrote};
+ghost use Rattle.response.specs.Region.{moved, ring_within};
+ghost use Rattle.response.specs.StepsStarts.{Offsets, start_of, Startable};
 
-use imageview::Sizes;
+use imageview::{Image, Sample};
 
-// A component plus 10, or 255 where it is outside -10..=10.
-fn offset_of(z: i32) -> u8
-    ensures { result ≡ offset_of z }
+// Whether every component is within the radius.
+pub fn is_within(ring: &[i32; 32], radius: usize) -> bool
+    ensures { result ≡ ring_within radius ring.now }
 {
-    if z < -10 {
-        return 255;
+    let mut within = true;
+    for z in ring {
+        within = within & (z.unsigned_abs() as usize <= radius);
     }
-    if 10 < z {
-        return 255;
-    }
+    within
+}
+
+// A component plus 10.
+fn offset_of(z: i32) -> u8
+    requires { nat_abs z ≤ 10 }
+    ensures { result ≡ moved 10 z }
+{
     (z + 10) as u8
 }
 
 // The offsets of the ring's pairs, and of the cross's: the pixel, above, below, right, left.
-pub fn offsets_of(ring: &[i32]) -> [u8; 42]
-    requires { length ring.now ≡ 32 }
+pub fn offsets_of(ring: &[i32; 32]) -> [u8; 42]
+    requires { ring_within 10 ring.now ≡ true }
     ensures { Offsets ring.now result }
 {
     let mut offsets = [10u8; 42];
@@ -28,71 +35,32 @@ pub fn offsets_of(ring: &[i32]) -> [u8; 42]
     offsets[37] = 11;
     offsets[38] = 11;
     offsets[40] = 9;
-    let mut k: usize = 0;
-    while k < 32 {
+    for k in 0..32usize {
         offsets[k] = offset_of(ring[k]);
-        k = k + 1;
     }
     offsets
-}
-
-// The component is within the radius.
-fn is_around(offset: u8, radius: usize) -> bool
-    requires { radius ≤ 10 }
-    ensures { Decides ((10 ≤ offset + radius) × (offset ≤ 10 + radius)) result }
-{
-    let o = offset as usize;
-    if o + radius < 10 {
-        return false;
-    }
-    if 10 + radius < o {
-        return false;
-    }
-    true
-}
-
-pub fn are_around(offsets: &[u8; 42], radius: usize) -> bool
-    requires { radius ≤ 10 }
-    ensures { Decides (Around radius offsets.now) result }
-{
-    let mut k: usize = 0;
-    while k < 42 {
-        if !is_around(offsets[k], radius) {
-            return false;
-        }
-        k = k + 1;
-    }
-    true
-}
-
-// Where the pixel (x, y) stands.
-fn place(sizes: Sizes, x: usize, y: usize) -> usize
-    requires { (sizes.width ≤ sizes.pitch) × (sizes.pitch ≤ 8192) × (x ≤ 8192) × (y ≤ 8192) }
-    ensures { result ≡ y * sizes.pitch + x }
-{
-    y * sizes.pitch + x
 }
 
 // A coordinate moved by a component.
 fn moved_by(x: usize, offset: u8) -> usize
     requires { (x ≤ 4096) × (10 ≤ x + offset) }
-    ensures { (result ≡ x + offset - 10) × (result ≤ 8192) }
+    ensures moved { result ≡ x + offset - 10 }
+    ensures few { result ≤ 8192 }
 {
     x + offset as usize - 10
 }
 
 // The 21 samples of the pixel (x, y).
-pub fn starts_of(offsets: &[u8; 42], sizes: Sizes, x: usize, y: usize) -> [usize; 21]
-    requires { Startable offsets.now sizes.width sizes.pitch x y }
-    ensures { Wrote 0 21 0 (start_of offsets.now sizes.pitch x y) (replicate 21 0) result }
+pub fn starts_of<S: Sample>(image: &Image<S>, offsets: &[u8; 42], x: usize, y: usize) -> [usize; 21]
+    requires { Startable offsets.now x y }
+    ensures { Wrote 0 21 0 (start_of offsets.now image.now.pitch x y) (replicate 21 0) result }
 {
+    let pitch = image.pitch();
     let mut starts = [0usize; 21];
-    let mut k: usize = 0;
-    while k < 21 {
+    for k in 0..21usize {
         let column = moved_by(x, offsets[2 * k]);
         let line = moved_by(y, offsets[2 * k + 1]);
-        starts[k] = place(sizes, column, line);
-        k = k + 1;
+        starts[k] = line * pitch + column;
     }
     starts
 }

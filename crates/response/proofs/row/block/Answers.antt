@@ -1,34 +1,36 @@
--- `response::row::block` meets its contract: the samples are the words or the bytes.
-use mathlib.Core.Path.{sym, subst}
-use mathlib.Core.List.{List}
-use Prim.Native.Nat.{ℕ, ◌+◌}
-use lib.ListN.{length}
+-- `response::row::block` meets its contract. After k turns the sums have the first k quarters.
+use Rattle.std.proofs.Common.{◌+◌, length, arith}
 use Rattle.shapes.specs.Numbers.{plus_zero}
-use Rattle.imageview.proofs.ImageLaws.{deep-samples, byte-samples}
-use Rattle.pixel_response.specs.Steps.{listed, Wrote}
-use Rattle.response.specs.StepsStarts.{Below, Reach, value_at}
+use Rattle.response.specs.StepsStarts.{value_at}
+use Rattle.response.proofs.PassLaws.{wrote-cong}
+use Rattle.response.proofs.RowLaws.{sums_none, sums-more, sums-all, spare}
 use Rattle.response.proofs.row.block.Goals as goal
 
-pub block-requires : goal.block-requires
-block-requires c =
+pub loop-k-init : goal.loop-k-init
+loop-k-init g c =
     let a = c.args in
-    let e = deep-samples a.bytes.now a.words.now c.if-deep.true in
-    let n = a.at + length a.out.now in
-    record { out_len_bound = c.requires.out_len_bound; reach = subst (λ (l : List ℕ). Reach l a.starts.now n) e c.requires.reach; below = subst (λ (l : List ℕ). Below l (listed a.starts.now) n) e (c.requires.deep_below c.if-deep.true) }
+    sums_none 4096 (g.S.Sample.levels a.img.now) a.starts.now a.at (length a.out.now) c.requires.few
 
-pub returns-then-deep : goal.returns-then-deep
-returns-then-deep c =
+pub quarter-requires : goal.quarter-requires
+quarter-requires g c =
     let a = c.args in
-    subst (λ (l : List ℕ). Wrote plus_zero (length a.out.now) 0 (λ i. value_at l a.starts.now (a.at + i)) a.out.now c.block.new.out)
-    (sym (deep-samples a.bytes.now a.words.now c.if-deep.true)) c.block.ensures
+    record {
+      which = c.loop-k-test.true;
+      few = c.requires.few;
+      reach = c.requires.reach;
+      below = c.requires.below;
+      spare = spare 4096 (g.S.Sample.levels a.img.now) a.starts.now a.at (length a.out.now) c.loop-k.k c.loop-k.square c.loop-k.edge c.loop-k.sum c.loop-k-test.true c.loop-k.invariant;
+    }
 
-pub block_bytes-requires : goal.block_bytes-requires
-block_bytes-requires c =
+pub loop-k-preserved : goal.loop-k-preserved
+loop-k-preserved g c =
     let a = c.args in
-    record { out_len_bound = c.requires.out_len_bound; reach = subst (λ (l : List ℕ). Reach l a.starts.now (a.at + length a.out.now)) (byte-samples a.bytes.now a.words.now c.if-deep.false) c.requires.reach }
+    sums-more 4096 (g.S.Sample.levels a.img.now) a.starts.now a.at (length a.out.now) c.loop-k.k c.loop-k.square c.loop-k.edge c.loop-k.sum _ _ _ c.loop-k.invariant c.quarter.ensures
 
 pub returns : goal.returns
-returns c =
+returns g c =
     let a = c.args in
-    subst (λ (l : List ℕ). Wrote plus_zero (length a.out.now) 0 (λ i. value_at l a.starts.now (a.at + i)) a.out.now c.block_bytes.new.out)
-    (sym (byte-samples a.bytes.now a.words.now c.if-deep.false)) c.block_bytes.ensures
+    let levels = g.S.Sample.levels a.img.now in
+    wrote-cong plus_zero (length a.out.now) 0 _ (λ i. value_at levels a.starts.now (a.at + i)) a.out.now c.write_values.new.out
+    (sums-all 4096 levels a.starts.now a.at (length a.out.now) c.loop-k.k c.loop-k.square c.loop-k.edge c.loop-k.sum _ c.cross.new.five (omega arith) c.loop-k.invariant c.cross.ensures)
+    c.write_values.ensures

@@ -1,14 +1,8 @@
--- `response::row::write_values` meets its contract. After i turns the first i values are written.
-use mathlib.Core.Path.{◌≡◌}
-use Prim.Native.Nat.{◌-◌, ◌≤◌}
-use lib.ListN.{length}
+-- After i turns the first i values are written.
 use Rattle.shapes.specs.Numbers.{plus_zero}
 use Rattle.pixel_response.specs.Samples.{value_of}
 use Rattle.pixel_response.specs.Steps.{listed, Wrote}
 use Rattle.response.proofs.row.write_values.Given as goal
 
 abbrev pub invariant-loop-i : goal.invariant-loop-i
-invariant-loop-i l = (l.i ≤ l.n) × (l.n ≡ length l.initial.out) × Wrote plus_zero l.i 0 (λ j. value_of (listed l.square j) (listed l.edge j) (listed l.sum j) (listed l.cross j)) l.initial.out l.out
-
-abbrev pub decreases-loop-i : goal.decreases-loop-i
-decreases-loop-i l = l.n - l.i
+invariant-loop-i l = Wrote plus_zero l.i 0 (λ j. value_of (listed l.square j) (listed l.edge j) (listed l.sum j) (listed l.cross j)) l.initial.out l.out
