@@ -34,8 +34,8 @@ fn samples_of(tile: &[u8], cells: &[usize; 21]) -> [u8; 21]
 
 #[tactic(auto, unfolding(shapes::specs::Turns::turns))]
 fn add_ring(samples: &[u8; 21], mean: i32, cells: &[usize; 21], scale: Scale, grid: &mut [f32])
-    requires low { negsuc 0 ≤ℤ mean }
-    requires high { mean ≤ℤ pos 1 }
+    requires from_minus_one { negsuc 0 ≤ℤ mean }
+    requires to_one { mean ≤ℤ pos 1 }
     requires in_grid { Grid cells.now (length grid.old) }
     ensures { grid.new ≡ turns 16 (ring_step (listed samples.now) mean (listed cells.now) scale) grid.old }
 {
@@ -47,8 +47,8 @@ fn add_ring(samples: &[u8; 21], mean: i32, cells: &[usize; 21], scale: Scale, gr
 
 #[tactic(auto, unfolding(shapes::specs::Turns::turns))]
 fn add_cross(mean: i32, cells: &[usize; 21], scale: Scale, grid: &mut [f32])
-    requires low { negsuc 0 ≤ℤ mean }
-    requires high { mean ≤ℤ pos 1 }
+    requires from_minus_one { negsuc 0 ≤ℤ mean }
+    requires to_one { mean ≤ℤ pos 1 }
     requires in_grid { Grid cells.now (length grid.old) }
     ensures { grid.new ≡ turns 5 (cross_step mean (listed cells.now) scale) grid.old }
 {

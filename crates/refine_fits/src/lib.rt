@@ -54,7 +54,7 @@ pub struct Seed {
     pub centre_y: u16,
 }
 
-// The five sums of a fit while samples are added. A struct beside refine_patch's of five quads: as `[f32; 5]` that a call hands on in a loop, the kit's borrow checker does not cover it.
+// The five sums of a fit while samples are added. A struct beside refine_patch's of five times four lanes: as `[f32; 5]` that a call hands on in a loop, the kit's borrow checker does not cover it.
 #[derive(Clone, Copy, Debug, PartialEq)]
 pub struct Sums {
     pub a: f32,

@@ -5,6 +5,7 @@ use mathlib.Core.List.{List}
 use native.Mathlib.Omega.{arith}
 use lib.Dec.{leb, eqb}
 use lib.Ieee.{Float}
+use Rattle.std.specs.Prelude.{Result, Ok, Err}
 use Rattle.shapes.specs.Numbers.{plus_zero}
 use Rattle.imageview.specs.Image.{Image, is_image, in_range}
 use Rattle.imageview.specs.Patch.{supports_patch}
@@ -12,19 +13,18 @@ use Rattle.refine_operator.specs.Call as Operator
 use Rattle.refine_formulas.specs.declared.SaddlePointConfig.{SaddlePointConfig}
 use Rattle.refine_formulas.specs.declared.Flaw.{Flaw}
 use Rattle.refine_formulas.specs.declared.Flaw.TheVariants.{AboveMargin, TooSmall, NotFinite}
-use Rattle.refine_formulas.specs.declared.Solved.{Solved}
-use Rattle.refine_formulas.specs.declared.Solved.TheVariants.{Refused, Saddle}
+use Rattle.refine_formulas.specs.declared.PatchSaddle.{PatchSaddle}
+use Rattle.refine_formulas.specs.declared.Unsolved.{Unsolved}
 use Rattle.refine_formulas.specs.Solve.{solve}
 use Rattle.refine_fits.specs.declared.Seed.{Seed}
 use Rattle.refine_fits.specs.Candidate.{Task, near_seed, task_at}
 use Rattle.refine_fits.specs.Fit.{coefficients}
-use Rattle.refine_seed.specs.declared.Admitted.{Admitted}
+use Rattle.refine_seed.specs.declared.Unrefined.{Unrefined}
 use Rattle.refine_seed.specs.declared.Estimate.{Estimate}
-use Rattle.refine_seed.specs.declared.Refined.{Refined}
-use Rattle.refine_seed.specs.declared.Refined.TheVariants.{Accepted, Unmoved}
+use Rattle.refine_seed.specs.declared.Unrefined.TheVariants.{Unmoved}
 use Rattle.refine_seed.specs.declared.Why.TheVariants.{Rejected, IllConditioned, BadSeed, Flawed}
 use Rattle.refine_seed.specs.Run.{run_of}
-use Rattle.refine_seed.specs.Refine.{good_limits, is_place, centre_of, seed_of, admit_of, answered, finished, from_saddle, refine_with, with_operator, lent_with, refine_of, refine_lent, number_of}
+use Rattle.refine_seed.specs.Refine.{Refined, unmoved, good_limits, is_place, centre_of, seed_of, admit_of, answered, finished, from_saddle, refine_with, with_operator, lent_with, refine_of, refine_lent, number_of}
 use Rattle.refine_seed.specs.Claims.{Usable, FourExactly, BadSeedExactly, LentBadSeedExactly}
 use Rattle.refine_seed.proofs.EntryLaws.{chosen, to}
 use Rattle.refine_seed.proofs.NumberLaws.{from-ten}
@@ -37,23 +37,23 @@ either : (b : Bool) (p q : Refined) → NotFour p → NotFour q → NotFour (con
 either true p q h g = h
 either false p q h g = g
 
-accepted : (e : Estimate) → NotFour (Accepted e)
+accepted : (e : Estimate) → NotFour (Ok e)
 accepted e h = omega arith
 
-ill : (d : Float) → NotFour (Unmoved IllConditioned d)
+ill : (d : Float) → NotFour (Err (Unmoved IllConditioned d))
 ill d h = omega arith
 
-rejected : (d : Float) → NotFour (Unmoved Rejected d)
+rejected : (d : Float) → NotFour (Err (Unmoved Rejected d))
 rejected d h = omega arith
 
-flawed : (flaw : Flaw) (d : Float) → NotFour (Unmoved (Flawed flaw) d)
+flawed : (flaw : Flaw) (d : Float) → NotFour (Err (Unmoved (Flawed flaw) d))
 flawed AboveMargin d h = omega arith
 flawed TooSmall d h = omega arith
 flawed NotFinite d h = omega arith
 
-from-saddle : (t : Task) (overlap : List Float) (wanted : Bool) (v : Solved) → NotFour (from_saddle t overlap wanted v)
-from-saddle t overlap wanted (Refused flaw d) = flawed flaw d
-from-saddle t overlap wanted (Saddle f) = either (near_seed t f.ux f.uy) (Accepted (finished t overlap wanted f (run_of t f))) (Unmoved Rejected f.det_h) (accepted (finished t overlap wanted f (run_of t f))) (rejected f.det_h)
+from-saddle : (t : Task) (overlap : List Float) (wanted : Bool) (v : Result PatchSaddle Unsolved) → NotFour (from_saddle t overlap wanted v)
+from-saddle t overlap wanted (Err u) = flawed u.flaw u.det_h
+from-saddle t overlap wanted (Ok f) = either (near_seed t f.ux f.uy) (Ok (finished t overlap wanted f (run_of t f))) (Err (Unmoved Rejected f.det_h)) (accepted (finished t overlap wanted f (run_of t f))) (rejected f.det_h)
 
 with-fit : (img : Image) (cfg : SaddlePointConfig) (seed : Seed) (wanted : Bool) (columns overlap : List Float) → NotFour (refine_with img cfg seed wanted columns overlap)
 with-fit img cfg seed wanted columns overlap = from-saddle (task_at img columns cfg seed) overlap wanted (solve cfg (coefficients img columns cfg.radius seed.centre_x seed.centre_y))
@@ -85,8 +85,8 @@ module _ (img : Image) (cfg : SaddlePointConfig) (x y : Float) (go : Seed → Re
           let s = stopped (is_image img) (in_range img) (leb cfg.radius 7) (good_limits cfg) (is_place x y) (supports_patch img cfg.radius (centre_of x) (centre_of y)) (seed_of x y) go never h in
           (record { image = s.0; range = s.1; radius = s.2; limits = s.3 }, s.4)
 
-      given : Usable img cfg → is_place x y ≡ false → answered (admit_of img cfg x y) go ≡ Unmoved BadSeed plus_zero
-      given u h = ap (λ (d : Admitted). answered d go) (sym (to img cfg x y true true true true false _ u.image u.range u.radius u.limits h refl))
+      given : Usable img cfg → is_place x y ≡ false → answered (admit_of img cfg x y) go ≡ Err (unmoved BadSeed)
+      given u h = ap (λ (d : Result Seed Unrefined). answered d go) (sym (to img cfg x y true true true true false _ u.image u.range u.radius u.limits h refl))
 
 -- ---- the claims
 pub bad-seed-exactly : BadSeedExactly
@@ -97,4 +97,4 @@ pub lent-bad-seed-exactly : LentBadSeedExactly
 unfolding refine_lent
 lent-bad-seed-exactly img cfg x y wanted columns overlap =
     exactly img cfg x y (λ seed. lent_with cfg (refine_with img cfg seed wanted columns overlap))
-    (either (eqb cfg.radius 0) (Unmoved IllConditioned plus_zero) (refine_with img cfg (seed_of x y) wanted columns overlap) (ill plus_zero) (with-fit img cfg (seed_of x y) wanted columns overlap))
+    (either (eqb cfg.radius 0) (Err (unmoved IllConditioned)) (refine_with img cfg (seed_of x y) wanted columns overlap) (ill plus_zero) (with-fit img cfg (seed_of x y) wanted columns overlap))

@@ -4,6 +4,7 @@ use mathlib.Core.Bool.{Bool, true, false, ◌&&◌, ◌||◌, cond}
 use mathlib.Core.List.{List}
 use lib.Dec.{leb, eqb}
 use lib.Ieee.{Float}
+use Rattle.std.specs.Prelude.{Result, Ok, Err}
 use lib.Ieee.Scale.{finite}
 use Rattle.shapes.specs.Numbers.{plus_zero, one, entry}
 use Rattle.imageview.specs.Image.{Image, is_image, in_range}
@@ -12,32 +13,32 @@ use Rattle.refine_operator.specs.Call as Operator
 use Rattle.refine_formulas.specs.declared.SaddlePointConfig.{SaddlePointConfig}
 use Rattle.refine_formulas.specs.declared.PatchSaddle.{PatchSaddle}
 use Rattle.refine_formulas.specs.declared.Flaw.TheVariants.{AboveMargin, TooSmall, NotFinite}
-use Rattle.refine_formulas.specs.declared.Solved.{Solved}
-use Rattle.refine_formulas.specs.declared.Solved.TheVariants.{Saddle}
+use Rattle.refine_formulas.specs.declared.Unsolved.{Unsolved}
 use Rattle.refine_formulas.specs.declared.Corners.{Corners}
 use Rattle.refine_formulas.specs.Numbers.{◌⊘◌}
+use Rattle.refine_formulas.specs.Solve as Solve
 use Rattle.refine_formulas.specs.Solve.{determinant, above_margin, too_small, offset_x, offset_y, saddle_of, solve}
 use Rattle.refine_fits.specs.declared.Seed.{Seed}
 use Rattle.refine_fits.specs.Candidate.{Task, task_at, near_seed, judged}
 use Rattle.refine_fits.specs.Windows.{WindowPlace}
 use Rattle.refine_fits.specs.Fit.{coefficients}
 use Rattle.refine_seed.specs.declared.Estimate.{Estimate}
-use Rattle.refine_seed.specs.declared.Refined.{Refined}
-use Rattle.refine_seed.specs.declared.Refined.TheVariants.{Accepted, Unmoved, Refused}
+use Rattle.refine_seed.specs.declared.Unrefined.{Unrefined}
+use Rattle.refine_seed.specs.declared.Unrefined.TheVariants.{Unmoved, Refused}
 use Rattle.refine_seed.specs.declared.Why.TheVariants.{Rejected, OutOfBounds, IllConditioned, BadSeed, Flawed}
 use Rattle.refine_seed.specs.Run.{run_of}
-use Rattle.refine_seed.specs.Refine.{good_limits, is_place, centre_of, seed_of, admit_of, answered, finished, from_saddle, refine_with, with_operator, lent_with, refine_of, refine_lent, number_of, old_number, values_of}
+use Rattle.refine_seed.specs.Refine.{Refined, unmoved, good_limits, is_place, centre_of, seed_of, admit_of, answered, finished, from_saddle, refine_with, with_operator, lent_with, refine_of, refine_lent, number_of, old_number, values_of}
 use Rattle.refine_seed.specs.Before.{Once, refused, saddle, solve_once, from_once, judged_once, seed_once, with_once, lent_once, refine_once, forgotten, AsBefore, CandidatesAsBefore, RefinesAsBefore, LentAsBefore}
 use Rattle.refine_seed.proofs.EntryLaws.{chosen}
 use Rattle.refine_seed.proofs.NumberLaws.{old-refusal}
 
 -- ---- a fit
-abbrev unnamed : Solved → Once
-unnamed (Solved.Refused flaw det) = refused det
-unnamed (Saddle f) = saddle f
+abbrev unnamed : Result PatchSaddle Unsolved → Once
+unnamed (Err u) = refused u.det_h
+unnamed (Ok f) = saddle f
 
 by_tests : (p q e : Bool) (det : Float) (s : PatchSaddle)
-    → cond (p || q) (refused det) (cond e (saddle s) (refused det)) ≡ unnamed (cond p (Solved.Refused AboveMargin det) (cond q (Solved.Refused TooSmall det) (cond e (Saddle s) (Solved.Refused NotFinite det))))
+    → cond (p || q) (refused det) (cond e (saddle s) (refused det)) ≡ unnamed (cond p (Solve.refused AboveMargin det) (cond q (Solve.refused TooSmall det) (cond e (Ok s) (Solve.refused NotFinite det))))
 by_tests true q e det s = refl
 by_tests false true e det s = refl
 by_tests false false true det s = refl
@@ -52,21 +53,21 @@ solved-once cfg l =
     by_tests (above_margin cfg det) (too_small cfg det) (finite x && finite y) det (saddle_of l det x y)
 
 -- ---- a candidate
-judged-once : (t : Task) (f : PatchSaddle) (ox oy : Float) (w : WindowPlace) (c : Corners) (v : Solved) → judged_once t f ox oy w c (unnamed v) ≡ judged t f ox oy w c v
-judged-once t f ox oy w c (Solved.Refused flaw det) = refl
-judged-once t f ox oy w c (Saddle g) = refl
+judged-once : (t : Task) (f : PatchSaddle) (ox oy : Float) (w : WindowPlace) (c : Corners) (v : Result PatchSaddle Unsolved) → judged_once t f ox oy w c (unnamed v) ≡ judged t f ox oy w c v
+judged-once t f ox oy w c (Err u) = refl
+judged-once t f ox oy w c (Ok g) = refl
 
 pub candidates-as-before : CandidatesAsBefore
 candidates-as-before t f ox oy w c l = ap (λ (v : Once). judged_once t f ox oy w c v) (solved-once t.cfg l) ∙ judged-once t f ox oy w c (solve t.cfg l)
 
 -- ---- a seed that passed its tests
-by-box : (b : Bool) (e : Estimate) (d : Float) → cond b (Accepted e) (Unmoved Rejected d) ≡ forgotten (cond b (Accepted e) (Unmoved Rejected d))
+by-box : (b : Bool) (e : Estimate) (d : Float) → cond b (Ok e) (Err (Unmoved Rejected d)) ≡ forgotten (cond b (Ok e) (Err (Unmoved Rejected d)))
 by-box true e d = refl
 by-box false e d = refl
 
-from-once : (t : Task) (overlap : List Float) (wanted : Bool) (v : Solved) → from_once t overlap wanted (unnamed v) ≡ forgotten (from_saddle t overlap wanted v)
-from-once t overlap wanted (Solved.Refused flaw det) = refl
-from-once t overlap wanted (Saddle f) = by-box (near_seed t f.ux f.uy) (finished t overlap wanted f (run_of t f)) f.det_h
+from-once : (t : Task) (overlap : List Float) (wanted : Bool) (v : Result PatchSaddle Unsolved) → from_once t overlap wanted (unnamed v) ≡ forgotten (from_saddle t overlap wanted v)
+from-once t overlap wanted (Err u) = refl
+from-once t overlap wanted (Ok f) = by-box (near_seed t f.ux f.uy) (finished t overlap wanted f (run_of t f)) f.det_h
 
 module _ (img : Image) (cfg : SaddlePointConfig) (seed : Seed) (wanted : Bool) where
   seed-once : (columns overlap : List Float) → seed_once img cfg seed wanted columns overlap ≡ forgotten (refine_with img cfg seed wanted columns overlap)
@@ -81,7 +82,7 @@ module _ (img : Image) (cfg : SaddlePointConfig) (seed : Seed) (wanted : Bool) w
   with-once (Operator.built columns overlap) = seed-once columns overlap
 
 -- at radius 0 there is no operator
-lent-once : (b : Bool) (before now : Refined) → before ≡ forgotten now → cond b (Unmoved IllConditioned plus_zero) before ≡ forgotten (cond b (Unmoved IllConditioned plus_zero) now)
+lent-once : (b : Bool) (before now : Refined) → before ≡ forgotten now → cond b (Err (unmoved IllConditioned)) before ≡ forgotten (cond b (Err (unmoved IllConditioned)) now)
 lent-once true before now h = refl
 lent-once false before now h = h
 
@@ -97,20 +98,20 @@ by-admitted true true true true true true seed before now h = h
 
 -- ---- the number and the values
 old-is : (now : Refined) → number_of (forgotten now) ≡ old_number (number_of now)
-old-is (Accepted e) = refl
-old-is (Unmoved Rejected score) = refl
-old-is (Unmoved OutOfBounds score) = refl
-old-is (Unmoved IllConditioned score) = refl
-old-is (Unmoved BadSeed score) = refl
-old-is (Unmoved (Flawed AboveMargin) score) = refl
-old-is (Unmoved (Flawed TooSmall) score) = refl
-old-is (Unmoved (Flawed NotFinite) score) = refl
-old-is (Refused r) = old-refusal r
+old-is (Ok e) = refl
+old-is (Err (Unmoved Rejected score)) = refl
+old-is (Err (Unmoved OutOfBounds score)) = refl
+old-is (Err (Unmoved IllConditioned score)) = refl
+old-is (Err (Unmoved BadSeed score)) = refl
+old-is (Err (Unmoved (Flawed AboveMargin) score)) = refl
+old-is (Err (Unmoved (Flawed TooSmall) score)) = refl
+old-is (Err (Unmoved (Flawed NotFinite) score)) = refl
+old-is (Err (Refused r)) = old-refusal r
 
 values-are : (x y : Float) (now : Refined) → values_of x y (forgotten now) ≡ values_of x y now
-values-are x y (Accepted e) = refl
-values-are x y (Unmoved why score) = refl
-values-are x y (Refused r) = refl
+values-are x y (Ok e) = refl
+values-are x y (Err (Unmoved why score)) = refl
+values-are x y (Err (Refused r)) = refl
 
 module _ (img : Image) (cfg : SaddlePointConfig) (x y : Float) (before now : Seed → Refined) (same : before (seed_of x y) ≡ forgotten (now (seed_of x y))) where
   abbrev answer : (Seed → Refined) → Refined

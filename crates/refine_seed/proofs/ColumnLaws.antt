@@ -1,7 +1,8 @@
--- Two tasks whose fits are the same entry every pixel run alike. A fit reads the first columns of an operator and no more, so two operators that agree there refine alike.
+-- Two tasks whose fits are the same at every pixel run alike. A fit reads the first columns of an operator and no more, so two operators that agree there refine alike.
 use mathlib.Core.Path.{◌≡◌, refl, sym, ap, ◌∙◌, subst}
-use mathlib.Core.Bool.{Bool, cond}
-use mathlib.Core.List.{List, ◌++◌}
+use mathlib.Core.Bool.{Bool, false, cond}
+use mathlib.Core.List.{List, [], ◌++◌}
+use Rattle.std.specs.Prelude.{Option, Some, None, Result, Ok, Err}
 use Prim.Native.Nat.{ℕ, zero, suc, ◌+◌, ◌*◌, ◌/◌, ◌<◌}
 use native.Mathlib.Omega.{arith}
 use lib.IntN.{ℤ, pos, negsuc, ◌+ℤ◌}
@@ -12,8 +13,8 @@ use Rattle.imageview.specs.Image.{Image}
 use Rattle.imageview.specs.Patch.{supports_patch}
 use Rattle.refine_operator.specs.Basis.{samples}
 use Rattle.refine_operator.specs.Call as Operator
-use Rattle.refine_operator.specs.declared.Operator.{Operator}
-use Rattle.refine_operator.specs.declared.Operator.TheVariants as Answer
+use Rattle.refine_operator.specs.declared.OperatorError.{OperatorError}
+use Rattle.refine_operator.specs.declared.OperatorError.TheVariants as OperatorError
 use Rattle.shapes.proofs.ListLaws.{tabulated-cong}
 use Rattle.shapes.proofs.TurnLaws.{turns-cong}
 use Rattle.refine_operator.proofs.CallLaws.{built-length}
@@ -21,24 +22,34 @@ use Rattle.refine_formulas.specs.declared.SaddlePointConfig.{SaddlePointConfig}
 use Rattle.refine_formulas.specs.declared.PatchSaddle.{PatchSaddle}
 use Rattle.refine_formulas.specs.declared.Move.{Move}
 use Rattle.refine_fits.specs.declared.Seed.{Seed}
-use Rattle.refine_formulas.specs.declared.Solved.{Solved}
-use Rattle.refine_formulas.specs.declared.Solved.TheVariants.{Refused, Saddle}
+use Rattle.refine_formulas.specs.declared.Slope.{Slope}
+use Rattle.refine_formulas.specs.declared.Unsolved.{Unsolved}
+use Rattle.refine_formulas.specs.declared.Covariance.{Covariance}
+use Rattle.refine_formulas.specs.Covariance.{covariance_of}
+use Rattle.refine_formulas.specs.Sensitivity.{saddle_jacobian}
 use Rattle.refine_seed.specs.declared.Estimate.{Estimate}
-use Rattle.refine_seed.specs.declared.Refined.{Refined}
-use Rattle.refine_seed.specs.declared.Refined.TheVariants.{Accepted, Unmoved}
+use Rattle.refine_seed.specs.declared.Noise.{Noise}
+use Rattle.refine_seed.specs.declared.Opened.{Opened}
+use Rattle.refine_seed.specs.declared.Unrefined.{Unrefined}
+use Rattle.refine_seed.specs.declared.Unrefined.TheVariants.{Unmoved, Refused}
 use Rattle.refine_seed.specs.declared.Why.TheVariants.{Rejected, IllConditioned}
-use Rattle.refusals.specs.declared.Refusal.{Refusal}
 use Rattle.refine_formulas.specs.Numbers.{◌⊕◌, ◌⊖◌, ◌⊗◌, half}
 use Rattle.refine_fits.specs.Fit.{sample_of, coefficient, coefficients, Fit, no_fit, fitted, fit_within, fit_at}
 use Rattle.refine_formulas.specs.Solve.{solve, settled}
 use Rattle.refine_fits.specs.Windows.{WindowPlace, window_place, Fits, lacking, four, fits4, corners_at}
 use Rattle.refine_formulas.specs.Between.{blend}
-use Rattle.refine_seed.specs.PixelSlope.{Sloped, no_slope, sloped, along, both, slope_at}
+use Rattle.refine_seed.specs.PixelSlope.{along, both, slope_at}
 use Rattle.refine_fits.specs.Candidate.{Task, near_seed, Stand, Tried, passed, taken, judged, weighed, candidate, task_at}
 use Rattle.refine_seed.specs.Run.{Search, or_else, search_from, Finish, at_start, at_stand, picked, later_move, steps_from, run_of}
-use Rattle.refine_seed.specs.Refine.{single, closed_at, finished, from_saddle, refine_with, with_operator}
+use Rattle.refusals.specs.declared.Refusal.{Refusal}
+use Rattle.imageview.specs.View.{passing}
+use Rattle.refine_seed.specs.Refine.{Refined, unmoved, unbuilt, admit_of, refine_with, with_operator, refine_of, refine_lent}
+use Rattle.refine_seed.specs.StepsEnding.{ClosesFresh, answer_with, closed_with, covariance_with, ended_of, opened_there, opened_on, opened_from, open_by, open_of, open_with}
+use Rattle.refine_seed.proofs.StepLaws.{no}
+use Rattle.refine_seed.proofs.ClosingLaws.{refined-opened}
+use Rattle.refine_seed.proofs.EntryLaws.{own_answer, lent_answer, lent_zero, lent_other, not_passing}
 
--- ---- two images and two operators that give the same fit entry every pixel
+-- ---- two images and two operators that give the same fit at every pixel
 abbrev pub SameFits : Image → Image → List Float → List Float → ℕ → Type 0
 SameFits p q a b radius = (z w : ℤ) → fit_at p a radius z w ≡ fit_at q b radius z w
 
@@ -70,24 +81,27 @@ picked_same : (r : Tried) (g h : Stand → Finish) (e : Finish) → ((s : Stand)
 picked_same passed g h e q = refl
 picked_same (taken s) g h e q = q s
 
-module _ (p q : Image) (a b : List Float) (cfg : SaddlePointConfig) (cx cy : ℤ) (x y : Float) (same : SameFits p q a b cfg.radius) where
-  abbrev task_with : Image → List Float → Task
-  task_with img c = record { img = img; columns = c; cfg = cfg; centre_x = cx; centre_y = cy; seed_x = x; seed_y = y }
+module _ (p q : Image) (a b : List Float) (cfg : SaddlePointConfig) (seed : Seed) (same : SameFits p q a b cfg.radius) where
+  abbrev cx : ℤ
+  cx = pos seed.centre_x
+
+  abbrev cy : ℤ
+  cy = pos seed.centre_y
 
   abbrev ta : Task
-  ta = task_with p a
+  ta = task_at p a cfg seed
 
   abbrev tb : Task
-  tb = task_with q b
+  tb = task_at q b cfg seed
 
   judged-same : (f : PatchSaddle) (ox oy : Float) (w : WindowPlace) (v : Fits) → weighed ta f ox oy w v ≡ weighed tb f ox oy w v
   unfolding near_seed
   judged-same f ox oy w lacking = refl
   judged-same f ox oy w (four c) = by (solve cfg (blend c w.tx w.ty))
     where
-      by : (s : Solved) → judged ta f ox oy w c s ≡ judged tb f ox oy w c s
-      by (Refused flaw d) = refl
-      by (Saddle g) = refl
+      by : (s : Result PatchSaddle Unsolved) → judged ta f ox oy w c s ≡ judged tb f ox oy w c s
+      by (Err u) = refl
+      by (Ok g) = refl
 
   candidate-same : (f : PatchSaddle) (ox oy : Float) → candidate ta f ox oy ≡ candidate tb f ox oy
   unfolding candidate
@@ -121,22 +135,23 @@ module _ (p q : Image) (a b : List Float) (cfg : SaddlePointConfig) (cx cy : ℤ
       (let r = search_from 4 tb f plus_zero plus_zero (record { x = f.ux; y = f.uy }) one in
       picked_same r.outcome (λ s. steps_from 15 ta s r.count) (λ s. steps_from 15 tb s r.count) (at_start r.count) (λ s. steps-same 15 s r.count))
 
-  closed_same : (overlap : List Float) (wanted : Bool) (w : WindowPlace) (f : PatchSaddle) (n : ℕ) (s : Sloped) → closed_at ta overlap wanted w f n s ≡ closed_at tb overlap wanted w f n s
-  closed_same overlap wanted w f n no_slope = refl
-  closed_same overlap wanted w f n (sloped s) = refl
+  opened-same : (f : PatchSaddle) → opened_from ta seed f ≡ opened_from tb seed f
+  opened-same f =
+      ap (λ (s : Option Slope). cond (settled f) (opened_there seed f s) (opened_on seed f (ended_of (run_of ta f)).tries (ended_of (run_of ta f)).settled)) (slope-same p q a b cfg.radius same cx cy)
+      ∙ ap (λ (e : Finish). cond (settled f) (opened_there seed f (slope_at q b cfg.radius cx cy)) (opened_on seed f (ended_of e).tries (ended_of e).settled)) (run-same f)
 
-  finished-same : (overlap : List Float) (wanted : Bool) (f : PatchSaddle) (e : Finish) → finished ta overlap wanted f e ≡ finished tb overlap wanted f e
-  finished-same overlap wanted f (at_start n) =
-      ap (λ (s : Sloped). cond (settled f) (closed_at ta overlap wanted (window_place cx cy plus_zero plus_zero) f n s) (single ta f n)) (slope-same p q a b cfg.radius same cx cy)
-      ∙ ap (λ (e : Estimate). cond (settled f) e (single ta f n)) (closed_same overlap wanted (window_place cx cy plus_zero plus_zero) f n (slope_at q b cfg.radius cx cy))
-  finished-same overlap wanted f (at_stand s n) = refl
-
-  pub saddle-same : (overlap : List Float) (wanted : Bool) (s : Solved) → from_saddle ta overlap wanted s ≡ from_saddle tb overlap wanted s
+  saddle-same : (s : Result PatchSaddle Unsolved) → open_by ta seed s ≡ open_by tb seed s
   unfolding near_seed
-  saddle-same overlap wanted (Refused flaw d) = refl
-  saddle-same overlap wanted (Saddle f) =
-      ap (λ (e : Estimate). cond (near_seed ta f.ux f.uy) (Accepted e) (Unmoved Rejected f.det_h))
-      (ap (λ (e : Finish). finished ta overlap wanted f e) (run-same f) ∙ finished-same overlap wanted f (run_of tb f))
+  saddle-same (Err u) = refl
+  saddle-same (Ok f) = ap (λ (o : Opened). cond (near_seed ta f.ux f.uy) (Ok o) (Err (Unmoved Rejected f.det_h))) (opened-same f)
+
+  module _ (coefs : coefficients p a cfg.radius seed.centre_x seed.centre_y ≡ coefficients q b cfg.radius seed.centre_x seed.centre_y) where
+    pub open-same : open_of p cfg seed a ≡ open_of q cfg seed b
+    open-same = ap (λ (l : List Float). open_by ta seed (solve cfg l)) coefs ∙ saddle-same (solve cfg (coefficients q b cfg.radius seed.centre_x seed.centre_y))
+
+    pub refine-same : (overlap : List Float) (wanted : Bool) → refine_with p cfg seed wanted a overlap ≡ refine_with q cfg seed wanted b overlap
+    refine-same overlap wanted =
+        refined-opened p a cfg seed overlap wanted ∙ ap (answer_with overlap wanted) open-same ∙ sym (refined-opened q b cfg seed overlap wanted)
 
 -- ---- a fit reads the first columns of an operator and no more
 below : (n k i : ℕ) → k < n → i < 5 → 5 * k + i < 5 * n
@@ -166,60 +181,105 @@ module _ (img : Image) (a b : List Float) (radius : ℕ) (same : (k : ℕ) → k
   fit_same z w = ap (λ (f : Fit). cond (supports_patch img radius z w) f no_fit) (within_same z w)
 
 -- ---- an operator as it stands in the front of longer arrays
-abbrev is_built : Operator → Type 0
-is_built Answer.Built = Unit
-is_built Answer.Singular = ⊥
-is_built (Answer.Refused r) = ⊥
-
-abbrev pub is_singular : Operator → Type 0
-is_singular Answer.Built = ⊥
-is_singular Answer.Singular = Unit
-is_singular (Answer.Refused r) = ⊥
-
-abbrev refusal_in : Refusal → Operator → Refusal
-refusal_in d Answer.Built = d
-refusal_in d Answer.Singular = d
-refusal_in d (Answer.Refused r) = r
-
-abbrev is_bad : Operator → Type 0
-is_bad Answer.Built = ⊥
-is_bad Answer.Singular = ⊥
-is_bad (Answer.Refused r) = Unit
-
-module _ (img : Image) (cfg : SaddlePointConfig) (seed : Seed) (wanted : Bool) where
+module _ (img : Image) (cfg : SaddlePointConfig) (seed : Seed) where
   agree : (c rest : List Float) (n : ℕ) → length c ≡ n → (k : ℕ) → k < n → entry (c ++ rest) k ≡ entry c k
   agree c rest n e k h = get_or-append c rest nan k (subst (λ (m : ℕ). k < m) (sym e) h)
 
-  front : (c rest overlap : List Float) → length c ≡ 5 * samples cfg.radius → refine_with img cfg seed wanted (c ++ rest) overlap ≡ refine_with img cfg seed wanted c overlap
-  front c rest overlap e =
+  front : (c rest : List Float) → length c ≡ 5 * samples cfg.radius → open_of img cfg seed (c ++ rest) ≡ open_of img cfg seed c
+  front c rest e =
       let same = agree c rest (5 * samples cfg.radius) e in
-      ap (λ (l : List Float). from_saddle (task_at img (c ++ rest) cfg seed) overlap wanted (solve cfg l)) (coefficients-same img (c ++ rest) c cfg.radius same seed.centre_x seed.centre_y)
-      ∙ saddle-same img img (c ++ rest) c cfg (pos seed.centre_x) (pos seed.centre_y) seed.x seed.y (fit_same img (c ++ rest) c cfg.radius same) overlap wanted (solve cfg (coefficients img c cfg.radius seed.centre_x seed.centre_y))
+      open-same img img (c ++ rest) c cfg seed (fit_same img (c ++ rest) c cfg.radius same) (coefficients-same img (c ++ rest) c cfg.radius same seed.centre_x seed.centre_y)
 
-  by_way : (old overlap columns' overlap' : List Float) (w : Operator.Way) → ((c o : List Float) → w ≡ Operator.built c o → length c ≡ 5 * samples cfg.radius) → Operator.answer_of w ≡ Answer.Built → columns' ≡ Operator.columns_after cfg.radius old w → overlap' ≡ Operator.overlap_after overlap w → refine_with img cfg seed wanted columns' overlap' ≡ with_operator img cfg seed wanted w
-  by_way old overlap columns' overlap' (Operator.refused r) l b p q = absurd (subst is_built (sym b) tt)
-  by_way old overlap columns' overlap' Operator.none l b p q = absurd (subst is_built (sym b) tt)
-  by_way old overlap columns' overlap' (Operator.built c o) l b p q =
-      ap (λ (v : List Float). refine_with img cfg seed wanted v overlap') p
-      ∙ ap (λ (v : List Float). refine_with img cfg seed wanted (c ++ drop (5 * samples cfg.radius) old) v) q
-      ∙ front c (drop (5 * samples cfg.radius) old) o (l c o refl)
+  by_way : (old columns' : List Float) (w : Operator.Way) → ((c o : List Float) → w ≡ Operator.built c o → length c ≡ 5 * samples cfg.radius) → Operator.answer_of w ≡ Ok tt → columns' ≡ Operator.columns_after cfg.radius old w → open_of img cfg seed columns' ≡ open_with img cfg seed w
+  by_way old columns' (Operator.refused r) l b p = cc
+  by_way old columns' Operator.none l b p = cc
+  by_way old columns' (Operator.built c o) l b p = ap (open_of img cfg seed) p ∙ front c (drop (5 * samples cfg.radius) old) (l c o refl)
 
-  pub fresh-built : (old overlap columns' overlap' : List Float) (r : Operator) → Operator.Done cfg.radius old overlap r columns' overlap' → r ≡ Answer.Built → refine_with img cfg seed wanted columns' overlap' ≡ with_operator img cfg seed wanted (Operator.way_of cfg.radius)
-  fresh-built old overlap columns' overlap' r d e =
-      by_way old overlap columns' overlap' (Operator.way_of cfg.radius) (built-length cfg.radius) (sym d.answers ∙ e) d.leaves-columns d.leaves-overlap
+  pub opens_built : (old columns' : List Float) (r : Result Unit OperatorError) → Operator.ColumnsDone cfg.radius old r columns' → r ≡ Ok tt → open_of img cfg seed columns' ≡ open_with img cfg seed (Operator.way_of cfg.radius)
+  opens_built old columns' r d e = by_way old columns' (Operator.way_of cfg.radius) (built-length cfg.radius) (sym d.answers ∙ e) d.leaves
 
-  singular-way : (w : Operator.Way) → Operator.answer_of w ≡ Answer.Singular → Unmoved IllConditioned plus_zero ≡ with_operator img cfg seed wanted w
-  singular-way (Operator.refused r) e = absurd (subst is_singular (sym e) tt)
-  singular-way Operator.none e = refl
-  singular-way (Operator.built c o) e = absurd (subst is_singular (sym e) tt)
+  unbuilt-way : (w : Operator.Way) (e : OperatorError) → Operator.answer_of w ≡ Err e → Err (unbuilt e) ≡ open_with img cfg seed w
+  unbuilt-way (Operator.refused r) e h = let q : e ≡ OperatorError.Refused r = cc in ap (λ (v : OperatorError). Err (unbuilt v)) q
+  unbuilt-way Operator.none e h = let q : e ≡ OperatorError.Singular = cc in ap (λ (v : OperatorError). Err (unbuilt v)) q
+  unbuilt-way (Operator.built c o) e h = cc
 
-  pub fresh-singular : (old overlap columns' overlap' : List Float) (r : Operator) → Operator.Done cfg.radius old overlap r columns' overlap' → r ≡ Answer.Singular → Unmoved IllConditioned plus_zero ≡ with_operator img cfg seed wanted (Operator.way_of cfg.radius)
-  fresh-singular old overlap columns' overlap' r d e = singular-way (Operator.way_of cfg.radius) (sym d.answers ∙ e)
+  pub opens_unbuilt : (old columns' : List Float) (r : Result Unit OperatorError) (e : OperatorError) → Operator.ColumnsDone cfg.radius old r columns' → r ≡ Err e → Err (unbuilt e) ≡ open_with img cfg seed (Operator.way_of cfg.radius)
+  opens_unbuilt old columns' r e d h = unbuilt-way (Operator.way_of cfg.radius) e (sym d.answers ∙ h)
 
-  refused-way : (w : Operator.Way) (f : Refusal) → Operator.answer_of w ≡ Answer.Refused f → Refined.Refused f ≡ with_operator img cfg seed wanted w
-  refused-way (Operator.refused r) f e = ap Refined.Refused (sym (ap (refusal_in f) e))
-  refused-way Operator.none f e = absurd (subst is_bad (sym e) tt)
-  refused-way (Operator.built c o) f e = absurd (subst is_bad (sym e) tt)
+  -- its answer in two halves, over whatever stood where the overlaps go
+  in-halves : (old : List Float) (wanted : Bool) (w : Operator.Way) → with_operator img cfg seed wanted w ≡ answer_with (Operator.overlap_after old w) wanted (open_with img cfg seed w)
+  in-halves old wanted (Operator.refused r) = refl
+  in-halves old wanted Operator.none = refl
+  in-halves old wanted (Operator.built columns overlap) = refined-opened img columns cfg seed overlap wanted
 
-  pub fresh-refused : (old overlap columns' overlap' : List Float) (r : Operator) (f : Refusal) → Operator.Done cfg.radius old overlap r columns' overlap' → r ≡ Answer.Refused f → Refined.Refused f ≡ with_operator img cfg seed wanted (Operator.way_of cfg.radius)
-  fresh-refused old overlap columns' overlap' r f d e = refused-way (Operator.way_of cfg.radius) f (sym d.answers ∙ e)
+  module _ (wanted : Bool) where
+    abbrev way : Operator.Way
+    way = Operator.way_of cfg.radius
+
+    pub fresh-built : (old overlap columns' overlap' : List Float) (r : Result Unit OperatorError) → Operator.Done cfg.radius old overlap r columns' overlap' → r ≡ Ok tt → refine_with img cfg seed wanted columns' overlap' ≡ with_operator img cfg seed wanted way
+    fresh-built old overlap columns' overlap' r d e =
+        refined-opened img columns' cfg seed overlap' wanted
+        ∙ ap (answer_with overlap' wanted) (opens_built old columns' r (record { answers = d.answers; leaves = d.leaves-columns }) e)
+        ∙ ap (λ (o : List Float). answer_with o wanted (open_with img cfg seed way)) d.leaves-overlap
+        ∙ sym (in-halves overlap wanted way)
+
+    -- a seed that is answered without overlaps
+    pub fresh_err : (e : Unrefined) → open_with img cfg seed way ≡ Err e → Err e ≡ with_operator img cfg seed wanted way
+    fresh_err e h = sym (in-halves [] wanted way ∙ ap (answer_with (Operator.overlap_after [] way) wanted) h)
+
+    pub fresh_unbuilt : (old overlap columns' overlap' : List Float) (r : Result Unit OperatorError) (e : OperatorError) → Operator.Done cfg.radius old overlap r columns' overlap' → r ≡ Err e → Err (unbuilt e) ≡ with_operator img cfg seed wanted way
+    fresh_unbuilt old overlap columns' overlap' r e d h = fresh_err (unbuilt e) (sym (opens_unbuilt old columns' r e (record { answers = d.answers; leaves = d.leaves-columns }) h))
+
+    -- one that is not: with the overlaps where a covariance is wanted
+    pub fresh_wanted : (o : Opened) (before after : List Float) (q : Result Unit OperatorError) → open_with img cfg seed way ≡ Ok o → Operator.OverlapDone cfg.radius before q after → Ok (closed_with after wanted o) ≡ with_operator img cfg seed wanted way
+    fresh_wanted o before after q h d =
+        ap (λ (v : List Float). Ok (closed_with v wanted o)) d.leaves ∙ sym (in-halves before wanted way ∙ ap (answer_with (Operator.overlap_after before way) wanted) h)
+
+    pub fresh_unwanted : (o : Opened) (overlap : List Float) → open_with img cfg seed way ≡ Ok o → wanted ≡ false → Ok (closed_with overlap wanted o) ≡ with_operator img cfg seed wanted way
+    fresh_unwanted o overlap h e =
+        ap (λ (v : Option Covariance). Ok (closed_as o.estimate v)) (unread o.noise)
+        ∙ sym (in-halves [] wanted way ∙ ap (answer_with (Operator.overlap_after [] way) wanted) h)
+      where
+        closed_as : Estimate → Option Covariance → Estimate
+        closed_as k v = record { x = k.x; y = k.y; score = k.score; converged = k.converged; tries = k.tries; covariance = v }
+
+        unread : (n : Option Noise) → covariance_with overlap wanted n ≡ covariance_with (Operator.overlap_after [] way) wanted n
+        unread None = refl
+        unread (Some w) =
+            no wanted (covariance_of overlap w.tx w.ty (saddle_jacobian w.fit) w.moves) None e
+            ∙ sym (no wanted (covariance_of (Operator.overlap_after [] way) w.tx w.ty (saddle_jacobian w.fit) w.moves) None e)
+
+-- ---- the two calls
+module _ (img : Image) (cfg : SaddlePointConfig) (x y : Float) (wanted : Bool) where
+  pub own_refused : (r : Refusal) → Err r ≡ passing img → refine_of img cfg x y wanted ≡ Err (Refused r)
+  own_refused r h = sym (own_answer img cfg x y wanted (Err (Refused r)) (not_passing img cfg x y r (sym h)))
+
+  pub own_unadmitted : (e : Unrefined) → Err e ≡ admit_of img cfg x y → refine_of img cfg x y wanted ≡ Err e
+  own_unadmitted e h = sym (own_answer img cfg x y wanted (Err e) h)
+
+  module _ (seed : Seed) (h : Ok seed ≡ admit_of img cfg x y) where
+    pub own_unopened : (e : Unrefined) → Err e ≡ open_with img cfg seed (Operator.way_of cfg.radius) → refine_of img cfg x y wanted ≡ Err e
+    own_unopened e k = sym (fresh_err img cfg seed wanted e (sym k) ∙ own_answer img cfg x y wanted (Ok seed) h)
+
+    pub own_closed : (o : Opened) (r : Refined) → Ok o ≡ open_with img cfg seed (Operator.way_of cfg.radius) → ClosesFresh cfg wanted o r → r ≡ refine_of img cfg x y wanted
+    own_closed o r k c = c.is img seed (sym k) ∙ own_answer img cfg x y wanted (Ok seed) h
+
+  module _ (columns overlap : List Float) where
+    pub lent_refused : (r : Refusal) → Err r ≡ passing img → refine_lent img cfg x y wanted columns overlap ≡ Err (Refused r)
+    lent_refused r h = sym (lent_answer img cfg x y wanted columns overlap (Err (Refused r)) (not_passing img cfg x y r (sym h)))
+
+    pub lent_unadmitted : (e : Unrefined) → Err e ≡ admit_of img cfg x y → refine_lent img cfg x y wanted columns overlap ≡ Err e
+    lent_unadmitted e h = sym (lent_answer img cfg x y wanted columns overlap (Err e) h)
+
+    module _ (seed : Seed) (h : Ok seed ≡ admit_of img cfg x y) where
+      pub lent_none : cfg.radius ≡ 0 → Err (unmoved IllConditioned) ≡ refine_lent img cfg x y wanted columns overlap
+      lent_none z = lent_zero cfg (refine_with img cfg seed wanted columns overlap) z ∙ lent_answer img cfg x y wanted columns overlap (Ok seed) h
+
+      lent_opened : (cfg.radius ≡ 0 → ⊥) → answer_with overlap wanted (open_of img cfg seed columns) ≡ refine_lent img cfg x y wanted columns overlap
+      lent_opened z = sym (refined-opened img columns cfg seed overlap wanted) ∙ lent_other cfg (refine_with img cfg seed wanted columns overlap) z ∙ lent_answer img cfg x y wanted columns overlap (Ok seed) h
+
+      pub lent_unopened : (cfg.radius ≡ 0 → ⊥) → (e : Unrefined) → Err e ≡ open_of img cfg seed columns → refine_lent img cfg x y wanted columns overlap ≡ Err e
+      lent_unopened z e k = sym (ap (answer_with overlap wanted) k ∙ lent_opened z)
+
+      pub lent_closed : (cfg.radius ≡ 0 → ⊥) → (o : Opened) (r : Estimate) → Ok o ≡ open_of img cfg seed columns → r ≡ closed_with overlap wanted o → Ok r ≡ refine_lent img cfg x y wanted columns overlap
+      lent_closed z o r k e = ap Ok e ∙ ap (answer_with overlap wanted) k ∙ lent_opened z

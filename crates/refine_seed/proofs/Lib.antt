@@ -4,7 +4,6 @@ pub mod ClosingLaws
 pub mod EntryLaws
 pub mod NumberLaws
 pub mod ColumnLaws
-pub mod OpenLaws
 pub mod SpotLaws
 pub mod LentLaws
 pub mod Theorems

@@ -8,6 +8,7 @@ use native.Mathlib.Omega.{arith}
 use lib.Dec.{leb, ltb}
 use lib.IntN.{pos, negsuc}
 use lib.Ieee.{Float, binary32, of_int}
+use Rattle.std.specs.Prelude.{Result, Ok, Err}
 use borrow.Author.Tests.{leb-true, ltb-true}
 use Rattle.shapes.specs.Numbers.{plus_zero, entry}
 use Rattle.shapes.proofs.ListLaws.{tabulated-cong}
@@ -22,15 +23,12 @@ use Rattle.refine_operator.specs.Call as Operator
 use Rattle.refine_formulas.specs.declared.SaddlePointConfig.{SaddlePointConfig}
 use Rattle.refine_formulas.specs.Numbers.{◌⊕◌, ◌⊖◌, ◌⊗◌}
 use Rattle.refine_fits.specs.Fit.{sample_of, coefficient, coefficients, no_fit, fitted, fit_at}
-use Rattle.refine_formulas.specs.Solve.{solve}
-use Rattle.refine_fits.specs.Candidate.{task_at}
 use Rattle.refine_fits.specs.declared.Seed.{Seed}
 use Rattle.refine_fits.specs.StepsAdding.{PatchWithin}
-use Rattle.refine_seed.specs.declared.Refined.{Refined}
-use Rattle.refine_seed.specs.declared.Admitted.{Admitted}
-use Rattle.refine_seed.specs.Refine.{good_limits, is_place, centre_of, seed_of, admit_of, answered, from_saddle, refine_with, with_operator, lent_with, refine_of, refine_lent}
+use Rattle.refine_seed.specs.declared.Unrefined.{Unrefined}
+use Rattle.refine_seed.specs.Refine.{Refined, good_limits, is_place, centre_of, seed_of, admit_of, answered, refine_with, with_operator, lent_with, refine_of, refine_lent}
 use Rattle.refine_seed.specs.Alone.{ByPixels, LentByPixels, Unpadded, LentUnpadded}
-use Rattle.refine_seed.proofs.ColumnLaws.{SameFits, saddle-same}
+use Rattle.refine_seed.proofs.ColumnLaws.{SameFits, refine-same}
 use Rattle.refine_seed.proofs.EntryLaws.{chosen, good-within}
 
 -- ---- two images of one size with the same pixels
@@ -90,8 +88,7 @@ module _ (a b : Image) (s : SamePixels a b) where
   module _ (cfg : SaddlePointConfig) (x y : Float) (wanted : Bool) where
     with-same : (seed : Seed) → PatchWithin a cfg.radius seed.centre_x seed.centre_y → (columns overlap : List Float) → refine_with a cfg seed wanted columns overlap ≡ refine_with c cfg seed wanted columns overlap
     with-same seed w columns overlap =
-        ap (λ (f : List Float). from_saddle (task_at a columns cfg seed) overlap wanted (solve cfg f)) (coefficients-same a c same cfg.radius seed.centre_x seed.centre_y w.left w.right w.above w.below columns)
-        ∙ saddle-same a c columns columns cfg (pos seed.centre_x) (pos seed.centre_y) seed.x seed.y (fit_same columns cfg.radius) overlap wanted (solve cfg (coefficients c columns cfg.radius seed.centre_x seed.centre_y))
+        refine-same a c columns columns cfg seed (fit_same columns cfg.radius) (coefficients-same a c same cfg.radius seed.centre_x seed.centre_y w.left w.right w.above w.below columns) overlap wanted
 
     own_same : (seed : Seed) → PatchWithin a cfg.radius seed.centre_x seed.centre_y → (w : Operator.Way) → with_operator a cfg seed wanted w ≡ with_operator c cfg seed wanted w
     own_same seed h (Operator.refused r) = refl
@@ -105,26 +102,25 @@ module _ (a b : Image) (s : SamePixels a b) where
         ap (λ (i : Bool). chosen i (in_range a) (leb cfg.radius 7) (good_limits cfg) (is_place x y) supports (seed_of x y)) (alike a b s)
         ∙ ap (λ (g : Bool). chosen (is_image c) g (leb cfg.radius 7) (good_limits cfg) (is_place x y) supports (seed_of x y)) (in-range a b s)
 
-    by_answer : (go stay : Seed → Refined) → ((seed : Seed) → PatchWithin a cfg.radius seed.centre_x seed.centre_y → go seed ≡ stay seed) → (d : Admitted) → admit_of a cfg x y ≡ d → answered d go ≡ answered d stay
-    by_answer go stay h (Admitted.Good seed) e = h seed (good-within a cfg x y seed e)
-    by_answer go stay h (Admitted.Unmoved why) e = refl
-    by_answer go stay h (Admitted.Refused r) e = refl
+    by_answer : (go stay : Seed → Refined) → ((seed : Seed) → PatchWithin a cfg.radius seed.centre_x seed.centre_y → go seed ≡ stay seed) → (d : Result Seed Unrefined) → admit_of a cfg x y ≡ d → answered d go ≡ answered d stay
+    by_answer go stay h (Ok seed) e = h seed (good-within a cfg x y seed e)
+    by_answer go stay h (Err u) e = refl
 
-    pub refine-same : refine_of a cfg x y wanted ≡ refine_of c cfg x y wanted
+    pub own_refined : refine_of a cfg x y wanted ≡ refine_of c cfg x y wanted
     unfolding refine_of
-    refine-same =
+    own_refined =
         by_answer (λ seed. with_operator a cfg seed wanted (Operator.way_of cfg.radius)) (λ seed. with_operator c cfg seed wanted (Operator.way_of cfg.radius)) (λ seed h. own_same seed h (Operator.way_of cfg.radius)) (admit_of a cfg x y) refl
-        ∙ ap (λ (d : Admitted). answered d (λ seed. with_operator c cfg seed wanted (Operator.way_of cfg.radius))) admitted
+        ∙ ap (λ (d : Result Seed Unrefined). answered d (λ seed. with_operator c cfg seed wanted (Operator.way_of cfg.radius))) admitted
 
     pub lent_same : (columns overlap : List Float) → refine_lent a cfg x y wanted columns overlap ≡ refine_lent c cfg x y wanted columns overlap
     unfolding refine_lent
     lent_same columns overlap =
         by_answer (λ seed. lent_with cfg (refine_with a cfg seed wanted columns overlap)) (λ seed. lent_with cfg (refine_with c cfg seed wanted columns overlap)) (λ seed h. ap (lent_with cfg) (with-same seed h columns overlap)) (admit_of a cfg x y) refl
-        ∙ ap (λ (d : Admitted). answered d (λ seed. lent_with cfg (refine_with c cfg seed wanted columns overlap))) admitted
+        ∙ ap (λ (d : Result Seed Unrefined). answered d (λ seed. lent_with cfg (refine_with c cfg seed wanted columns overlap))) admitted
 
 -- ---- of any two images that show the same
 pub by-pixels : ByPixels
-by-pixels a b s cfg x y wanted = refine-same a b s cfg x y wanted ∙ ap (λ (v : Image). refine_of v cfg x y wanted) (sized-is a b s)
+by-pixels a b s cfg x y wanted = own_refined a b s cfg x y wanted ∙ ap (λ (v : Image). refine_of v cfg x y wanted) (sized-is a b s)
 
 pub lent-by-pixels : LentByPixels
 lent-by-pixels a b s cfg x y wanted columns overlap = lent_same a b s cfg x y wanted columns overlap ∙ ap (λ (v : Image). refine_lent v cfg x y wanted columns overlap) (sized-is a b s)

@@ -1,34 +1,26 @@
--- Laws of the steps: how the estimate from within a step goes on after a candidate, and what the ways out give.
+-- Laws of the steps: how the end from within a step goes on after a candidate, and how it goes on to the next step.
 use mathlib.Core.Path.{◌≡◌, refl, sym, ap, ◌∙◌, subst}
 use mathlib.Core.Bool.{Bool, true, false, cond}
 use mathlib.Core.List.{List}
-use Prim.Native.Nat.{ℕ, zero, suc, ◌+◌, ◌-◌, ◌<◌}
+use Prim.Native.Nat.{ℕ, zero, suc, ◌+◌, ◌-◌, ◌*◌, ◌≤◌, ◌<◌}
 use native.Mathlib.Nat.{zero-add, add-zero}
 use native.Mathlib.Omega.{arith}
-use lib.ListN.{length}
 use lib.Ieee.{Float}
+use Rattle.std.specs.Prelude.{Option, Some, None}
 use Rattle.shapes.specs.Numbers.{plus_zero, one}
 use Rattle.refine_formulas.specs.declared.PatchSaddle.{PatchSaddle}
 use Rattle.refine_formulas.specs.declared.Move.{Move}
 use Rattle.refine_formulas.specs.declared.Corners.{Corners}
-use Rattle.refine_seed.specs.declared.Estimate.{Estimate}
 use Rattle.refine_formulas.specs.Numbers.{◌⊕◌, ◌⊗◌, half}
-use Rattle.refine_fits.specs.Windows.{window_place}
-use Rattle.refine_formulas.specs.Sensitivity.{slope_within, saddle_jacobian, sensitivity, newton_step}
-use Rattle.refine_seed.specs.PixelSlope.{slope_at}
-use Rattle.refine_fits.specs.Candidate.{Task, Stand, Tried, passed, taken, candidate}
-use Rattle.refine_seed.specs.Run.{Finish, at_start, at_stand, picked, or_else, later_move, search_from, steps_from, run_of}
 use Rattle.refine_formulas.specs.Solve.{settled}
-use Rattle.refine_fits.specs.StepsTries.{window_of, Tries}
-use Rattle.refine_seed.specs.Refine.{single, closed, closed_at, finished}
-use Rattle.refine_seed.specs.declared.Ended.{Ended}
-use Rattle.refine_fits.specs.declared.Weighed.{Weighed}
 use Rattle.refine_fits.specs.declared.Window.{Window}
-use Rattle.refine_fits.specs.declared.IntegerFits.{IntegerFits}
-use Rattle.refine_fits.specs.declared.Bases.{Bases}
-use Rattle.refine_fits.specs.StepsBases.{Held, NoBases}
-use Rattle.refine_fits.specs.StepsCache.{Shaped, Kept, Fresh}
-use Rattle.refine_seed.specs.StepsEnding.{onward, from, Going, Ends}
+use Rattle.refine_fits.specs.Windows.{window_place}
+use Rattle.refine_fits.specs.StepsTries.{window_of, Tries}
+use Rattle.refine_fits.specs.Candidate.{Task, Stand, Tried, passed, taken, candidate}
+use Rattle.refine_seed.specs.declared.Ended.{Ended}
+use Rattle.refine_seed.specs.declared.Taken.{Taken}
+use Rattle.refine_seed.specs.Run.{Finish, at_start, at_stand, picked, or_else, later_move, search_from, steps_from, run_of}
+use Rattle.refine_seed.specs.StepsEnding.{taken_at, taken_of, next_move, ended_of, onward, from_candidate, from_step}
 
 pub no : {A : Type 0} (b : Bool) (x y : A) → b ≡ false → cond b x y ≡ y
 no b x y h = ap (λ (c : Bool). cond c x y) h
@@ -36,186 +28,137 @@ no b x y h = ap (λ (c : Bool). cond c x y) h
 pub yes : {A : Type 0} (b : Bool) (x y : A) → b ≡ true → cond b x y ≡ x
 yes b x y h = ap (λ (c : Bool). cond c x y) h
 
+abbrev none_after : ℕ → Ended
+none_after n = record { tries = n; settled = None }
+
 more : (n k : ℕ) → n + (k + 1) ≡ n + 1 + k
 more n k = omega arith
 
-module _ (t : Task) (first : PatchSaddle) (overlap : List Float) (wanted : Bool) where
-  abbrev end : Finish → Estimate
-  end x = finished t overlap wanted first x
+module _ (t : Task) where
+  stand-none : (s : Stand) (n : ℕ) → settled s.fit ≡ false → ended_of (at_stand s n) ≡ none_after n
+  stand-none s n h = ap (λ (b : Bool). ended_with b) h
+    where
+      ended_with : Bool → Ended
+      ended_with b = record { tries = n; settled = cond b (Some (taken_at s)) None }
 
-  -- a run that does not settle ends with the first fit
-  unsettled-start : (n : ℕ) → settled first ≡ false → end (at_start n) ≡ single t first n
-  unsettled-start n h = no (settled first) (closed_at t overlap wanted (window_place t.centre_x t.centre_y plus_zero plus_zero) first n (slope_at t.img t.columns t.cfg.radius t.centre_x t.centre_y)) (single t first n) h
-
-  unsettled-stand : (s : Stand) (n : ℕ) → settled s.fit ≡ false → end (at_stand s n) ≡ single t first n
-  unsettled-stand s n h = no (settled s.fit) (closed t overlap wanted s.ox s.oy s.place s.fit n (slope_within s.corners s.place.tx s.place.ty)) (single t first n) h
-
-  settled-stand : (s : Stand) (n : ℕ) → settled s.fit ≡ true → end (at_stand s n) ≡ closed t overlap wanted s.ox s.oy s.place s.fit n (slope_within s.corners s.place.tx s.place.ty)
-  settled-stand s n h = yes (settled s.fit) (closed t overlap wanted s.ox s.oy s.place s.fit n (slope_within s.corners s.place.tx s.place.ty)) (single t first n) h
+  stand-some : (s : Stand) (n : ℕ) → settled s.fit ≡ true → ended_of (at_stand s n) ≡ record { tries = n; settled = Some (taken_at s) }
+  stand-some s n h = ap (λ (b : Bool). ended_with b) h
+    where
+      ended_with : Bool → Ended
+      ended_with b = record { tries = n; settled = cond b (Some (taken_at s)) None }
 
   -- what is picked, seen from the end
-  through : (o : Tried) (go : Stand → Finish) (stay : Finish) (e : Estimate) → end stay ≡ e → end (picked o go stay) ≡ onward o (λ s. end (go s)) e
-  through passed go stay e h = h
-  through (taken s) go stay e h = refl
+  through : (o : Tried) (go : Stand → Finish) (stay : Finish) (n : ℕ) → ended_of stay ≡ none_after n → ended_of (picked o go stay) ≡ onward o (λ s. ended_of (go s)) n
+  through passed go stay n h = h
+  through (taken s) go stay n h = refl
 
   -- ---- into a step
-  pub first_step : settled first ≡ false → end (run_of t first) ≡ from t first overlap wanted 15 4 first plus_zero plus_zero (record { x = first.ux; y = first.uy }) one 0
+  pub first_step : (first : PatchSaddle) → settled first ≡ false → ended_of (run_of t first) ≡ from_step t 16 first plus_zero plus_zero (record { x = first.ux; y = first.uy }) 0
   unfolding run_of
-  first_step h =
+  first_step first h =
       let r = search_from 4 t first plus_zero plus_zero (record { x = first.ux; y = first.uy }) one in
-      ap end (no (settled first) (at_start 0) (picked r.outcome (λ s. steps_from 15 t s r.count) (at_start r.count)) h)
-      ∙ through r.outcome (λ s. steps_from 15 t s r.count) (at_start r.count) (single t first r.count) (unsettled-start r.count h)
-      ∙ ap (λ (n : ℕ). onward r.outcome (λ s. end (steps_from 15 t s n)) (single t first n)) (sym (zero-add r.count))
+      ap ended_of (no (settled first) (at_start 0) (picked r.outcome (λ s. steps_from 15 t s r.count) (at_start r.count)) h)
+      ∙ through r.outcome (λ s. steps_from 15 t s r.count) (at_start r.count) r.count refl
+      ∙ ap (λ (n : ℕ). onward r.outcome (λ s. ended_of (steps_from 15 t s n)) n) (sym (zero-add r.count))
 
-  pub next-step : (left n : ℕ) (s : Stand) → settled s.fit ≡ false → end (steps_from (suc left) t s n) ≡ from t first overlap wanted left 4 s.fit s.ox s.oy (later_move s) one n
+  pub next_step : (left n : ℕ) (s : Stand) → settled s.fit ≡ false → ended_of (steps_from left t s n) ≡ from_step t left s.fit s.ox s.oy (later_move s) n
   unfolding steps_from
-  next-step left n s h =
+  next_step zero n s h = stand-none s n h
+  next_step (suc left) n s h =
       let r = search_from 4 t s.fit s.ox s.oy (later_move s) one in
-      ap end (no (settled s.fit) (at_stand s n) (picked r.outcome (λ s'. steps_from left t s' (n + r.count)) (at_stand s (n + r.count))) h)
-      ∙ through r.outcome (λ s'. steps_from left t s' (n + r.count)) (at_stand s (n + r.count)) (single t first (n + r.count)) (unsettled-stand s (n + r.count) h)
+      ap ended_of (no (settled s.fit) (at_stand s n) (picked r.outcome (λ s'. steps_from left t s' (n + r.count)) (at_stand s (n + r.count))) h)
+      ∙ through r.outcome (λ s'. steps_from left t s' (n + r.count)) (at_stand s (n + r.count)) (n + r.count) (stand-none s (n + r.count) h)
+
+  pub settles : (left n : ℕ) (s : Stand) → settled s.fit ≡ true → ended_of (steps_from left t s n) ≡ record { tries = n; settled = Some (taken_at s) }
+  unfolding steps_from
+  settles zero n s h = stand-some s n h
+  settles (suc left) n s h =
+      let r = search_from 4 t s.fit s.ox s.oy (later_move s) one in
+      ap ended_of (yes (settled s.fit) (at_stand s n) (picked r.outcome (λ s'. steps_from left t s' (n + r.count)) (at_stand s (n + r.count))) h) ∙ stand-some s n h
 
   -- ---- a candidate
   module _ (left halvings n : ℕ) (f : PatchSaddle) (ox oy : Float) (m : Move) (scale : Float) where
-    pub pass : candidate t f (ox ⊕ scale ⊗ m.x) (oy ⊕ scale ⊗ m.y) ≡ passed → from t first overlap wanted left (suc halvings) f ox oy m scale n ≡ from t first overlap wanted left halvings f ox oy m (scale ⊗ half) (n + 1)
+    pub pass : candidate t f (ox ⊕ scale ⊗ m.x) (oy ⊕ scale ⊗ m.y) ≡ passed → from_candidate t left (suc halvings) f ox oy m scale n ≡ from_candidate t left halvings f ox oy m (scale ⊗ half) (n + 1)
     unfolding search_from
     pass h =
         let rest = search_from halvings t f ox oy m (scale ⊗ half) in
-        ap (λ (o : Tried). onward (or_else o rest).outcome (λ s. end (steps_from left t s (n + (or_else o rest).count))) (single t first (n + (or_else o rest).count))) h
-        ∙ ap (λ (k : ℕ). onward rest.outcome (λ s. end (steps_from left t s k)) (single t first k)) (more n rest.count)
+        ap (λ (o : Tried). onward (or_else o rest).outcome (λ s. ended_of (steps_from left t s (n + (or_else o rest).count))) (n + (or_else o rest).count)) h
+        ∙ ap (λ (k : ℕ). onward rest.outcome (λ s. ended_of (steps_from left t s k)) k) (more n rest.count)
 
-    pub take : (s : Stand) → candidate t f (ox ⊕ scale ⊗ m.x) (oy ⊕ scale ⊗ m.y) ≡ taken s → from t first overlap wanted left (suc halvings) f ox oy m scale n ≡ end (steps_from left t s (n + 1))
+    pub take : (s : Stand) → candidate t f (ox ⊕ scale ⊗ m.x) (oy ⊕ scale ⊗ m.y) ≡ taken s → from_candidate t left (suc halvings) f ox oy m scale n ≡ ended_of (steps_from left t s (n + 1))
     unfolding search_from
     take s h =
         let rest = search_from halvings t f ox oy m (scale ⊗ half) in
-        ap (λ (o : Tried). onward (or_else o rest).outcome (λ s'. end (steps_from left t s' (n + (or_else o rest).count))) (single t first (n + (or_else o rest).count))) h
+        ap (λ (o : Tried). onward (or_else o rest).outcome (λ s'. ended_of (steps_from left t s' (n + (or_else o rest).count))) (n + (or_else o rest).count)) h
 
-    pub no_more : from t first overlap wanted left 0 f ox oy m scale n ≡ single t first n
+    pub no_more : from_candidate t left 0 f ox oy m scale n ≡ none_after n
     unfolding search_from
-    no_more = ap (λ (k : ℕ). single t first k) (add-zero n)
+    no_more = ap none_after (add-zero n)
 
-  -- ---- the ways out at a window
-  pub settles : (left n : ℕ) (s : Stand) → settled s.fit ≡ true → end (steps_from left t s n) ≡ closed t overlap wanted s.ox s.oy s.place s.fit n (slope_within s.corners s.place.tx s.place.ty)
-  unfolding steps_from
-  settles zero n s h = settled-stand s n h
-  settles (suc left) n s h =
-      let r = search_from 4 t s.fit s.ox s.oy (later_move s) one in
-      ap end (yes (settled s.fit) (at_stand s n) (picked r.outcome (λ s'. steps_from left t s' (n + r.count)) (at_stand s (n + r.count))) h) ∙ settled-stand s n h
+-- ---- the loops
+-- a candidate as the code has it
+pub was_passed : (o : Tried) → None ≡ taken_of o → o ≡ passed
+was_passed passed h = refl
+was_passed (taken s) h = cc
 
-  pub last_step : (n : ℕ) (s : Stand) → settled s.fit ≡ false → end (steps_from 0 t s n) ≡ single t first n
-  unfolding steps_from
-  last_step n s h = unsettled-stand s n h
+record Took (o : Tried) (v : Taken) : Type 0 where
+  pub stand : Stand
+  pub is : o ≡ taken stand
+  pub same : v ≡ taken_at stand
 
--- ---- the loop
-abbrev pub differs : Bool → Type 0
-differs true = Unit
-differs false = ⊥
+was-taken : (o : Tried) (v : Taken) → Some v ≡ taken_of o → Took o v
+was-taken passed v h = cc
+was-taken (taken s) v h = record { stand = s; is = refl; same = cc }
 
-module _ (t : Task) (first : PatchSaddle) where
-  pub starts : (fits : IntegerFits) (bases : Bases) (flat : List Float) → settled first ≡ false → Fresh fits → NoBases bases → length flat ≡ 40 → Going t first fits bases flat first plus_zero plus_zero (record { x = first.ux; y = first.uy }) one 4 15 0
-  starts fits bases flat h f b l = record { kept = f.kept t.img t.columns t.cfg.radius; held = b.held t.img t.columns t.cfg.radius flat l; most = omega arith; is = λ overlap wanted. first_step t first overlap wanted h }
+one-down : (k : ℕ) → k < 4 → 4 - k ≡ suc (4 - (k + 1))
+one-down k h = omega arith
 
-  -- a run that does not settle
-  pub unsettled : (r : Ended) → r.settled ≡ false → ((overlap : List Float) (wanted : Bool) → finished t overlap wanted first (run_of t first) ≡ single t first r.tries) → Ends t first r
-  unsettled r h e =
-      record {
-        is = λ overlap wanted. e overlap wanted ∙ sym (no r.settled (closed t overlap wanted r.ox r.oy (window_place t.centre_x t.centre_y r.ox r.oy) r.fit r.tries (slope_within r.corners r.tx r.ty)) (single t first r.tries) h);
-        tx = λ g. absurd (subst differs (sym g ∙ h) tt);
-        ty = λ g. absurd (subst differs (sym g ∙ h) tt);
-      }
+module _ (t : Task) (run : Ended) (left k n : ℕ) (f : PatchSaddle) (ox oy : Float) (m : Move) (scale : Float) (is : run ≡ from_candidate t left (4 - k) f ox oy m scale n) (below : k < 4) where
+  abbrev tried : Tried
+  tried = candidate t f (ox ⊕ scale ⊗ m.x) (oy ⊕ scale ⊗ m.y)
 
-  module _ (fits : IntegerFits) (bases : Bases) (flat : List Float) (f : PatchSaddle) (ox oy : Float) (m : Move) (scale : Float) (halvings left n : ℕ) where
-    pub runs-out : Going t first fits bases flat f ox oy m scale halvings left n → halvings ≡ 0 → (overlap : List Float) (wanted : Bool) → finished t overlap wanted first (run_of t first) ≡ single t first n
-    runs-out g h overlap wanted =
-        g.is overlap wanted
-        ∙ ap (λ (k : ℕ). from t first overlap wanted left k f ox oy m scale n) h
-        ∙ no_more t first overlap wanted left 0 n f ox oy m scale
+  from-here : run ≡ from_candidate t left (suc (4 - (k + 1))) f ox oy m scale n
+  from-here = is ∙ ap (λ (h : ℕ). from_candidate t left h f ox oy m scale n) (one-down k below)
 
-    module _ (c : Weighed) (window : Window) (corners : Corners) (placed : window ≡ window_of (window_place t.centre_x t.centre_y (ox ⊕ scale ⊗ m.x) (oy ⊕ scale ⊗ m.y))) (tried : Tries t f (ox ⊕ scale ⊗ m.x) (oy ⊕ scale ⊗ m.y) corners c) where
-      abbrev nx : Float
-      nx = ox ⊕ scale ⊗ m.x
+  pub goes_half : None ≡ taken_of tried → run ≡ from_candidate t left (4 - (k + 1)) f ox oy m (scale ⊗ half) (n + 1)
+  goes_half h = from-here ∙ pass t left (4 - (k + 1)) n f ox oy m scale (was_passed tried h)
 
-      abbrev ny : Float
-      ny = oy ⊕ scale ⊗ m.y
+  module _ (v : Taken) (h : Some v ≡ taken_of tried) where
+    abbrev took : Took tried v
+    took = was-taken tried v h
 
-      abbrev stand : Stand
-      stand = record { ox = nx; oy = ny; place = window_place t.centre_x t.centre_y nx ny; corners = corners; fit = c.fit }
+    at_stand_of : run ≡ ended_of (steps_from left t took.stand (n + 1))
+    at_stand_of = from-here ∙ take t left (4 - (k + 1)) n f ox oy m scale took.stand took.is
 
-      not_taken : c.taken ≡ false → candidate t f nx ny ≡ passed
-      not_taken h = tried.is ∙ no c.taken (taken stand) passed h
+    pub goes_on : (by : Move) (rest : ℕ) → settled v.fit ≡ false → by ≡ next_move v → left ≡ rest → run ≡ from_step t rest v.fit v.ox v.oy by (n + 1)
+    goes_on by rest g e r =
+        let s = took.stand in
+        let q : settled s.fit ≡ false = ap (λ (w : Taken). settled w.fit) (sym took.same) ∙ g in
+        at_stand_of
+        ∙ next_step t left (n + 1) s q
+        ∙ ap (λ (w : Taken). from_step t left w.fit w.ox w.oy (next_move w) (n + 1)) (sym took.same)
+        ∙ ap (λ (w : Move). from_step t left v.fit v.ox v.oy w (n + 1)) (sym e)
+        ∙ ap (λ (j : ℕ). from_step t j v.fit v.ox v.oy by (n + 1)) r
 
-      is-taken : c.taken ≡ true → candidate t f nx ny ≡ taken stand
-      is-taken h = tried.is ∙ yes c.taken (taken stand) passed h
+    pub ends_there : settled v.fit ≡ true → record { tries = n + 1; settled = Some v } ≡ run
+    ends_there g =
+        let s = took.stand in
+        let q : settled s.fit ≡ true = ap (λ (w : Taken). settled w.fit) (sym took.same) ∙ g in
+        sym (at_stand_of ∙ settles t left (n + 1) s q ∙ ap some_after (sym took.same))
+      where
+        some_after : Taken → Ended
+        some_after w = record { tries = n + 1; settled = Some w }
 
-      window-tx : window.tx ≡ stand.place.tx
-      window-tx = ap (λ (w : Window). w.tx) placed
+pub ends-unsettled : (t : Task) (run : Ended) (left k n : ℕ) (f : PatchSaddle) (ox oy : Float) (m : Move) (scale : Float) → run ≡ from_candidate t left (4 - k) f ox oy m scale n → 4 ≤ k → record { tries = n; settled = None } ≡ run
+ends-unsettled t run left k n f ox oy m scale is h = sym (is ∙ ap (λ (j : ℕ). from_candidate t left j f ox oy m scale n) (let e : 4 - k ≡ 0 = omega arith in e) ∙ no_more t left 0 n f ox oy m scale)
 
-      window-ty : window.ty ≡ stand.place.ty
-      window-ty = ap (λ (w : Window). w.ty) placed
+-- ---- a candidate, from how it was weighed
+module _ (t : Task) (f : PatchSaddle) (ox oy : Float) (c : Corners) (w : Window) (placed : w ≡ window_of (window_place t.centre_x t.centre_y ox oy)) where
+  pub weighed_none : Tries t f ox oy c None → None ≡ taken_of (candidate t f ox oy)
+  weighed_none h = sym (ap taken_of h.is)
 
-      one_down : (overlap : List Float) (wanted : Bool) → 0 < halvings → from t first overlap wanted left halvings f ox oy m scale n ≡ from t first overlap wanted left (suc (halvings - 1)) f ox oy m scale n
-      one_down overlap wanted h = ap (λ (k : ℕ). from t first overlap wanted left k f ox oy m scale n) (let e : halvings ≡ suc (halvings - 1) = omega arith in e)
-
-      at-stand : Going t first fits bases flat f ox oy m scale halvings left n → 0 < halvings → c.taken ≡ true → (overlap : List Float) (wanted : Bool) → finished t overlap wanted first (run_of t first) ≡ finished t overlap wanted first (steps_from left t stand (n + 1))
-      at-stand g p h overlap wanted = g.is overlap wanted ∙ one_down overlap wanted p ∙ take t first overlap wanted left (halvings - 1) n f ox oy m scale stand (is-taken h)
-
-      pub settled-there : Going t first fits bases flat f ox oy m scale halvings left n → 0 < halvings → c.taken ≡ true → settled c.fit ≡ true → Ends t first (record { settled = true; tries = n + 1; ox = nx; oy = ny; tx = window.tx; ty = window.ty; fit = c.fit; corners = corners })
-      settled-there g p h q =
-          record {
-            is = λ overlap wanted.
-                at-stand g p h overlap wanted
-                ∙ settles t first overlap wanted left (n + 1) stand q
-                ∙ ap (λ (v : Float). closed t overlap wanted nx ny stand.place c.fit (n + 1) (slope_within corners v stand.place.ty)) (sym window-tx)
-                ∙ ap (λ (v : Float). closed t overlap wanted nx ny stand.place c.fit (n + 1) (slope_within corners window.tx v)) (sym window-ty);
-            tx = λ _. window-tx;
-            ty = λ _. window-ty;
-          }
-
-      pub no_steps : Going t first fits bases flat f ox oy m scale halvings left n → 0 < halvings → c.taken ≡ true → settled c.fit ≡ false → left ≡ 0 → (overlap : List Float) (wanted : Bool) → finished t overlap wanted first (run_of t first) ≡ single t first (n + 1)
-      no_steps g p h q z overlap wanted = at-stand g p h overlap wanted ∙ ap (λ (k : ℕ). finished t overlap wanted first (steps_from k t stand (n + 1))) z ∙ last_step t first overlap wanted (n + 1) stand q
-
-      -- with what is kept afterwards
-      module _ (kept : IntegerFits) (held : Bases) (after : List Float) (keeps : Kept t.img t.columns t.cfg.radius kept) (holds : Held t.img t.columns t.cfg.radius held after) where
-        pub passes : Going t first fits bases flat f ox oy m scale halvings left n → 0 < halvings → c.taken ≡ false → Going t first kept held after f ox oy m (scale ⊗ half) (halvings - 1) left (n + 1)
-        passes g p h =
-            record {
-              kept = keeps;
-              held = holds;
-              most = omega (arith, g.most);
-              is = λ overlap wanted. g.is overlap wanted ∙ one_down overlap wanted p ∙ pass t first overlap wanted left (halvings - 1) n f ox oy m scale (not_taken h);
-            }
-
-        pub steps_on : (step : Move) → Going t first fits bases flat f ox oy m scale halvings left n → 0 < halvings → c.taken ≡ true → settled c.fit ≡ false → (left ≡ 0 → ⊥) → step ≡ newton_step (sensitivity (saddle_jacobian c.fit) (slope_within corners window.tx window.ty)) c.fit → Going t first kept held after c.fit nx ny step one 4 (left - 1) (n + 1)
-        steps_on step g p h q z e =
-            let l : left ≡ suc (left - 1) = above left z in
-            record {
-              kept = keeps;
-              held = holds;
-              most = omega (arith, g.most, l);
-              is = λ overlap wanted.
-                  at-stand g p h overlap wanted
-                  ∙ ap (λ (k : ℕ). finished t overlap wanted first (steps_from k t stand (n + 1))) l
-                  ∙ next-step t first overlap wanted (left - 1) (n + 1) stand q
-                  ∙ ap (λ (v : Move). from t first overlap wanted (left - 1) 4 c.fit nx ny v one (n + 1)) (sym (e ∙ moves-on));
-            }
-          where
-            above : (k : ℕ) → (k ≡ 0 → ⊥) → k ≡ suc (k - 1)
-            above zero z = absurd (z refl)
-            above (suc k) z = omega arith
-
-            moves-on : newton_step (sensitivity (saddle_jacobian c.fit) (slope_within corners window.tx window.ty)) c.fit ≡ later_move stand
-            moves-on =
-                ap (λ (v : Float). newton_step (sensitivity (saddle_jacobian c.fit) (slope_within corners v window.ty)) c.fit) window-tx
-                ∙ ap (λ (v : Float). newton_step (sensitivity (saddle_jacobian c.fit) (slope_within corners stand.place.tx v)) c.fit) window-ty
-
--- a cache of none
-pub none_kept : (fits : IntegerFits) → Shaped fits → fits.len ≡ 0 → Fresh fits
-none_kept fits s e =
-    record {
-      kept = λ img columns radius. record {
-        sized = s;
-        fresh = λ slot h g. absurd (no_slot slot (subst (λ (k : ℕ). slot < k) e g));
-      };
-    }
-  where
-    no_slot : (slot : ℕ) → slot < 0 → ⊥
-    no_slot slot h = omega arith
+  pub weighed_some : (g : PatchSaddle) → Tries t f ox oy c (Some g) → Some (record { ox = ox; oy = oy; tx = w.tx; ty = w.ty; fit = g; corners = c }) ≡ taken_of (candidate t f ox oy)
+  weighed_some g h = ap made placed ∙ sym (ap taken_of h.is)
+    where
+      made : Window → Option Taken
+      made v = Some (record { ox = ox; oy = oy; tx = v.tx; ty = v.ty; fit = g; corners = c })

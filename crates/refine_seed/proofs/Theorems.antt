@@ -6,6 +6,7 @@ use Prim.Native.Nat.{ℕ, zero, suc, ◌+◌, ◌*◌, ◌≤◌}
 use native.Mathlib.Omega.{arith}
 use lib.Dec.{leb}
 use lib.Ieee.{Float, lt}
+use Rattle.std.specs.Prelude.{Option, Some, None, Result, Ok, Err}
 use Rattle.shapes.specs.Numbers.{plus_zero, one}
 use Rattle.imageview.specs.Image.{Image, is_image, in_range}
 use Rattle.imageview.specs.Patch.{supports_patch}
@@ -14,26 +15,23 @@ use Rattle.refine_formulas.specs.declared.SaddlePointConfig.{SaddlePointConfig}
 use Rattle.refine_formulas.specs.declared.PatchSaddle.{PatchSaddle}
 use Rattle.refine_formulas.specs.declared.Move.{Move}
 use Rattle.refine_formulas.specs.declared.Slope.{Slope}
-use Rattle.refine_formulas.specs.declared.Solved.{Solved}
-use Rattle.refine_formulas.specs.declared.Solved.TheVariants.{Refused, Saddle}
-use Rattle.refine_formulas.specs.declared.Covariance.TheVariants.{Unknown}
+use Rattle.refine_formulas.specs.declared.Unsolved.{Unsolved}
 use Rattle.refine_formulas.specs.Numbers.{◌⊕◌, ◌⊗◌, half}
 use Rattle.refine_fits.specs.Fit.{coefficients}
 use Rattle.refine_formulas.specs.Solve.{solve, score_of, good_limit, settled, norm2}
 use Rattle.refine_fits.specs.Windows.{WindowPlace, window_place, Fits, lacking, four, corners_at}
 use Rattle.refine_formulas.specs.Between.{blend}
 use Rattle.refine_formulas.specs.Sensitivity.{regular, slope_within, saddle_jacobian, sensitivity}
-use Rattle.refine_seed.specs.PixelSlope.{Sloped, no_slope, sloped, slope_at}
+use Rattle.refine_seed.specs.PixelSlope.{slope_at}
 use Rattle.refine_fits.specs.Candidate.{Task, near_seed, Stand, Tried, passed, taken, judged, weighed, candidate, task_at}
 use Rattle.refine_seed.specs.Run.{Search, or_else, search_from, Finish, at_start, at_stand, picked, later_move, steps_from, run_of}
 use Rattle.refine_formulas.specs.Covariance.{covariance_of}
 use Rattle.refine_formulas.proofs.SolveLaws.{score-above-zero}
 use Rattle.refine_seed.specs.declared.Estimate.{Estimate}
-use Rattle.refine_seed.specs.declared.Refined.{Refined}
-use Rattle.refine_seed.specs.declared.Refined.TheVariants.{Accepted, Unmoved}
+use Rattle.refine_seed.specs.declared.Unrefined.TheVariants.{Unmoved}
 use Rattle.refine_seed.specs.declared.Why.TheVariants.{Rejected}
 use Rattle.refine_fits.specs.declared.Seed.{Seed}
-use Rattle.refine_seed.specs.Refine.{single, estimate, closed, closed_at, finished, from_saddle, centre_of, seed_of, answered, good_limits, is_place, with_operator, refine_of}
+use Rattle.refine_seed.specs.Refine.{Refined, single, estimate, closed, closed_at, finished, from_saddle, centre_of, seed_of, answered, good_limits, is_place, with_operator, refine_of}
 use Rattle.refine_seed.specs.Claims.{Solves, Boxed, EndsBoxed, Scored, RunsBoxed, AcceptedScored}
 use Rattle.refine_seed.proofs.EntryLaws.{chosen}
 
@@ -51,9 +49,9 @@ module _ (t : Task) where
   by_fits f ox oy w lacking = tt
   by_fits f ox oy w (four c) = by-solved (solve t.cfg (blend c w.tx w.ty)) refl
     where
-      by-solved : (v : Solved) → solve t.cfg (blend c w.tx w.ty) ≡ v → OfTried t (judged t f ox oy w c v)
-      by-solved (Refused flaw d) e = tt
-      by-solved (Saddle g) e = by_tests f g ox oy w (record { ox = ox; oy = oy; place = w; corners = c; fit = g }) (lt (norm2 g) (norm2 f) && near_seed t (ox ⊕ g.ux) (oy ⊕ g.uy)) (record { fit = blend c w.tx w.ty; is = e }) refl
+      by-solved : (v : Result PatchSaddle Unsolved) → solve t.cfg (blend c w.tx w.ty) ≡ v → OfTried t (judged t f ox oy w c v)
+      by-solved (Err u) e = tt
+      by-solved (Ok g) e = by_tests f g ox oy w (record { ox = ox; oy = oy; place = w; corners = c; fit = g }) (lt (norm2 g) (norm2 f) && near_seed t (ox ⊕ g.ux) (oy ⊕ g.uy)) (record { fit = blend c w.tx w.ty; is = e }) refl
 
   candidate-boxed : (f : PatchSaddle) (ox oy : Float) → OfTried t (candidate t f ox oy)
   unfolding candidate
@@ -124,9 +122,8 @@ module _ (t : Task) where
 
 -- ---- the end
 abbrev Answers : Refined → Type 0
-Answers (Accepted e) = Scored e
-Answers (Unmoved why score) = Unit
-Answers (Refined.Refused r) = Unit
+Answers (Ok e) = Scored e
+Answers (Err e) = Unit
 
 module _ (t : Task) (overlap : List Float) (wanted : Bool) (good : good_limit t.cfg.det_margin ≡ true) where
   scored : (f : PatchSaddle) → Solves t.cfg f → lt plus_zero (score_of f) ≡ true
@@ -140,11 +137,11 @@ module _ (t : Task) (overlap : List Float) (wanted : Bool) (good : good_limit t.
   closed-sound ox oy w f n s p h =
       let j = saddle_jacobian f in
       let m = sensitivity j s in
-      pick (regular m) (estimate t ox oy f true n (cond wanted (covariance_of overlap w.tx w.ty j m) Unknown)) (estimate t ox oy f false n Unknown) (record { score = scored f p; tries = h }) (record { score = scored f p; tries = h })
+      pick (regular m) (estimate t ox oy f true n (cond wanted (covariance_of overlap w.tx w.ty j m) None)) (estimate t ox oy f false n None) (record { score = scored f p; tries = h }) (record { score = scored f p; tries = h })
 
-  centre-sound : (w : WindowPlace) (f : PatchSaddle) (n : ℕ) (s : Sloped) → Solves t.cfg f → n ≤ 64 → Scored (closed_at t overlap wanted w f n s)
-  centre-sound w f n no_slope p h = record { score = scored f p; tries = h }
-  centre-sound w f n (sloped s) p h = closed-sound plus_zero plus_zero w f n s p h
+  centre-sound : (w : WindowPlace) (f : PatchSaddle) (n : ℕ) (s : Option Slope) → Solves t.cfg f → n ≤ 64 → Scored (closed_at t overlap wanted w f n s)
+  centre-sound w f n None p h = record { score = scored f p; tries = h }
+  centre-sound w f n (Some s) p h = closed-sound plus_zero plus_zero w f n s p h
 
   finished-sound : (f : PatchSaddle) (e : Finish) → Solves t.cfg f → EndsBoxed t 64 e → Scored (finished t overlap wanted f e)
   finished-sound f (at_start n) p h =
@@ -155,13 +152,13 @@ module _ (t : Task) (overlap : List Float) (wanted : Bool) (good : good_limit t.
       pick (settled s.fit) (closed t overlap wanted s.ox s.oy s.place s.fit n (slope_within s.corners s.place.tx s.place.ty)) (single t f n)
       (closed-sound s.ox s.oy s.place s.fit n (slope_within s.corners s.place.tx s.place.ty) h.0.solves h.1) (record { score = scored f p; tries = h.1 })
 
-  by-box : (b : Bool) (e : Estimate) (d : Float) → Scored e → Answers (cond b (Accepted e) (Unmoved Rejected d))
+  by-box : (b : Bool) (e : Estimate) (d : Float) → Scored e → Answers (cond b (Ok e) (Err (Unmoved Rejected d)))
   by-box true e d p = p
   by-box false e d p = tt
 
-  saddle-sound : (v : Solved) (l : List Float) → solve t.cfg l ≡ v → Answers (from_saddle t overlap wanted v)
-  saddle-sound (Refused flaw d) l e = tt
-  saddle-sound (Saddle f) l e = by-box (near_seed t f.ux f.uy) (finished t overlap wanted f (run_of t f)) f.det_h (finished-sound f (run_of t f) (record { fit = l; is = e }) (boxed t f))
+  saddle-sound : (v : Result PatchSaddle Unsolved) (l : List Float) → solve t.cfg l ≡ v → Answers (from_saddle t overlap wanted v)
+  saddle-sound (Err u) l e = tt
+  saddle-sound (Ok f) l e = by-box (near_seed t f.ux f.uy) (finished t overlap wanted f (run_of t f)) f.det_h (finished-sound f (run_of t f) (record { fit = l; is = e }) (boxed t f))
 
 -- ---- with the tests before it
 module _ (img : Image) (cfg : SaddlePointConfig) (x y : Float) (wanted : Bool) where

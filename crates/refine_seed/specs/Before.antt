@@ -1,7 +1,7 @@
 -- The refiner of one seed as it answered before a refused fit had a number for each test (5, 6, 7): every refused fit was 3. `refine_once` and `lent_once` are those
 -- definitions; the claim is that they are what is answered now, with the names of the three tests forgotten. A run is one
 -- definition for both: each candidate of its steps is taken or passed over as it was (`CandidatesAsBefore`). The proofs are in proofs/Before.antt.
-use Rattle.std.specs.Prelude.{◌≡◌, Bool, ◌&&◌, ◌||◌, cond, List, Float}
+use Rattle.std.specs.Prelude.{◌≡◌, Bool, ◌&&◌, ◌||◌, cond, List, Float, Ok, Err}
 use Rattle.std.specs.Float.Ieee.{lt}
 use Rattle.std.specs.Float.Ieee.Scale.{finite}
 use Rattle.shapes.specs.Numbers.{plus_zero, one, entry}
@@ -16,12 +16,12 @@ use Rattle.refine_fits.specs.declared.Seed.{Seed}
 use Rattle.refine_fits.specs.Candidate.{Task, task_at, near_seed, Tried, passed, taken, judged}
 use Rattle.refine_fits.specs.Windows.{WindowPlace}
 use Rattle.refine_fits.specs.Fit.{coefficients}
-use Rattle.refine_seed.specs.declared.Refined.{Refined}
-use Rattle.refine_seed.specs.declared.Refined.TheVariants.{Accepted, Unmoved, Refused}
+use Rattle.refine_seed.specs.declared.Unrefined.{Unrefined}
+use Rattle.refine_seed.specs.declared.Unrefined.TheVariants.{Unmoved, Refused}
 use Rattle.refine_seed.specs.declared.Why.{Why}
 use Rattle.refine_seed.specs.declared.Why.TheVariants.{Rejected, OutOfBounds, IllConditioned, BadSeed, Flawed}
 use Rattle.refine_seed.specs.Run.{run_of}
-use Rattle.refine_seed.specs.Refine.{answered, admit_of, finished, lent_with, refine_of, refine_lent, number_of, old_number, values_of}
+use Rattle.refine_seed.specs.Refine.{Refined, unmoved, answered, admit_of, finished, lent_with, refine_of, refine_lent, number_of, old_number, values_of}
 
 -- ---- as it was
 pub data Once : Type 0 where
@@ -37,8 +37,8 @@ solve_once cfg l =
     cond (above_margin cfg det || too_small cfg det) (refused det) (cond (finite x && finite y) (saddle (saddle_of l det x y)) (refused det))
 
 abbrev pub from_once : Task → List Float → Bool → Once → Refined
-from_once t overlap wanted (refused det) = Unmoved IllConditioned det
-from_once t overlap wanted (saddle f) = cond (near_seed t f.ux f.uy) (Accepted (finished t overlap wanted f (run_of t f))) (Unmoved Rejected f.det_h)
+from_once t overlap wanted (refused det) = Err (Unmoved IllConditioned det)
+from_once t overlap wanted (saddle f) = cond (near_seed t f.ux f.uy) (Ok (finished t overlap wanted f (run_of t f))) (Err (Unmoved Rejected f.det_h))
 
 -- a candidate of the steps: one that is refused is passed over
 abbrev pub judged_once : Task → PatchSaddle → Float → Float → WindowPlace → Corners → Once → Tried
@@ -51,8 +51,8 @@ seed_once img cfg seed wanted columns overlap =
     from_once (task_at img columns cfg seed) overlap wanted (solve_once cfg (coefficients img columns cfg.radius seed.centre_x seed.centre_y))
 
 abbrev pub with_once : Image → SaddlePointConfig → Seed → Bool → Operator.Way → Refined
-with_once img cfg seed wanted (Operator.refused r) = Refused r
-with_once img cfg seed wanted Operator.none = Unmoved IllConditioned plus_zero
+with_once img cfg seed wanted (Operator.refused r) = Err (Refused r)
+with_once img cfg seed wanted Operator.none = Err (unmoved IllConditioned)
 with_once img cfg seed wanted (Operator.built columns overlap) = seed_once img cfg seed wanted columns overlap
 
 unfoldable pub lent_once : Image → SaddlePointConfig → Float → Float → Bool → List Float → List Float → Refined
@@ -71,9 +71,9 @@ old_why BadSeed = BadSeed
 old_why (Flawed flaw) = IllConditioned
 
 abbrev pub forgotten : Refined → Refined
-forgotten (Accepted e) = Accepted e
-forgotten (Unmoved why score) = Unmoved (old_why why) score
-forgotten (Refused r) = Refused r
+forgotten (Ok e) = Ok e
+forgotten (Err (Unmoved why score)) = Err (Unmoved (old_why why) score)
+forgotten (Err (Refused r)) = Err (Refused r)
 
 -- the number and the values of an answer before, from those now
 pub record AsBefore (x y : Float) (now before : Refined) : Type 0 where

@@ -1,5 +1,5 @@
 -- The refiner's call for one seed: how a run ends, the tests of a seed in their order, what each case answers, and the number and values of each case.
-use Rattle.std.specs.Prelude.{Bool, true, false, ◌&&◌, not, cond, List, ℕ, leb, eqb, ℤ, nat_abs, Float}
+use Rattle.std.specs.Prelude.{Bool, true, false, ◌&&◌, not, cond, List, ℕ, leb, eqb, ℤ, nat_abs, Float, Option, Some, None, Result, Ok, Err}
 use Rattle.std.specs.Float.{binary32}
 use Rattle.std.specs.Float.Ieee.{of_int, to_signed}
 use Rattle.std.specs.Float.Ieee.Scale.{finite}
@@ -8,21 +8,20 @@ use Rattle.floats.specs.Whole.{round_away}
 use Rattle.imageview.specs.Image.{Image, is_image, in_range}
 use Rattle.imageview.specs.Patch.{supports_patch}
 use Rattle.refine_operator.specs.Call as Operator
+use Rattle.refine_operator.specs.declared.OperatorError.{OperatorError}
+use Rattle.refine_operator.specs.declared.OperatorError.TheVariants as OperatorError
 use Rattle.refine_formulas.specs.declared.SaddlePointConfig.{SaddlePointConfig}
 use Rattle.refine_formulas.specs.declared.PatchSaddle.{PatchSaddle}
 use Rattle.refine_formulas.specs.declared.Flaw.{Flaw}
 use Rattle.refine_formulas.specs.declared.Flaw.TheVariants.{AboveMargin, TooSmall, NotFinite}
-use Rattle.refine_formulas.specs.declared.Solved.{Solved}
-use Rattle.refine_formulas.specs.declared.Solved.TheVariants.{Saddle}
+use Rattle.refine_formulas.specs.declared.Unsolved.{Unsolved}
 use Rattle.refine_formulas.specs.declared.Slope.{Slope}
 use Rattle.refine_seed.specs.declared.Estimate.{Estimate}
 use Rattle.refine_formulas.specs.declared.Covariance.{Covariance}
-use Rattle.refine_formulas.specs.declared.Covariance.TheVariants.{Unknown}
-use Rattle.refine_seed.specs.declared.Refined.{Refined}
-use Rattle.refine_seed.specs.declared.Refined.TheVariants.{Accepted, Unmoved, Refused}
+use Rattle.refine_seed.specs.declared.Unrefined.{Unrefined}
+use Rattle.refine_seed.specs.declared.Unrefined.TheVariants.{Unmoved, Refused}
 use Rattle.refine_seed.specs.declared.Why.{Why}
 use Rattle.refine_seed.specs.declared.Why.TheVariants.{Rejected, OutOfBounds, IllConditioned, BadSeed, Flawed}
-use Rattle.refine_seed.specs.declared.Admitted.{Admitted}
 use Rattle.refusals.specs.declared.Refusal.TheVariants.{BadImage, BadSample, BadRadius, BadLimit}
 use Rattle.refusals.specs.Numbers as Refusals
 use Rattle.refine_fits.specs.declared.Seed.{Seed}
@@ -31,7 +30,7 @@ use Rattle.refine_fits.specs.Fit.{coefficients}
 use Rattle.refine_formulas.specs.Solve.{solve, score_of, good_limit, settled}
 use Rattle.refine_fits.specs.Windows.{WindowPlace, window_place}
 use Rattle.refine_formulas.specs.Sensitivity.{regular, slope_within, saddle_jacobian, sensitivity}
-use Rattle.refine_seed.specs.PixelSlope.{Sloped, no_slope, sloped, slope_at}
+use Rattle.refine_seed.specs.PixelSlope.{slope_at}
 use Rattle.refine_seed.specs.Run.{Finish, at_start, at_stand, run_of}
 use Rattle.refine_formulas.specs.Numbers.{◌⊕◌}
 use Rattle.refine_formulas.specs.Covariance.{covariance_of}
@@ -39,9 +38,9 @@ use Rattle.refine_formulas.specs.Covariance.{covariance_of}
 -- ---- the end of a run
 -- the first fit, where the steps did not settle
 abbrev pub single : Task → PatchSaddle → ℕ → Estimate
-single t f n = record { x = of_int binary32 t.centre_x ⊕ f.ux; y = of_int binary32 t.centre_y ⊕ f.uy; score = score_of f; converged = false; tries = n; covariance = Unknown }
+single t f n = record { x = of_int binary32 t.centre_x ⊕ f.ux; y = of_int binary32 t.centre_y ⊕ f.uy; score = score_of f; converged = false; tries = n; covariance = None }
 
-abbrev pub estimate : Task → Float → Float → PatchSaddle → Bool → ℕ → Covariance → Estimate
+abbrev pub estimate : Task → Float → Float → PatchSaddle → Bool → ℕ → Option Covariance → Estimate
 estimate t ox oy f c n v = record { x = of_int binary32 t.centre_x ⊕ ox ⊕ f.ux; y = of_int binary32 t.centre_y ⊕ oy ⊕ f.uy; score = score_of f; converged = c; tries = n; covariance = v }
 
 -- with the slope there, whether it converged and the covariance where it is wanted
@@ -49,11 +48,11 @@ abbrev pub closed : Task → List Float → Bool → Float → Float → WindowP
 closed t overlap wanted ox oy w f n s =
     let j = saddle_jacobian f in
     let m = sensitivity j s in
-    cond (regular m) (estimate t ox oy f true n (cond wanted (covariance_of overlap w.tx w.ty j m) Unknown)) (estimate t ox oy f false n Unknown)
+    cond (regular m) (estimate t ox oy f true n (cond wanted (covariance_of overlap w.tx w.ty j m) None)) (estimate t ox oy f false n None)
 
-abbrev pub closed_at : Task → List Float → Bool → WindowPlace → PatchSaddle → ℕ → Sloped → Estimate
-closed_at t overlap wanted w f n no_slope = estimate t plus_zero plus_zero f false n Unknown
-closed_at t overlap wanted w f n (sloped s) = closed t overlap wanted plus_zero plus_zero w f n s
+abbrev pub closed_at : Task → List Float → Bool → WindowPlace → PatchSaddle → ℕ → Option Slope → Estimate
+closed_at t overlap wanted w f n None = estimate t plus_zero plus_zero f false n None
+closed_at t overlap wanted w f n (Some s) = closed t overlap wanted plus_zero plus_zero w f n s
 
 -- first is the first fit's saddle
 abbrev pub finished : Task → List Float → Bool → PatchSaddle → Finish → Estimate
@@ -80,42 +79,55 @@ good_limits cfg = good_limit cfg.det_margin && good_limit cfg.max_offset && good
 abbrev pub is_place : Float → Float → Bool
 is_place x y = finite x && finite y
 
--- in their order
-abbrev pub admit_of : Image → SaddlePointConfig → Float → Float → Admitted
-admit_of img cfg x y =
-    cond (not (is_image img)) (Admitted.Refused BadImage)
-    (cond (not (in_range img)) (Admitted.Refused BadSample)
-    (cond (not (leb cfg.radius 7)) (Admitted.Refused BadRadius)
-    (cond (not (good_limits cfg)) (Admitted.Refused BadLimit)
-    (cond (not (is_place x y)) (Admitted.Unmoved BadSeed)
-    (cond (not (supports_patch img cfg.radius (centre_of x) (centre_of y))) (Admitted.Unmoved OutOfBounds)
-    (Admitted.Good (seed_of x y)))))))
+-- ---- what a seed is answered
+-- its estimate; or why there is none, with the score where the seed stays where it is
+abbrev pub Refined : Type 0
+Refined = Result Estimate Unrefined
 
--- a seed that passed them goes on; any other is answered at once, with the score 0.0
-abbrev pub answered : Admitted → (Seed → Refined) → Refined
-answered (Admitted.Good seed) go = go seed
-answered (Admitted.Unmoved why) go = Unmoved why plus_zero
-answered (Admitted.Refused r) go = Refused r
+-- why it stays where it is before there is a fit: with the score 0.0
+abbrev pub unmoved : Why → Unrefined
+unmoved why = Unmoved why plus_zero
+
+-- the tests in their order
+abbrev pub admit_of : Image → SaddlePointConfig → Float → Float → Result Seed Unrefined
+admit_of img cfg x y =
+    cond (not (is_image img)) (Err (Refused BadImage))
+    (cond (not (in_range img)) (Err (Refused BadSample))
+    (cond (not (leb cfg.radius 7)) (Err (Refused BadRadius))
+    (cond (not (good_limits cfg)) (Err (Refused BadLimit))
+    (cond (not (is_place x y)) (Err (unmoved BadSeed))
+    (cond (not (supports_patch img cfg.radius (centre_of x) (centre_of y))) (Err (unmoved OutOfBounds))
+    (Ok (seed_of x y)))))))
+
+-- a seed that passed them goes on; any other is answered at once
+abbrev pub answered : Result Seed Unrefined → (Seed → Refined) → Refined
+answered (Ok seed) go = go seed
+answered (Err e) go = Err e
 
 -- ---- the first fit decides
-abbrev pub from_saddle : Task → List Float → Bool → Solved → Refined
-from_saddle t overlap wanted (Solved.Refused flaw det) = Unmoved (Flawed flaw) det
-from_saddle t overlap wanted (Saddle f) = cond (near_seed t f.ux f.uy) (Accepted (finished t overlap wanted f (run_of t f))) (Unmoved Rejected f.det_h)
+abbrev pub from_saddle : Task → List Float → Bool → Result PatchSaddle Unsolved → Refined
+from_saddle t overlap wanted (Err u) = Err (Unmoved (Flawed u.flaw) u.det_h)
+from_saddle t overlap wanted (Ok f) = cond (near_seed t f.ux f.uy) (Ok (finished t overlap wanted f (run_of t f))) (Err (Unmoved Rejected f.det_h))
 
 -- a seed that passed its tests, with an operator
 abbrev pub refine_with : Image → SaddlePointConfig → Seed → Bool → List Float → List Float → Refined
 refine_with img cfg seed wanted columns overlap =
     from_saddle (task_at img columns cfg seed) overlap wanted (solve cfg (coefficients img columns cfg.radius seed.centre_x seed.centre_y))
 
+-- why there is no operator
+abbrev pub unbuilt : OperatorError → Unrefined
+unbuilt OperatorError.Singular = unmoved IllConditioned
+unbuilt (OperatorError.Refused r) = Refused r
+
 -- with the operator that is built for it
 abbrev pub with_operator : Image → SaddlePointConfig → Seed → Bool → Operator.Way → Refined
-with_operator img cfg seed wanted (Operator.refused r) = Refused r
-with_operator img cfg seed wanted Operator.none = Unmoved IllConditioned plus_zero
+with_operator img cfg seed wanted (Operator.refused r) = Err (Refused r)
+with_operator img cfg seed wanted Operator.none = Err (unmoved IllConditioned)
 with_operator img cfg seed wanted (Operator.built columns overlap) = refine_with img cfg seed wanted columns overlap
 
 -- at radius 0 there is no operator, whatever is lent
 abbrev pub lent_with : SaddlePointConfig → Refined → Refined
-lent_with cfg answer = cond (eqb cfg.radius 0) (Unmoved IllConditioned plus_zero) answer
+lent_with cfg answer = cond (eqb cfg.radius 0) (Err (unmoved IllConditioned)) answer
 
 -- ---- the two calls: for whatever operator is lent, and with its own
 unfoldable pub refine_lent : Image → SaddlePointConfig → Float → Float → Bool → List Float → List Float → Refined
@@ -138,9 +150,9 @@ why_number BadSeed = 4
 why_number (Flawed flaw) = flaw_number flaw
 
 abbrev pub number_of : Refined → ℕ
-number_of (Accepted e) = 0
-number_of (Unmoved why score) = why_number why
-number_of (Refused r) = Refusals.number_of r
+number_of (Ok e) = 0
+number_of (Err (Unmoved why score)) = why_number why
+number_of (Err (Refused r)) = Refusals.number_of r
 
 -- the number that stood for a number while every refused fit had 3
 abbrev pub old_number : ℕ → ℕ
@@ -151,6 +163,6 @@ pub data Values : Type 0 where
   values : Float → Float → Float → Values
 
 abbrev pub values_of : Float → Float → Refined → Values
-values_of x y (Accepted e) = values e.x e.y e.score
-values_of x y (Unmoved why score) = values x y score
-values_of x y (Refused r) = nothing
+values_of x y (Ok e) = values e.x e.y e.score
+values_of x y (Err (Unmoved why score)) = values x y score
+values_of x y (Err (Refused r)) = nothing

@@ -1,239 +1,179 @@
-// The end of a run, in two halves: all that the columns decide, and then the estimate with its covariance where that is wanted. Only the second asks for overlaps, so that
+// The end of a run, in two halves: all that the columns decide, and then the covariance where it is wanted. Only the second asks for overlaps, so that
 // columns and overlaps need not stand in one stack.
-ghost use Rattle.std.specs.Prelude.{◌≡◌, true, false, ◌<◌};
-ghost use Rattle.imageview.specs.Image.{image_of};
+ghost use Rattle.std.specs.Prelude.{◌≡◌, List, true, false, ◌+◌, ◌-◌, ◌≤◌, ◌<◌, pos, Float, Some, None};
 ghost use Rattle.refine_fits.specs.Fit.{coefficients};
 ghost use Rattle.refine_fits.specs.Candidate.{task_at};
-ghost use Rattle.refine_formulas.specs.Solve as Solve;
-ghost use Rattle.refine_seed.specs.Refine.{single};
-ghost use Rattle.refine_seed.specs.Refine as Refine;
-ghost use Rattle.refine_seed.specs.declared.Opened.TheVariants.{Done};
-ghost use Rattle.refine_seed.specs.declared.Refined.TheVariants.{Accepted};
-ghost use Rattle.refine_formulas.specs.declared.Covariance.TheVariants.{Unknown};
-ghost use Rattle.shapes.specs.Numbers.{plus_zero};
 ghost use Rattle.refine_fits.specs.StepsAdding.{PatchWithin};
-ghost use Rattle.refine_seed.specs.StepsEnding.{centred, closed_as, ending_of, ran_out, Opens, GoesX, GoesY};
+ghost use Rattle.refine_formulas.specs.Solve as Solve;
+ghost use Rattle.refine_formulas.specs.Sensitivity.{difference};
+ghost use Rattle.refine_seed.specs.PixelSlope.{slope_at};
+ghost use Rattle.refine_seed.specs.Run.{run_of};
+ghost use Rattle.refine_seed.specs.StepsEnding as Ending;
 
-use super::{Ended, Ending, Estimate, Opened, Refined, Sloping};
+use super::{Estimate, Noise, Opened, Spot};
 use crate::steps;
-use imageview::Sizes;
+use imageview::{Image, Sample};
 use refine_fits::{Seed, fits};
-use refine_formulas::{
-    Covariance, PatchSaddle, SaddlePointConfig, Slope, between, noise, sensitivity,
-};
+use refine_formulas::{PatchSaddle, SaddlePointConfig, Slope, noise, sensitivity};
+use refine_patch::Columns;
 
-// The first fit, where the steps did not settle.
-fn single_at(seed: Seed, f: PatchSaddle, tries: u32) -> Estimate
-    requires { (seed.centre_x < 4096) × (seed.centre_y < 4096) }
-    ensures { result ≡ single (centred seed) f tries }
+// The estimate, with the covariance where it is wanted and the run converged.
+pub fn closed(opened: Opened, overlap: &[f32; 225], wanted: bool) -> Estimate
+    ensures { result ≡ Ending.closed_with overlap.now wanted opened }
 {
-    Estimate {
-        x: seed.centre_x as u16 as f32 + f.ux,
-        y: seed.centre_y as u16 as f32 + f.uy,
-        score: floats::sqrt_f32(-f.det_h),
-        converged: false,
-        tries,
-        covariance: Covariance::Unknown,
-    }
-}
-
-fn estimate_at(
-    seed: Seed,
-    ox: f32,
-    oy: f32,
-    f: PatchSaddle,
-    converged: bool,
-    tries: u32,
-    covariance: Covariance,
-) -> Estimate
-    requires { (seed.centre_x < 4096) × (seed.centre_y < 4096) }
-    ensures { result ≡ Refine.estimate (centred seed) ox oy f converged tries covariance }
-{
-    Estimate {
-        x: seed.centre_x as u16 as f32 + ox + f.ux,
-        y: seed.centre_y as u16 as f32 + oy + f.uy,
-        score: floats::sqrt_f32(-f.det_h),
-        converged,
-        tries,
-        covariance,
-    }
-}
-
-// The estimate of an ending: converged where the window sensitivity is regular.
-pub fn closed(seed: Seed, overlap: &[f32; 225], wanted: bool, g: Ending) -> Estimate
-    requires { (seed.centre_x < 4096) × (seed.centre_y < 4096) }
-    ensures { result ≡ closed_as seed overlap.now wanted g }
-{
-    let f = g.fit;
-    let m = g.moves;
-    if sensitivity::regular(m) {
-        if wanted {
-            let v = noise::covariance(overlap, g.tx, g.ty, sensitivity::saddle_jacobian(f), m);
-            return estimate_at(seed, g.ox, g.oy, f, true, g.tries, v);
+    let covariance = match opened.noise {
+        Some(n) if wanted => {
+            let j = sensitivity::saddle_jacobian(n.fit);
+            noise::covariance(overlap, n.tx, n.ty, j, n.moves)
         }
-        return estimate_at(seed, g.ox, g.oy, f, true, g.tries, Covariance::Unknown);
-    }
-    estimate_at(seed, g.ox, g.oy, f, false, g.tries, Covariance::Unknown)
-}
-
-// The slope along x at a pixel, from the next fit, or from the one before where the next leaves the image.
-fn along_x(
-    bytes: &[u8],
-    words: &[u16],
-    sizes: Sizes,
-    x: usize,
-    y: usize,
-    radius: usize,
-    columns: &[f32; 1125],
-    here: [f32; 5],
-) -> Sloping
-    requires fact_1 { PatchWithin (image_of bytes.now words.now sizes) radius x y }
-    requires fact_2 { here ≡ coefficients (image_of bytes.now words.now sizes) columns.now radius x y }
-    ensures { GoesX (image_of bytes.now words.now sizes) columns.now radius x y result }
-{
-    if x + 1 + radius < sizes.width {
-        let next = fits::fit_patch(bytes, words, sizes, x + 1, y, radius, columns);
-        return Sloping {
-            found: true,
-            coefs: sensitivity::difference(next, here),
-        };
-    }
-    if radius < x {
-        let before = fits::fit_patch(bytes, words, sizes, x - 1, y, radius, columns);
-        return Sloping {
-            found: true,
-            coefs: sensitivity::difference(here, before),
-        };
-    }
-    Sloping {
-        found: false,
-        coefs: here,
-    }
-}
-
-fn along_y(
-    bytes: &[u8],
-    words: &[u16],
-    sizes: Sizes,
-    x: usize,
-    y: usize,
-    radius: usize,
-    columns: &[f32; 1125],
-    here: [f32; 5],
-) -> Sloping
-    requires fact_1 { PatchWithin (image_of bytes.now words.now sizes) radius x y }
-    requires fact_2 { here ≡ coefficients (image_of bytes.now words.now sizes) columns.now radius x y }
-    ensures { GoesY (image_of bytes.now words.now sizes) columns.now radius x y result }
-{
-    if y + 1 + radius < sizes.height {
-        let next = fits::fit_patch(bytes, words, sizes, x, y + 1, radius, columns);
-        return Sloping {
-            found: true,
-            coefs: sensitivity::difference(next, here),
-        };
-    }
-    if radius < y {
-        let before = fits::fit_patch(bytes, words, sizes, x, y - 1, radius, columns);
-        return Sloping {
-            found: true,
-            coefs: sensitivity::difference(here, before),
-        };
-    }
-    Sloping {
-        found: false,
-        coefs: here,
+        _ => None,
+    };
+    Estimate {
+        covariance,
+        ..opened.estimate
     }
 }
 
 // Where the first fit is settled: the slope is that of the centre pixel.
-pub fn at_centre(
-    bytes: &[u8],
-    words: &[u16],
-    sizes: Sizes,
-    columns: &[f32; 1125],
-    cfg: SaddlePointConfig,
+pub fn at_centre<S: Sample>(
+    image: &Image<S>,
+    columns: &Columns,
     seed: Seed,
     here: [f32; 5],
     first: PatchSaddle,
 ) -> Opened
-    requires fact_1 { PatchWithin (image_of bytes.now words.now sizes) cfg.radius seed.centre_x seed.centre_y }
-    requires fact_2 { here ≡ coefficients (image_of bytes.now words.now sizes) columns.now cfg.radius seed.centre_x seed.centre_y }
-    requires fact_3 { Solve.settled first ≡ true }
-    ensures { Opens (ran_out (task_at (image_of bytes.now words.now sizes) columns.now cfg seed) first) seed result }
+    requires within { PatchWithin image.now columns.now.radius seed.centre_x seed.centre_y }
+    requires fitted { here ≡ coefficients image.now columns.now.numbers.now columns.now.radius seed.centre_x seed.centre_y }
+    ensures { result ≡ Ending.opened_there seed first (slope_at image.now columns.now.numbers.now columns.now.radius (pos seed.centre_x) (pos seed.centre_y)) }
 {
-    let radius = cfg.radius;
-    let cx = seed.centre_x;
-    let cy = seed.centre_y;
-    let ax = along_x(bytes, words, sizes, cx, cy, radius, columns, here);
-    let ay = along_y(bytes, words, sizes, cx, cy, radius, columns, here);
-    if ax.found {
-        if ay.found {
-            let x = ax.coefs;
-            let y = ay.coefs;
-            let moves = sensitivity::sensitivity(
-                sensitivity::saddle_jacobian(first),
-                Slope { x, y },
-            );
-            return Opened::Open(Ending {
-                ox: 0.0,
-                oy: 0.0,
+    // a window that is moved by nothing
+    let middle = Spot::middle_of(seed).moved(0.0, 0.0);
+    let slope = slope_at(image, columns, seed, here);
+    match slope {
+        Some(slope) => {
+            let noise = Noise {
                 tx: 0.0,
                 ty: 0.0,
                 fit: first,
-                tries: 0,
-                moves,
-            });
+                moves: steps::moves_of(first, slope),
+            };
+            settled_in(middle, noise, 0)
         }
-        return unsloped(seed, first);
-    }
-    unsloped(seed, first)
-}
-
-// Without a slope: not converged.
-fn unsloped(seed: Seed, first: PatchSaddle) -> Opened
-    requires { (seed.centre_x < 4096) × (seed.centre_y < 4096) }
-    ensures { result ≡ Done (Accepted (Refine.estimate (centred seed) plus_zero plus_zero first false 0 Unknown)) }
-{
-    let none = Covariance::Unknown;
-    Opened::Done(Refined::Accepted(estimate_at(seed, 0.0, 0.0, first, false, 0, none)))
-}
-
-// Where the steps settled: the slope is that of the window between pixels.
-fn at_window(e: Ended) -> Ending
-    ensures { result ≡ ending_of e }
-{
-    let corners = e.corners;
-    let fit = e.fit;
-    let slope = between::slope_within(corners, e.tx, e.ty);
-    let moves = sensitivity::sensitivity(sensitivity::saddle_jacobian(fit), slope);
-    Ending {
-        ox: e.ox,
-        oy: e.oy,
-        tx: e.tx,
-        ty: e.ty,
-        fit,
-        tries: e.tries,
-        moves,
+        None => unsettled_in(middle, first, 0),
     }
 }
 
 // Where the first fit, whose saddle is `first`, is not settled: from there by steps.
-pub fn stepped(
-    bytes: &[u8],
-    words: &[u16],
-    sizes: Sizes,
-    columns: &[f32; 1125],
+pub fn stepped<S: Sample>(
+    image: &Image<S>,
+    columns: &Columns,
     cfg: SaddlePointConfig,
     seed: Seed,
     first: PatchSaddle,
 ) -> Opened
-    requires fact_1 { PatchWithin (image_of bytes.now words.now sizes) cfg.radius seed.centre_x seed.centre_y }
-    requires fact_2 { Solve.settled first ≡ false }
-    ensures { Opens (ran_out (task_at (image_of bytes.now words.now sizes) columns.now cfg seed) first) seed result }
+    requires within { PatchWithin image.now cfg.radius seed.centre_x seed.centre_y }
+    requires radius { columns.now.radius ≡ cfg.radius }
+    requires unsettled { Solve.settled first ≡ false }
+    ensures { result ≡ (let e = Ending.ended_of (run_of (task_at image.now columns.now.numbers.now cfg seed) first) in Ending.opened_on seed first e.tries e.settled) }
 {
-    let e = steps::run(bytes, words, sizes, columns, false, cfg, seed, first);
-    if e.settled {
-        return Opened::Open(at_window(e));
+    let ended = steps::run(image, columns, cfg, seed, first);
+    let middle = Spot::middle_of(seed);
+    match ended.settled {
+        Some(w) => {
+            let noise = Noise {
+                tx: w.tx,
+                ty: w.ty,
+                fit: w.fit,
+                moves: w.moves(),
+            };
+            settled_in(middle.moved(w.ox, w.oy), noise, ended.tries)
+        }
+        None => unsettled_in(middle, first, ended.tries),
     }
-    Opened::Done(Refined::Accepted(single_at(seed, first, e.tries)))
+}
+
+// Settled in a window with this middle: converged where the sensitivity there is regular.
+fn settled_in(middle: Spot, noise: Noise, tries: u32) -> Opened
+    ensures { result ≡ Ending.opened_at middle tries noise }
+{
+    let converged = sensitivity::regular(noise.moves);
+    Opened {
+        estimate: estimate_in(middle, noise.fit, converged, tries),
+        noise: if converged { Some(noise) } else { None },
+    }
+}
+
+// Not settled, or with no slope: not converged.
+fn unsettled_in(middle: Spot, fit: PatchSaddle, tries: u32) -> Opened
+    ensures { result ≡ Ending.unsettled middle fit tries }
+{
+    Opened {
+        estimate: estimate_in(middle, fit, false, tries),
+        noise: None,
+    }
+}
+
+// The estimate of a saddle in a window with this middle, with no covariance.
+fn estimate_in(middle: Spot, fit: PatchSaddle, converged: bool, tries: u32) -> Estimate
+    ensures { result ≡ Ending.estimate_in middle fit converged tries }
+{
+    let Spot { x, y } = middle.moved(fit.ux, fit.uy);
+    Estimate {
+        x,
+        y,
+        score: floats::sqrt_f32(-fit.det_h),
+        converged,
+        tries,
+        covariance: None,
+    }
+}
+
+// The slope at a seed's centre pixel, whose fit is `here`: where there is one along both axes.
+fn slope_at<S: Sample>(
+    image: &Image<S>,
+    columns: &Columns,
+    seed: Seed,
+    here: [f32; 5],
+) -> Option<Slope>
+    requires within { PatchWithin image.now columns.now.radius seed.centre_x seed.centre_y }
+    requires fitted { here ≡ coefficients image.now columns.now.numbers.now columns.now.radius seed.centre_x seed.centre_y }
+    ensures { result ≡ slope_at image.now columns.now.numbers.now columns.now.radius (pos seed.centre_x) (pos seed.centre_y) }
+{
+    let cx = seed.centre_x as usize;
+    let cy = seed.centre_y as usize;
+    let in_row = |k: usize|
+        requires { PatchWithin image.now columns.now.radius k cy }
+        ensures { result ≡ coefficients image.entry.now columns.entry.now.numbers.now columns.entry.now.radius k cy }
+    { fits::fit_patch(image, k, cy, columns) };
+    let in_column = |k: usize|
+        requires { PatchWithin image.now columns.now.radius cx k }
+        ensures { result ≡ coefficients image.entry.now columns.entry.now.numbers.now columns.entry.now.radius cx k }
+    { fits::fit_patch(image, cx, k, columns) };
+    let x = along(cx, image.width(), columns.radius, here, in_row)?;
+    let y = along(cy, image.height(), columns.radius, here, in_column)?;
+    Some(Slope { x, y })
+}
+
+// The slope at the pixel k along an axis of `length` pixels, whose fits `fit` works out: from the next fit, or from the one before where the next leaves the image.
+fn along<F: Fn(usize) -> [f32; 5]>(
+    k: usize,
+    length: usize,
+    radius: usize,
+    here: [f32; 5],
+    fit: F,
+) -> Option<[f32; 5]>
+    requires few { (k + 1 + radius < 18446744073709551616) }
+    requires next { k + 1 + radius < length → F.pre fit (k + 1) }
+    requires before { radius < k → F.pre fit (k - 1) }
+    ensures next { k + 1 + radius < length → (l : List Float) × F.post fit (k + 1) l × (result ≡ Some (difference l here)) }
+    ensures before { length ≤ k + 1 + radius → radius < k → (l : List Float) × F.post fit (k - 1) l × (result ≡ Some (difference here l)) }
+    ensures none { length ≤ k + 1 + radius → k ≤ radius → result ≡ None }
+{
+    if k + 1 + radius < length {
+        return Some(sensitivity::difference(fit(k + 1), here));
+    }
+    if radius < k {
+        return Some(sensitivity::difference(here, fit(k - 1)));
+    }
+    None
 }

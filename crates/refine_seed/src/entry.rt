@@ -1,149 +1,93 @@
 // One seed: its tests in their order, the first fit, and what follows from it.
-ghost use Rattle.std.specs.Prelude.{◌≡◌, ◌≤◌, ◌<◌};
-ghost use Rattle.imageview.specs.Image.{image_of};
+ghost use Rattle.std.specs.Prelude.{◌≡◌, ◌≤◌};
+ghost use Rattle.imageview.specs.View.{shown};
+ghost use Rattle.imageview.specs.Steps.{IsTested};
 ghost use Rattle.refine_fits.specs.Fit.{coefficients};
 ghost use Rattle.refine_formulas.specs.Solve.{good_limit};
-ghost use Rattle.refine_seed.specs.Refine.{good_limits, is_place, flaw_number, why_number, old_number, admit_of, refine_with, with_operator, lent_with, refine_lent, refine_of};
+ghost use Rattle.refine_seed.specs.Refine.{good_limits, is_place, old_number, admit_of, refine_lent, refine_of};
 ghost use Rattle.refine_fits.specs.StepsAdding.{PatchWithin};
-ghost use Rattle.refine_seed.specs.StepsEnding.{Opens, OpensFresh, ClosesFresh};
+ghost use Rattle.refine_seed.specs.StepsEnding.{open_of, open_with, ClosesFresh};
 ghost use Rattle.refine_seed.specs.StepsSpot.{seed_alone};
 ghost use Rattle.refine_operator.specs.Call.{way_of};
 
-use super::{Admitted, Ending, Estimate, Opened, Refined, Why};
+use super::{Estimate, Opened, Unrefined, Why};
 use crate::closing;
-use imageview::Sizes;
+use imageview::{Image, ImageView, Sample};
 use refine_fits::{Seed, fits, tries};
-use refine_formulas::{Flaw, SaddlePointConfig, Solved, solve};
-use refine_operator::Operator;
+use refine_formulas::{SaddlePointConfig, solve};
+use refine_patch::Columns;
 use refusals::Refusal;
 
 // The refiner of one seed with an operator that is lent.
-pub fn refine_with(
-    bytes: &[u8],
-    words: &[u16],
-    sizes: Sizes,
+pub fn refine_with<S: Sample>(
+    view: ImageView<S>,
     cfg: SaddlePointConfig,
     x: f32,
     y: f32,
     wanted: bool,
     columns: &[f32; 1125],
     overlap: &[f32; 225],
-) -> Refined
-    ensures { result ≡ refine_lent (image_of bytes.now words.now sizes) cfg x y wanted columns.now overlap.now }
+) -> Result<Estimate, Unrefined>
+    ensures { result ≡ refine_lent (shown S.levels S.deep view.entry) cfg x y wanted columns.now overlap.now }
 {
-    let admitted = admit(bytes, words, sizes, cfg, x, y);
-    match admitted {
-        Admitted::Good(seed) => refine_lent(
-            bytes, words, sizes, cfg, seed, wanted, columns, overlap,
-        ),
-        Admitted::Unmoved(why) => Refined::Unmoved(why, 0.0),
-        Admitted::Refused(refusal) => Refined::Refused(refusal),
+    let image = Image::new(view)?;
+    let seed = admit(&image, cfg, x, y)?;
+    // at radius 0 there is no operator, whatever is lent
+    if cfg.radius == 0 {
+        return Err(Unrefined::Unmoved(Why::IllConditioned, 0.0));
     }
+    let opened = open_seed(&image, columns, cfg, seed)?;
+    Ok(closing::closed(opened, overlap, wanted))
 }
 
 // The refiner of one seed; it builds its own operator, after the tests.
-pub fn refine(
-    bytes: &[u8],
-    words: &[u16],
-    sizes: Sizes,
+pub fn refine<S: Sample>(
+    view: ImageView<S>,
     cfg: SaddlePointConfig,
     x: f32,
     y: f32,
     wanted: bool,
-) -> Refined
-    ensures { result ≡ refine_of (image_of bytes.now words.now sizes) cfg x y wanted }
+) -> Result<Estimate, Unrefined>
+    ensures { result ≡ refine_of (shown S.levels S.deep view.entry) cfg x y wanted }
 {
-    let admitted = admit(bytes, words, sizes, cfg, x, y);
-    match admitted {
-        Admitted::Good(seed) => refine_fresh(bytes, words, sizes, cfg, seed, wanted),
-        Admitted::Unmoved(why) => Refined::Unmoved(why, 0.0),
-        Admitted::Refused(refusal) => Refined::Refused(refusal),
-    }
+    let image = Image::new(view)?;
+    let seed = admit(&image, cfg, x, y)?;
+    let opened = open_fresh(&image, cfg, seed)?;
+    close_fresh(opened, cfg, wanted)
 }
 
-// A seed that passed the tests, with the operator of the settings' radius.
-fn refine_fresh(
-    bytes: &[u8],
-    words: &[u16],
-    sizes: Sizes,
+// A seed that passed the tests, as far as the columns of the settings' radius go; at radius 0 there is no operator.
+fn open_fresh<S: Sample>(
+    image: &Image<S>,
     cfg: SaddlePointConfig,
     seed: Seed,
-    wanted: bool,
-) -> Refined
-    requires { PatchWithin (image_of bytes.now words.now sizes) cfg.radius seed.centre_x seed.centre_y }
-    ensures { result ≡ with_operator (image_of bytes.now words.now sizes) cfg seed wanted (way_of cfg.radius) }
-{
-    let opened = open_fresh(bytes, words, sizes, cfg, seed);
-    match opened {
-        Opened::Open(g) => Refined::Accepted(close_fresh(cfg.radius, seed, wanted, g)),
-        Opened::Done(answer) => answer,
-    }
-}
-
-// As far as the columns go; at radius 0 there is no operator.
-fn open_fresh(
-    bytes: &[u8],
-    words: &[u16],
-    sizes: Sizes,
-    cfg: SaddlePointConfig,
-    seed: Seed,
-) -> Opened
-    requires { PatchWithin (image_of bytes.now words.now sizes) cfg.radius seed.centre_x seed.centre_y }
-    ensures { OpensFresh (image_of bytes.now words.now sizes) cfg seed result }
+) -> Result<Opened, Unrefined>
+    requires { PatchWithin image.now cfg.radius seed.centre_x seed.centre_y }
+    ensures { result ≡ open_with image.now cfg seed (way_of cfg.radius) }
 {
     let mut columns = [0.0f32; 1125];
-    let operator = refine_operator::fit_columns(cfg.radius, &mut columns);
-    match operator {
-        Operator::Built => open_seed(bytes, words, sizes, cfg, seed, &columns),
-        Operator::Singular => Opened::Done(Refined::Unmoved(Why::IllConditioned, 0.0)),
-        Operator::Refused(refusal) => Opened::Done(Refined::Refused(refusal)),
-    }
+    refine_operator::fit_columns(cfg.radius, &mut columns)?;
+    open_seed(image, &columns, cfg, seed)
 }
 
-// An ending, with the overlaps where a covariance is wanted.
-fn close_fresh(radius: usize, seed: Seed, wanted: bool, g: Ending) -> Estimate
-    requires { (seed.centre_x < 4096) × (seed.centre_y < 4096) }
-    ensures { ClosesFresh radius seed wanted g result }
+// The estimate, with the overlaps of the settings' radius where a covariance is wanted.
+fn close_fresh(opened: Opened, cfg: SaddlePointConfig, wanted: bool) -> Result<Estimate, Unrefined>
+    ensures { ClosesFresh cfg wanted opened result }
 {
     let mut overlap = [0.0f32; 225];
     if wanted {
-        refine_operator::fit_overlap(radius, &mut overlap);
+        refine_operator::fit_overlap(cfg.radius, &mut overlap)?;
     }
-    closing::closed(seed, &overlap, wanted, g)
-}
-
-// The number of a reason.
-pub fn why_number(why: Why) -> u32
-    ensures { result ≡ why_number why }
-{
-    match why {
-        Why::Rejected => 1,
-        Why::OutOfBounds => 2,
-        Why::IllConditioned => 3,
-        Why::BadSeed => 4,
-        Why::Flawed(flaw) => flaw_number(flaw),
-    }
-}
-
-// The number of the test that refused a fit.
-fn flaw_number(flaw: Flaw) -> u32
-    ensures { result ≡ flaw_number flaw }
-{
-    match flaw {
-        Flaw::AboveMargin => 5,
-        Flaw::TooSmall => 6,
-        Flaw::NotFinite => 7,
-    }
+    Ok(closing::closed(opened, &overlap, wanted))
 }
 
 // The number that stood for this one while a refused fit had one number.
 pub fn old_number(number: u32) -> u32
     ensures { result ≡ old_number number }
 {
-    if (5 <= number) & (number <= 7) {
-        3
-    } else {
-        number
+    match number {
+        5..=7 => 3,
+        _ => number,
     }
 }
 
@@ -151,26 +95,14 @@ pub fn old_number(number: u32) -> u32
 fn good_limit(v: f32) -> bool
     ensures { result ≡ good_limit v }
 {
-    if floats::is_finite_f32(v) {
-        if v < 0.0 {
-            return false;
-        }
-        return true;
-    }
-    false
+    floats::is_finite_f32(v) & !(v < 0.0)
 }
 
 // The test of the settings.
 pub fn good_limits(cfg: SaddlePointConfig) -> bool
     ensures { result ≡ good_limits cfg }
 {
-    if good_limit(cfg.det_margin) {
-        if good_limit(cfg.max_offset) {
-            return good_limit(cfg.min_abs_det);
-        }
-        return false;
-    }
-    false
+    good_limit(cfg.det_margin) & good_limit(cfg.max_offset) & good_limit(cfg.min_abs_det)
 }
 
 // Whether both coordinates are finite.
@@ -180,119 +112,86 @@ fn is_place(x: f32, y: f32) -> bool
     floats::is_finite_f32(x) & floats::is_finite_f32(y)
 }
 
-// The tests before the first fit.
-fn admit(
-    bytes: &[u8],
-    words: &[u16],
-    sizes: Sizes,
+// The tests that are left of a tested image: its settings', and then the seed's own.
+fn admit<S: Sample>(
+    image: &Image<S>,
     cfg: SaddlePointConfig,
     x: f32,
     y: f32,
-) -> Admitted
-    ensures { result ≡ admit_of (image_of bytes.now words.now sizes) cfg x y }
+) -> Result<Seed, Unrefined>
+    requires tested { IsTested image.now }
+    ensures { result ≡ admit_of image.now cfg x y }
 {
-    if !imageview::is_image(bytes, words, sizes) {
-        return Admitted::Refused(Refusal::BadImage);
-    }
-    if !imageview::in_range(bytes, words, sizes) {
-        return Admitted::Refused(Refusal::BadSample);
-    }
     if 7 < cfg.radius {
-        return Admitted::Refused(Refusal::BadRadius);
+        return Err(Unrefined::Refused(Refusal::BadRadius));
     }
     if !good_limits(cfg) {
-        return Admitted::Refused(Refusal::BadLimit);
+        return Err(Unrefined::Refused(Refusal::BadLimit));
     }
-    place_seed(sizes, cfg.radius, x, y)
+    place_seed(image, cfg.radius, x, y)
 }
 
 // The tests of a seed alone, where the image and the settings passed theirs: a list asks those once.
-pub fn place_seed(sizes: Sizes, radius: usize, x: f32, y: f32) -> Admitted
-    requires { (sizes.width ≤ 4096) × (sizes.height ≤ 4096) }
-    ensures { result ≡ seed_alone sizes.width sizes.height radius x y }
+#[tactic(auto, unfolding(imageview::specs::Patch::supports_patch))]
+pub fn place_seed<S: Sample>(
+    image: &Image<S>,
+    radius: usize,
+    x: f32,
+    y: f32,
+) -> Result<Seed, Unrefined>
+    requires { (image.now.width ≤ 4096) × (image.now.height ≤ 4096) }
+    ensures { result ≡ seed_alone image.now.width image.now.height radius x y }
 {
     if !is_place(x, y) {
-        return Admitted::Unmoved(Why::BadSeed);
+        return Err(Unrefined::Unmoved(Why::BadSeed, 0.0));
     }
     let cx = floats::round_to_i32(x);
     let cy = floats::round_to_i32(y);
-    if !imageview::supports_patch(sizes, cx, cy, radius) {
-        return Admitted::Unmoved(Why::OutOfBounds);
+    if !image.supports_patch(cx, cy, radius) {
+        return Err(Unrefined::Unmoved(Why::OutOfBounds, 0.0));
     }
-    Admitted::Good(Seed {
+    Ok(Seed {
         x,
         y,
-        centre_x: cx as usize,
-        centre_y: cy as usize,
+        centre_x: cx as u16,
+        centre_y: cy as u16,
     })
 }
 
-// A seed that passed the tests, with an operator that is lent; at radius 0 there is none, whatever is lent.
-fn refine_lent(
-    bytes: &[u8],
-    words: &[u16],
-    sizes: Sizes,
+// A seed that passed the tests, with these columns: the first fit decides acceptance.
+#[tactic(auto, unfolding(refine_fits::specs::Candidate::near_seed))]
+fn open_seed<S: Sample>(
+    image: &Image<S>,
+    numbers: &[f32; 1125],
     cfg: SaddlePointConfig,
     seed: Seed,
-    wanted: bool,
-    columns: &[f32; 1125],
-    overlap: &[f32; 225],
-) -> Refined
-    requires { PatchWithin (image_of bytes.now words.now sizes) cfg.radius seed.centre_x seed.centre_y }
-    ensures { result ≡ lent_with cfg (refine_with (image_of bytes.now words.now sizes) cfg seed wanted columns.now overlap.now) }
+) -> Result<Opened, Unrefined>
+    requires { PatchWithin image.now cfg.radius seed.centre_x seed.centre_y }
+    ensures { result ≡ open_of image.now cfg seed numbers.now }
 {
-    if cfg.radius == 0 {
-        return Refined::Unmoved(Why::IllConditioned, 0.0);
+    // only for a list it pays to have them fourfold
+    let columns = Columns {
+        numbers,
+        fourfold: false,
+        radius: cfg.radius,
+    };
+    let here = first_fit(image, &columns, seed);
+    let first = solve::solve(cfg, here)?;
+    if !tries::near_seed(cfg, seed, first.ux, first.uy) {
+        return Err(Unrefined::Unmoved(Why::Rejected, first.det_h));
     }
-    let opened = open_seed(bytes, words, sizes, cfg, seed, columns);
-    match opened {
-        Opened::Open(g) => Refined::Accepted(closing::closed(seed, overlap, wanted, g)),
-        Opened::Done(answer) => answer,
+    if solve::settled(first) {
+        return Ok(closing::at_centre(image, &columns, seed, here, first));
     }
-}
-
-// A seed that passed the tests: the first fit decides acceptance.
-fn open_seed(
-    bytes: &[u8],
-    words: &[u16],
-    sizes: Sizes,
-    cfg: SaddlePointConfig,
-    seed: Seed,
-    columns: &[f32; 1125],
-) -> Opened
-    requires { PatchWithin (image_of bytes.now words.now sizes) cfg.radius seed.centre_x seed.centre_y }
-    ensures { Opens (λ overlap wanted. refine_with (image_of bytes.now words.now sizes) cfg seed wanted columns.now overlap) seed result }
-{
-    let here = first_fit(bytes, words, sizes, cfg, seed, columns);
-    let solved = solve::solve(cfg, here);
-    match solved {
-        Solved::Refused(flaw, det) => Opened::Done(Refined::Unmoved(Why::Flawed(flaw), det)),
-        Solved::Saddle(f) => {
-            if tries::near_seed(cfg, seed, f.ux, f.uy) {
-                if solve::settled(f) {
-                    return closing::at_centre(bytes, words, sizes, columns, cfg, seed, here, f);
-                }
-                return closing::stepped(bytes, words, sizes, columns, cfg, seed, f);
-            }
-            Opened::Done(Refined::Unmoved(Why::Rejected, f.det_h))
-        }
-    }
+    Ok(closing::stepped(image, &columns, cfg, seed, first))
 }
 
 // The fit about a seed's centre pixel. By itself, so that the stack holds what is handed to it only while it lasts.
-fn first_fit(
-    bytes: &[u8],
-    words: &[u16],
-    sizes: Sizes,
-    cfg: SaddlePointConfig,
-    seed: Seed,
-    columns: &[f32; 1125],
-) -> [f32; 5]
-    requires { PatchWithin (image_of bytes.now words.now sizes) cfg.radius seed.centre_x seed.centre_y }
-    ensures { result ≡ coefficients (image_of bytes.now words.now sizes) columns.now cfg.radius seed.centre_x seed.centre_y }
+fn first_fit<S: Sample>(image: &Image<S>, columns: &Columns, seed: Seed) -> [f32; 5]
+    requires { PatchWithin image.now columns.now.radius seed.centre_x seed.centre_y }
+    ensures { result ≡ coefficients image.now columns.now.numbers.now columns.now.radius seed.centre_x seed.centre_y }
 {
-    let radius = cfg.radius;
-    let cx = seed.centre_x;
-    let cy = seed.centre_y;
-    fits::fit_patch(bytes, words, sizes, cx, cy, radius, columns)
+    let x = usize::from(seed.centre_x);
+    let y = usize::from(seed.centre_y);
+    fits::fit_patch(image, x, y, columns)
 }

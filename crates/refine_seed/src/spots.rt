@@ -1,163 +1,123 @@
 // Where a seed is refined to and nothing else: no root, no slope and no covariance is worked out, which a list does not ask for.
-ghost use Rattle.std.specs.Prelude.{◌≡◌, ◌≤◌, ◌<◌, pos};
-ghost use Rattle.std.specs.Float.{binary32};
-ghost use Rattle.std.specs.Float.Ieee.{of_int};
-ghost use Rattle.imageview.specs.Image.{image_of};
-ghost use Rattle.refine_formulas.specs.Numbers.{◌⊕◌};
-ghost use Rattle.refine_patch.specs.StepsFrom.{Repeats};
+ghost use Rattle.std.specs.Prelude.{◌≡◌, ◌≤◌};
 ghost use Rattle.refine_fits.specs.Fit.{coefficients};
 ghost use Rattle.refine_fits.specs.StepsAdding.{PatchWithin};
 ghost use Rattle.refine_fits.specs.StepsBases.{coefs_in};
 ghost use Rattle.refine_fits.specs.Candidate.{task_at};
-ghost use Rattle.refine_seed.specs.declared.Spot.TheVariants.{At};
-ghost use Rattle.refine_seed.specs.Refine.{refine_with, lent_with, refine_lent};
-ghost use Rattle.refine_seed.specs.StepsSpot.{Ready, seed_alone, first_for, Fitted, Comes, Lands};
+ghost use Rattle.refine_seed.specs.Refine.{refine_lent};
+ghost use Rattle.refine_seed.specs.Spot.{spot_at};
+ghost use Rattle.refine_seed.specs.StepsEnding.{middle_of, moved, open_of, opened_from};
+ghost use Rattle.refine_seed.specs.StepsSpot.{Ready, seed_alone, first_for, Fitted, spot_in, Lands};
 
-use super::{Admitted, Spot};
+use super::Spot;
 use crate::{entry, steps};
-use imageview::Sizes;
+use imageview::{Image, Sample};
 use refine_fits::{Seed, fits, laid, tries};
-use refine_formulas::{PatchSaddle, SaddlePointConfig, Solved, solve};
+use refine_formulas::{PatchSaddle, SaddlePointConfig, solve};
+use refine_patch::Columns;
 
-// Where the patch about a seed begins in the image's samples; 0 for a seed that does not pass its own tests.
-pub fn first_place(sizes: Sizes, radius: usize, x: f32, y: f32) -> usize
-    requires { (sizes.width ≤ 4096) × (sizes.height ≤ 4096) × (sizes.pitch ≤ 8192) }
-    ensures { result ≡ first_for sizes.pitch radius (seed_alone sizes.width sizes.height radius x y) }
-{
-    let placed = entry::place_seed(sizes, radius, x, y);
-    match placed {
-        Admitted::Good(seed) => fits::first_place(sizes, seed.centre_x, seed.centre_y, radius),
-        Admitted::Unmoved(_) => 0,
-        Admitted::Refused(_) => 0,
+impl Spot {
+    // The middle of a seed's centre pixel.
+    pub fn middle_of(seed: Seed) -> Spot
+        ensures { result ≡ middle_of seed }
+    {
+        Spot {
+            x: f32::from(seed.centre_x),
+            y: f32::from(seed.centre_y),
+        }
     }
-}
 
-// The spot of one seed with an operator that is lent and the seed's first fit, which a list works out for four seeds at once: it is read where it stands, since a copy costs time.
-pub fn spot_with(
-    bytes: &[u8],
-    words: &[u16],
-    sizes: Sizes,
-    cfg: SaddlePointConfig,
-    x: f32,
-    y: f32,
-    columns: &[f32; 1125],
-    fourfold: bool,
-    flat: &[f32; 40],
-    at: usize,
-) -> Spot
-    requires ready_1 { Ready (image_of bytes.now words.now sizes) cfg }
-    requires ready_2 { Fitted (image_of bytes.now words.now sizes) columns.now cfg x y (coefs_in flat.now at) }
-    requires ready_3 { at ≤ 23 }
-    requires repeats { Repeats fourfold cfg.radius columns.now }
-    ensures { Lands (λ overlap wanted. refine_lent (image_of bytes.now words.now sizes) cfg x y wanted columns.now overlap) result }
-{
-    let placed = entry::place_seed(sizes, cfg.radius, x, y);
-    match placed {
-        Admitted::Good(seed) => spot_lent(
-            bytes, words, sizes, cfg, seed, columns, fourfold, flat, at,
-        ),
-        Admitted::Unmoved(_) => Spot::Nowhere,
-        Admitted::Refused(_) => Spot::Nowhere,
-    }
-}
-
-// A seed that passed the tests; at radius 0 there is no operator, whatever is lent.
-fn spot_lent(
-    bytes: &[u8],
-    words: &[u16],
-    sizes: Sizes,
-    cfg: SaddlePointConfig,
-    seed: Seed,
-    columns: &[f32; 1125],
-    fourfold: bool,
-    flat: &[f32; 40],
-    at: usize,
-) -> Spot
-    requires patch_within_1 { PatchWithin (image_of bytes.now words.now sizes) cfg.radius seed.centre_x seed.centre_y }
-    requires patch_within_2 { coefs_in flat.now at ≡ coefficients (image_of bytes.now words.now sizes) columns.now cfg.radius seed.centre_x seed.centre_y }
-    requires patch_within_3 { at ≤ 23 }
-    requires repeats { Repeats fourfold cfg.radius columns.now }
-    ensures { Lands (λ overlap wanted. lent_with cfg (refine_with (image_of bytes.now words.now sizes) cfg seed wanted columns.now overlap)) result }
-{
-    if cfg.radius == 0 {
-        return Spot::Nowhere;
-    }
-    spot_of_seed(bytes, words, sizes, cfg, seed, columns, fourfold, flat, at)
-}
-
-// A seed that passed the tests: the first fit decides acceptance.
-fn spot_of_seed(
-    bytes: &[u8],
-    words: &[u16],
-    sizes: Sizes,
-    cfg: SaddlePointConfig,
-    seed: Seed,
-    columns: &[f32; 1125],
-    fourfold: bool,
-    flat: &[f32; 40],
-    at: usize,
-) -> Spot
-    requires patch_within_1 { PatchWithin (image_of bytes.now words.now sizes) cfg.radius seed.centre_x seed.centre_y }
-    requires patch_within_2 { coefs_in flat.now at ≡ coefficients (image_of bytes.now words.now sizes) columns.now cfg.radius seed.centre_x seed.centre_y }
-    requires patch_within_3 { at ≤ 23 }
-    requires repeats { Repeats fourfold cfg.radius columns.now }
-    ensures { Lands (λ overlap wanted. refine_with (image_of bytes.now words.now sizes) cfg seed wanted columns.now overlap) result }
-{
-    let solved = solve::solve(cfg, laid::coefs_at(flat, at));
-    match solved {
-        Solved::Refused(_, _) => Spot::Nowhere,
-        Solved::Saddle(f) => {
-            if tries::near_seed(cfg, seed, f.ux, f.uy) {
-                return spot_from(bytes, words, sizes, columns, fourfold, cfg, seed, f);
-            }
-            Spot::Nowhere
+    // So far on.
+    pub fn moved(self, x: f32, y: f32) -> Spot
+        ensures { result ≡ moved self x y }
+    {
+        Spot {
+            x: self.x + x,
+            y: self.y + y,
         }
     }
 }
 
+// Where the patch about a seed begins in the image's samples; 0 for a seed that does not pass its own tests, whose fit is worked out beside others' and not used.
+pub fn first_place<S: Sample>(image: &Image<S>, radius: usize, x: f32, y: f32) -> usize
+    requires { (image.now.width ≤ 4096) × (image.now.height ≤ 4096) }
+    ensures { result ≡ first_for image.now.pitch radius (seed_alone image.now.width image.now.height radius x y) }
+{
+    let placed = entry::place_seed(image, radius, x, y);
+    match placed {
+        Ok(seed) => fits::first_place(image, seed.centre_x, seed.centre_y, radius),
+        Err(_) => 0,
+    }
+}
+
+// The spot of one seed with an operator that is lent and the seed's first fit, which a list works out for four seeds at once: it is read where it stands, since a copy costs time.
+pub fn spot_with<S: Sample>(
+    image: &Image<S>,
+    columns: &Columns,
+    cfg: SaddlePointConfig,
+    x: f32,
+    y: f32,
+    flat: &[f32; 40],
+    at: usize,
+) -> Option<Spot>
+    requires ready { Ready image.now cfg }
+    requires radius { columns.now.radius ≡ cfg.radius }
+    requires fitted { Fitted image.now columns.now.numbers.now cfg x y (coefs_in flat.now at) }
+    requires stands { at ≤ 23 }
+    ensures { Lands (λ overlap wanted. refine_lent image.now cfg x y wanted columns.now.numbers.now overlap) result }
+{
+    let seed = entry::place_seed(image, cfg.radius, x, y).ok()?;
+    // at radius 0 there is no operator, whatever is lent
+    if cfg.radius == 0 {
+        return None;
+    }
+    spot_of_seed(image, columns, cfg, seed, flat, at)
+}
+
+// A seed that passed the tests: the first fit decides acceptance.
+#[tactic(auto, unfolding(refine_fits::specs::Candidate::near_seed))]
+fn spot_of_seed<S: Sample>(
+    image: &Image<S>,
+    columns: &Columns,
+    cfg: SaddlePointConfig,
+    seed: Seed,
+    flat: &[f32; 40],
+    at: usize,
+) -> Option<Spot>
+    requires within { PatchWithin image.now cfg.radius seed.centre_x seed.centre_y }
+    requires radius { columns.now.radius ≡ cfg.radius }
+    requires fitted { coefs_in flat.now at ≡ coefficients image.now columns.now.numbers.now cfg.radius seed.centre_x seed.centre_y }
+    requires stands { at ≤ 23 }
+    ensures { result ≡ spot_in (open_of image.now cfg seed columns.now.numbers.now) }
+{
+    let first = solve::solve(cfg, laid::coefs_at(flat, at)).ok()?;
+    if !tries::near_seed(cfg, seed, first.ux, first.uy) {
+        return None;
+    }
+    Some(spot_from(image, columns, cfg, seed, first))
+}
+
 // From the first fit's saddle.
-fn spot_from(
-    bytes: &[u8],
-    words: &[u16],
-    sizes: Sizes,
-    columns: &[f32; 1125],
-    fourfold: bool,
+#[tactic(auto, using(crate::proofs::ClosingLaws::spot_there))]
+fn spot_from<S: Sample>(
+    image: &Image<S>,
+    columns: &Columns,
     cfg: SaddlePointConfig,
     seed: Seed,
     first: PatchSaddle,
 ) -> Spot
-    requires patch_within { PatchWithin (image_of bytes.now words.now sizes) cfg.radius seed.centre_x seed.centre_y }
-    requires repeats { Repeats fourfold cfg.radius columns.now }
-    ensures { Comes (task_at (image_of bytes.now words.now sizes) columns.now cfg seed) first result }
+    requires within { PatchWithin image.now cfg.radius seed.centre_x seed.centre_y }
+    requires radius { columns.now.radius ≡ cfg.radius }
+    ensures { result ≡ spot_at (opened_from (task_at image.now columns.now.numbers.now cfg seed) seed first).estimate }
 {
+    let middle = Spot::middle_of(seed);
     if solve::settled(first) {
-        return spot_at(seed, 0.0, 0.0, first);
+        // a window that is moved by nothing
+        return middle.moved(0.0, 0.0).moved(first.ux, first.uy);
     }
-    let e = steps::run(bytes, words, sizes, columns, fourfold, cfg, seed, first);
-    if e.settled {
-        let fit = e.fit;
-        return spot_at(seed, e.ox, e.oy, fit);
-    }
-    single_spot(seed, first)
-}
-
-fn spot_at(seed: Seed, ox: f32, oy: f32, f: PatchSaddle) -> Spot
-    requires { (seed.centre_x < 4096) × (seed.centre_y < 4096) }
-    ensures { result ≡ At (of_int binary32 (pos seed.centre_x) ⊕ ox ⊕ f.ux) (of_int binary32 (pos seed.centre_y) ⊕ oy ⊕ f.uy) }
-{
-    Spot::At {
-        x: seed.centre_x as u16 as f32 + ox + f.ux,
-        y: seed.centre_y as u16 as f32 + oy + f.uy,
-    }
-}
-
-// The first fit's, where the steps did not settle.
-fn single_spot(seed: Seed, f: PatchSaddle) -> Spot
-    requires { (seed.centre_x < 4096) × (seed.centre_y < 4096) }
-    ensures { result ≡ At (of_int binary32 (pos seed.centre_x) ⊕ f.ux) (of_int binary32 (pos seed.centre_y) ⊕ f.uy) }
-{
-    Spot::At {
-        x: seed.centre_x as u16 as f32 + f.ux,
-        y: seed.centre_y as u16 as f32 + f.uy,
+    let ended = steps::run(image, columns, cfg, seed, first);
+    match ended.settled {
+        Some(w) => middle.moved(w.ox, w.oy).moved(w.fit.ux, w.fit.uy),
+        None => middle.moved(first.ux, first.uy),
     }
 }

@@ -30,7 +30,7 @@ returns-then-mean-ne0 c =
     c.add_cross.ensures
     ∙ ap (λ (g : List Float). turns 5 (cross_step (passed m.result) (listed a.cells.now) a.scale) g) c.add_ring.ensures
     ∙ ring-and-cross (listed s.result) (passed m.result) (listed a.cells.now) a.scale a.grid.now (λ q. c.if-mean-ne0.true (ap (of_z w32) (sym e ∙ q)))
-    ∙ same-samples a.tile.now s.result (listed a.cells.now) s.ensures (passed m.result) (e ∙ m.ensures.is) a.scale a.grid.now
+    ∙ same-samples a.tile.now s.result (listed a.cells.now) s.ensures (passed m.result) (e ∙ m.ensures.sign) a.scale a.grid.now
 
 pub returns-else-mean-ne0 : goal.returns-else-mean-ne0
 returns-else-mean-ne0 c =
@@ -40,4 +40,4 @@ returns-else-mean-ne0 c =
     let e : passed m.result ≡ m.result = to_z-of_z w32 m.result (record { sfits = m.type_inv }) in
     c.add_ring.ensures
     ∙ ring-only (listed s.result) (passed m.result) (listed a.cells.now) a.scale a.grid.now (ap (to_z w32) c.if-mean-ne0.false)
-    ∙ same-samples a.tile.now s.result (listed a.cells.now) s.ensures (passed m.result) (e ∙ m.ensures.is) a.scale a.grid.now
+    ∙ same-samples a.tile.now s.result (listed a.cells.now) s.ensures (passed m.result) (e ∙ m.ensures.sign) a.scale a.grid.now

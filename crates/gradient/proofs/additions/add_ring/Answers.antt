@@ -14,4 +14,4 @@ loop-k-preserved c =
     let a = c.args in
     let l = c.loop-k in
     let r = c.ring_coefficient-c in
-    (c.add_at.auto.grid ∙ l.invariant.0, ring_turned (listed a.samples.now) (to_z w32 (of_z w32 a.mean)) (listed a.cells.now) a.scale l.k _ a.grid.now l.grid c.add_at.new.grid l.invariant.1 (ap (λ (z : ℤ). of_int binary32 z) (to_z-of_z w32 r.result (record { sfits = r.type_inv }) ∙ r.ensures.is)) c.add_at.ensures)
+    (c.add_at.auto.grid ∙ l.invariant.0, ring_turned (listed a.samples.now) (to_z w32 (of_z w32 a.mean)) (listed a.cells.now) a.scale l.k _ a.grid.now l.grid c.add_at.new.grid l.invariant.1 (ap (λ (z : ℤ). of_int binary32 z) (to_z-of_z w32 r.result (record { sfits = r.type_inv }) ∙ r.ensures.coefficient)) c.add_at.ensures)

@@ -1,10 +1,18 @@
 -- `refine_seed::entry::close_fresh` meets its contract: overlaps that were not built are not wanted.
-use Rattle.refine_seed.proofs.OpenLaws.{closes-wanted, closes-unwanted}
+use mathlib.Core.Path.{ap, ◌∙◌}
+use mathlib.Core.List.{List}
+use lib.Ieee.{Float}
+use Rattle.std.specs.Prelude.{Ok}
+use Rattle.refine_seed.specs.StepsEnding.{closed_with}
+use Rattle.refine_seed.proofs.ColumnLaws.{fresh_wanted, fresh_unwanted}
 use Rattle.refine_seed.proofs.entry.close_fresh.Goals as goal
-use Rattle.refine_seed.proofs.entry.close_fresh.Goals.{else-wanted, then-wanted}
+use Rattle.refine_seed.proofs.entry.close_fresh.Goals.{then-wanted+in_ok-fit_overlap, else-wanted}
 
 pub returns : goal.returns
 returns c =
     let a = c.args in
-    let j = c.if-wanted in
-    elim c.if-wanted.branch [ then-wanted w ↦ closes-wanted a.radius a.seed a.wanted a.g j.overlap c.closed.result c.closed.ensures _ _ _ w.fit_overlap.ensures w.overlap-is | else-wanted w ↦ closes-unwanted a.radius a.seed a.wanted a.g j.overlap c.closed.result c.closed.ensures w.if-wanted.false ]
+    record {
+      is = λ img seed h.
+          ap Ok c.closed.ensures
+          ∙ elim c.if-wanted.branch [ then-wanted+in_ok-fit_overlap w ↦ ap (λ (v : List Float). Ok (closed_with v a.wanted a.opened)) w.overlap-is ∙ fresh_wanted img a.cfg seed a.wanted a.opened _ _ _ h w.fit_overlap.ensures | else-wanted w ↦ fresh_unwanted img a.cfg seed a.wanted a.opened c.if-wanted.overlap h w.if-wanted.false ];
+    }

@@ -1,38 +1,40 @@
 -- `refine_seed::spots::spot_with` meets its contract: a seed that passed its tests goes on, any other goes nowhere.
-use mathlib.Core.Path.{◌≡◌, refl, sym, ◌∙◌}
-use Rattle.imageview.specs.Image.{image_of}
-use Rattle.refine_seed.specs.Refine.{admit_of}
+use Rattle.std.specs.Prelude.{Option, List, Bool, Float}
+use mathlib.Core.Path.{◌≡◌, sym, ◌∙◌, subst}
+use Rattle.refine_seed.specs.declared.Spot.{Spot}
+use Rattle.refine_seed.specs.Refine.{refine_lent}
+use Rattle.refine_seed.specs.StepsSpot.{Lands}
 use Rattle.refine_seed.proofs.EntryLaws.{alone, ready-sound, good-within}
-use Rattle.refine_seed.proofs.SpotLaws.{lands-good, lands-other}
+use Rattle.refine_seed.proofs.SpotLaws.{lands_unplaced, lands_zero, lands_seed, placed}
 use Rattle.refine_seed.proofs.spots.spot_with.Goals as goal
 
-pub place_seed-placed-requires : goal.place_seed-placed-requires
-place_seed-placed-requires c =
-    let t = (ready-sound (image_of c.args.bytes.now c.args.words.now c.args.sizes) c.args.cfg c.requires.ready_1).image.sized in
+pub place_seed-requires : goal.place_seed-requires
+place_seed-requires g c =
+    let t = (ready-sound c.args.image.now c.args.cfg c.requires.ready).image.sized in
     (t.width-most, t.height-most)
 
-pub spot_lent-requires : goal.spot_lent-requires
-spot_lent-requires c =
-    let whole : let a = c.args in admit_of (image_of a.bytes.now a.words.now a.sizes) a.cfg a.x a.y ≡ c.place_seed-placed.result = sym (c.place_seed-placed.ensures ∙ alone (image_of c.args.bytes.now c.args.words.now c.args.sizes) c.args.cfg c.args.x c.args.y c.requires.ready_1) in
+pub returns-in_err-seed : goal.returns-in_err-seed
+returns-in_err-seed g c =
     let a = c.args in
-    let seed = c.in-Good.seed in
-    let good = whole ∙ c.in-Good.is in
-    record { patch_within_1 = good-within (image_of a.bytes.now a.words.now a.sizes) a.cfg a.x a.y seed good; patch_within_2 = c.requires.ready_2.is seed good; patch_within_3 = c.requires.ready_3; repeats = c.requires.repeats }
+    subst (λ (r : Option Spot). Lands (λ (overlap : List Float) (wanted : Bool). refine_lent a.image.now a.cfg a.x a.y wanted a.columns.now.numbers.now overlap) r) (sym c.from_residual.ensures)
+    (lands_unplaced a.image.now a.columns.now.numbers.now a.cfg a.x a.y c.place_seed.result (c.place_seed.ensures ∙ alone a.image.now a.cfg a.x a.y c.requires.ready) c.in_err-seed.ensures.value)
 
-pub returns-in-Good : goal.returns-in-Good
-returns-in-Good c =
-    let whole : let a = c.args in admit_of (image_of a.bytes.now a.words.now a.sizes) a.cfg a.x a.y ≡ c.place_seed-placed.result = sym (c.place_seed-placed.ensures ∙ alone (image_of c.args.bytes.now c.args.words.now c.args.sizes) c.args.cfg c.args.x c.args.y c.requires.ready_1) in
+pub returns-then-cfg-eq0 : goal.returns-then-cfg-eq0
+returns-then-cfg-eq0 g c =
     let a = c.args in
-    lands-good (image_of a.bytes.now a.words.now a.sizes) a.columns.now a.cfg a.x a.y c.in-Good.seed (whole ∙ c.in-Good.is) _ c.spot_lent.ensures
+    lands_zero a.image.now a.columns.now.numbers.now a.cfg a.x a.y c.in_ok-seed.seed (sym (placed _ _ c.in_ok-seed.ensures.value) ∙ c.place_seed.ensures ∙ alone a.image.now a.cfg a.x a.y c.requires.ready) c.if-cfg-eq0.true
 
-pub returns-in-Unmoved : goal.returns-in-Unmoved
-returns-in-Unmoved c =
-    let whole : let a = c.args in admit_of (image_of a.bytes.now a.words.now a.sizes) a.cfg a.x a.y ≡ c.place_seed-placed.result = sym (c.place_seed-placed.ensures ∙ alone (image_of c.args.bytes.now c.args.words.now c.args.sizes) c.args.cfg c.args.x c.args.y c.requires.ready_1) in
+pub spot_of_seed-requires-clause-within : goal.spot_of_seed-requires-clause-within
+spot_of_seed-requires-clause-within g c =
     let a = c.args in
-    lands-other (image_of a.bytes.now a.words.now a.sizes) a.columns.now a.cfg a.x a.y _ (whole ∙ c.in-Unmoved.is) (λ go. refl)
+    good-within a.image.now a.cfg a.x a.y c.in_ok-seed.seed (sym (sym (placed _ _ c.in_ok-seed.ensures.value) ∙ c.place_seed.ensures ∙ alone a.image.now a.cfg a.x a.y c.requires.ready))
 
-pub returns-in-Refused : goal.returns-in-Refused
-returns-in-Refused c =
-    let whole : let a = c.args in admit_of (image_of a.bytes.now a.words.now a.sizes) a.cfg a.x a.y ≡ c.place_seed-placed.result = sym (c.place_seed-placed.ensures ∙ alone (image_of c.args.bytes.now c.args.words.now c.args.sizes) c.args.cfg c.args.x c.args.y c.requires.ready_1) in
+pub spot_of_seed-requires-clause-fitted : goal.spot_of_seed-requires-clause-fitted
+spot_of_seed-requires-clause-fitted g c =
     let a = c.args in
-    lands-other (image_of a.bytes.now a.words.now a.sizes) a.columns.now a.cfg a.x a.y _ (whole ∙ c.in-Refused.is) (λ go. refl)
+    c.requires.fitted.is c.in_ok-seed.seed (sym (sym (placed _ _ c.in_ok-seed.ensures.value) ∙ c.place_seed.ensures ∙ alone a.image.now a.cfg a.x a.y c.requires.ready))
+
+pub returns : goal.returns
+returns g c =
+    let a = c.args in
+    lands_seed a.image.now a.columns.now.numbers.now a.cfg a.x a.y c.in_ok-seed.seed (sym (placed _ _ c.in_ok-seed.ensures.value) ∙ c.place_seed.ensures ∙ alone a.image.now a.cfg a.x a.y c.requires.ready) c.if-cfg-eq0.false _ c.spot_of_seed.ensures

@@ -1,22 +1,20 @@
--- `refine_seed::steps::run` meets its contract. The loop goes on where the whole run would: each candidate is one law, and so is each way out.
-use mathlib.Core.List.{List}
-use Prim.Native.Nat.{ℕ, ◌+◌, ◌*◌}
-use lib.Ieee.{Float}
-use Rattle.imageview.specs.Image.{image_of}
-use Rattle.refine_formulas.specs.declared.PatchSaddle.{PatchSaddle}
-use Rattle.refine_fits.specs.declared.IntegerFits.{IntegerFits}
-use Rattle.refine_fits.specs.declared.Bases.{Bases}
-use Rattle.refine_fits.specs.Candidate.{task_at, Task}
-use Rattle.refine_seed.specs.declared.Step.{Step}
-use Rattle.refine_seed.specs.StepsEnding.{Going}
+-- The loops of `refine_seed::steps::run` go on where the whole run would: before a step with the steps that are left, and within one before a candidate.
+use Rattle.std.proofs.Common.{◌≡◌, ℕ, ◌+◌, ◌-◌, ◌*◌, ◌≤◌}
+use Rattle.refine_fits.specs.Candidate.{task_at}
+use Rattle.refine_seed.specs.Run.{run_of}
+use Rattle.refine_seed.specs.StepsEnding.{Holds, ended_of, from_candidate, from_step}
 use Rattle.refine_seed.proofs.steps.run.Given as goal
 
--- where the loop stands, of the step at hand
-abbrev pub Stays : Task → PatchSaddle → IntegerFits → Bases → List Float → PatchSaddle → ℕ → Step → Type 0
-Stays t first fits bases flat f n s = Going t first fits bases flat f s.ox s.oy (record { x = s.x; y = s.y }) s.scale s.halvings s.left n
+abbrev pub invariant-steps : goal.invariant-steps
+invariant-steps g l = record {
+  holds : Holds l.image l.columns.numbers.now l.cfg.radius l.nearby;
+  few : l.tries ≤ 4 * l.step;
+  is : ended_of (run_of (task_at l.image l.columns.numbers.now l.cfg l.seed) l.fn.first) ≡ from_step (task_at l.image l.columns.numbers.now l.cfg l.seed) (16 - l.step) l.fit l.ox l.oy l.by l.tries;
+}
 
-abbrev pub invariant-loop-step : goal.invariant-loop-step
-invariant-loop-step l = Stays (task_at (image_of l.bytes l.words l.sizes) l.columns l.cfg l.seed) l.initial.fit l.fits l.bases l.flat l.fit l.tries l.step
-
-abbrev pub decreases-loop-step : goal.decreases-loop-step
-decreases-loop-step l = 5 * l.step.left + l.step.halvings
+abbrev pub invariant-loop-half : goal.invariant-loop-half
+invariant-loop-half g l = record {
+  holds : Holds l.image l.columns.numbers.now l.cfg.radius l.nearby;
+  few : l.tries ≤ 4 * l.step + l.half;
+  is : ended_of (run_of (task_at l.image l.columns.numbers.now l.cfg l.seed) l.fn.first) ≡ from_candidate (task_at l.image l.columns.numbers.now l.cfg l.seed) (15 - l.step) (4 - l.half) l.fit l.ox l.oy l.by l.scale l.tries;
+}

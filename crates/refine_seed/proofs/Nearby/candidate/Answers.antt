@@ -1,0 +1,31 @@
+-- `refine_seed::Nearby::candidate` meets its contract: without room, weighed and passed, or weighed and taken.
+use Rattle.std.proofs.Common.{ℕ, refl, subst}
+use Rattle.std.specs.Prelude.{Some, None}
+use mathlib.Core.Path.{◌∙◌}
+use Rattle.refine_fits.specs.Candidate.{task_at}
+use Rattle.refine_fits.specs.StepsBases.{Stands, corners_in}
+use Rattle.refine_fits.proofs.TryLaws.{tries, tries_lacking}
+use Rattle.refine_seed.proofs.StepLaws.{weighed_none, weighed_some}
+use Rattle.refine_seed.proofs.Nearby.candidate.Goals as goal
+
+pub returns-in_err-to-clause-taken : goal.returns-in_err-to-clause-taken
+returns-in_err-to-clause-taken g c =
+    let a = c.args in
+    let w = c.window_at-w in
+    let s = subst (λ (r : ℕ). Stands a.image.now a.columns.now.numbers.now r w.result.base None c.ready.new.self c.ready.new.flat) c.requires.radius c.in_err-to.ensures.stands in
+    let k = corners_in c.ready.new.flat 0 in
+    c.from_residual.ensures ∙ weighed_none (task_at a.image.now a.columns.now.numbers.now a.cfg a.seed) a.fit a.ox a.oy k w.result w.ensures (tries_lacking _ _ _ _ _ _ _ _ _ _ c.requires.sound w.ensures k s)
+
+pub returns-in_err-fit-clause-taken : goal.returns-in_err-fit-clause-taken
+returns-in_err-fit-clause-taken g c =
+    let a = c.args in
+    let w = c.window_at-w in
+    let s = subst (λ (r : ℕ). Stands a.image.now a.columns.now.numbers.now r w.result.base (Some c.in_ok-to.to) c.ready.new.self c.ready.new.flat) c.requires.radius c.in_ok-to.ensures.stands in
+    c.from_residual-in_err-fit.ensures ∙ weighed_none (task_at a.image.now a.columns.now.numbers.now a.cfg a.seed) a.fit a.ox a.oy c.corners_at-corners.result w.result w.ensures (tries _ _ _ _ _ _ _ _ _ _ c.requires.sound w.ensures _ _ None s c.corners_at-corners.ensures c.in_err-fit.ensures)
+
+pub returns-clause-taken : goal.returns-clause-taken
+returns-clause-taken g c =
+    let a = c.args in
+    let w = c.window_at-w in
+    let s = subst (λ (r : ℕ). Stands a.image.now a.columns.now.numbers.now r w.result.base (Some c.in_ok-to.to) c.ready.new.self c.ready.new.flat) c.requires.radius c.in_ok-to.ensures.stands in
+    weighed_some (task_at a.image.now a.columns.now.numbers.now a.cfg a.seed) a.fit a.ox a.oy c.corners_at-corners.result w.result w.ensures c.in_ok-fit.fit (tries _ _ _ _ _ _ _ _ _ _ c.requires.sound w.ensures _ _ (Some c.in_ok-fit.fit) s c.corners_at-corners.ensures c.in_ok-fit.ensures)
