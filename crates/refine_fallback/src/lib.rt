@@ -54,11 +54,11 @@ pub fn refine_corners_with_columns<S: Sample>(
 }
 
 // The seeds with columns that are lent, whose numbers are not repeated.
-fn lent<'a>(
+fn lent<'c, 'l>(
     cfg: SaddlePointConfig,
-    numbers: &'a [f32; 1125],
-    corners: &'a [f32],
-) -> Seeds<'a>
+    numbers: &'c [f32; 1125],
+    corners: &'l [f32],
+) -> Seeds<'c, 'l>
     ensures cfg { result.cfg ≡ cfg }
     ensures numbers { result.columns.numbers.now ≡ numbers.now }
     ensures corners { result.corners.now ≡ corners.now }

@@ -46,22 +46,24 @@ pub fn refine_both_own<S: Sample>(
     let mut second_numbers = [0.0f32; 1125];
     let first_used = build(first, &mut first_numbers);
     let second_used = build(second, &mut second_numbers);
+    let first_columns = Columns {
+        numbers: &first_numbers,
+        fourfold: first.radius < 3,
+        radius: first_used.radius,
+    };
+    let second_columns = Columns {
+        numbers: &second_numbers,
+        fourfold: second.radius < 3,
+        radius: second_used.radius,
+    };
     let first_seeds = Seeds {
         cfg: first_used,
-        columns: Columns {
-            numbers: &first_numbers,
-            fourfold: first.radius < 3,
-            radius: first_used.radius,
-        },
+        columns: first_columns,
         corners,
     };
     let second_seeds = Seeds {
         cfg: second_used,
-        columns: Columns {
-            numbers: &second_numbers,
-            fourfold: second.radius < 3,
-            radius: second_used.radius,
-        },
+        columns: second_columns,
         corners,
     };
     refine_both(image, &first_seeds, &second_seeds, out, passes)

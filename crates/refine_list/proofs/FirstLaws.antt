@@ -29,6 +29,9 @@ use Rattle.refine_seed.specs.StepsSpot.{Ready, seed_alone, first_for, Fitted}
 use Rattle.refine_seed.proofs.EntryLaws.{ready-sound, alone, good-within}
 use Rattle.refine_list.specs.Steps.{FirstFits, Begins}
 
+pub or-same : {w w' h h' : ℕ} (most : ℕ) → w ≡ w' → h ≡ h' → (leb w' most || leb h' most) ≡ (leb w most || leb h most)
+or-same {w} {w'} {h} {h'} most e f = sym (ap (λ (k : ℕ). leb k most || leb h most) e ∙ ap (λ (k : ℕ). leb w' most || leb k most) f)
+
 module _ (img : Image) (cfg : SaddlePointConfig) where
   -- ---- an image that no patch fits into
   pub too_small : (columns corners : List Float) (group : ℕ) (flat : List Float) → length flat ≡ 40 → (leb img.width (2 * cfg.radius) || leb img.height (2 * cfg.radius)) ≡ true → FirstFits img cfg columns corners group flat

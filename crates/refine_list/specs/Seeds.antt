@@ -13,3 +13,7 @@ lent_spot img s = lent_for img s.cfg s.columns.numbers.now s.corners.now
 -- the first fits that are held, those of a group of the list
 abbrev pub Holds : Image → Seeds → GroupFits → Type 0
 Holds img s f = Held img s.cfg s.columns.numbers.now s.corners.now f.group f.flat
+
+-- none are, whatever the image
+abbrev pub NoneHeld : Seeds → GroupFits → Type 0
+NoneHeld s f = (img : Image) → Holds img s f

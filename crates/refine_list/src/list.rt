@@ -24,20 +24,22 @@ pub fn refine_list<S: Sample>(
     ensures { AllWritten image.now cfg corners.now out.old result out.new }
 {
     let mut numbers = [0.0f32; 1125];
-    if build(cfg.radius, &mut numbers).is_err() {
-        return 0;
+    match build(cfg.radius, &mut numbers) {
+        Ok(()) => {
+            let columns = Columns {
+                numbers: &numbers,
+                fourfold: cfg.radius < 3,
+                radius: cfg.radius,
+            };
+            let seeds = Seeds {
+                cfg,
+                columns,
+                corners,
+            };
+            refine_all(image, &seeds, out)
+        }
+        Err(_) => 0,
     }
-    let columns = Columns {
-        numbers: &numbers,
-        fourfold: cfg.radius < 3,
-        radius: cfg.radius,
-    };
-    let seeds = Seeds {
-        cfg,
-        columns,
-        corners,
-    };
-    refine_all(image, &seeds, out)
 }
 
 // Builds the columns of a radius, below 3 with their numbers repeated.
@@ -86,9 +88,16 @@ pub fn put(out: &mut [f32], written: usize, spot: Option<Spot>, strength: f32) -
     ensures value { result ≡ written + length (record_of spot strength) }
     ensures out_after { out.new ≡ take written out.old ++ (record_of spot strength ++ drop (written + length (record_of spot strength)) out.old) }
 {
-    let Some(Spot { x, y }) = spot else {
-        return written;
-    };
-    corners::put(&mut out[written..], 0, Corner { x, y, strength });
-    written + 3
+    match spot {
+        Some(at) => {
+            let corner = Corner {
+                x: at.x,
+                y: at.y,
+                strength,
+            };
+            corners::put(&mut out[written..], 0, corner);
+            written + 3
+        }
+        None => written,
+    }
 }

@@ -1,6 +1,5 @@
 // The seeds of a list, one after the other: each starts from its first fit, and these are worked out for four at once.
 ghost use Rattle.std.specs.Prelude.{◌≡◌, ◌+◌, ◌*◌, ◌/◌, ◌<◌, ◌≤◌, length};
-ghost use Rattle.imageview.specs.Image.{Image};
 ghost use Rattle.refine_seed.specs.StepsSpot.{Ready};
 
 use imageview::{Image, Sample};
@@ -10,10 +9,10 @@ use refine_seed::Spot;
 
 // A list of corners, the settings with which its seeds are refined, and the columns of an operator of their radius.
 #[derive(Clone, Copy)]
-pub struct Seeds<'a> {
+pub struct Seeds<'c, 'l> {
     pub cfg: SaddlePointConfig,
-    pub columns: Columns<'a>,
-    pub corners: &'a [f32],
+    pub columns: Columns<'c>,
+    pub corners: &'l [f32],
     pub ghost same_radius: { columns.radius ≡ cfg.radius },
 }
 
@@ -24,13 +23,13 @@ pub struct GroupFits {
     flat: [f32; 40],
 }
 
-impl Seeds<'_> {
+impl Seeds<'_, '_> {
     ghost use Rattle.refine_list.specs.Steps.{Begins, FirstFits};
-    ghost use Rattle.refine_list.specs.Seeds.{lent_spot, Holds};
+    ghost use Rattle.refine_list.specs.Seeds.{lent_spot, Holds, NoneHeld};
 
     // No group's fits.
     pub fn no_fits(&self) -> GroupFits
-        ensures { (img : Image) → Holds img self.now result }
+        ensures { NoneHeld self.now result }
     {
         GroupFits {
             group: self.corners.len() / 3,
