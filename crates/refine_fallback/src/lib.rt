@@ -48,31 +48,33 @@ pub fn refine_corners_with_columns<S: Sample>(
 {
     let image = Image::new(view)?;
     test(first, second, corners.len(), out.len(), passes.len())?;
-    let first = lent(first, first_columns, corners);
-    let second = lent(second, second_columns, corners);
-    Ok(walk::refine_both(&image, &first, &second, out, passes))
-}
-
-// The seeds with columns that are lent, whose numbers are not repeated.
-fn lent<'c, 'l>(
-    cfg: SaddlePointConfig,
-    numbers: &'c [f32; 1125],
-    corners: &'l [f32],
-) -> Seeds<'c, 'l>
-    ensures cfg { result.cfg ≡ cfg }
-    ensures numbers { result.columns.numbers.now ≡ numbers.now }
-    ensures corners { result.corners.now ≡ corners.now }
-{
-    let columns = Columns {
-        numbers,
+    let first_lent = Columns {
+        numbers: first_columns,
         fourfold: false,
-        radius: cfg.radius,
+        radius: first.radius,
     };
-    Seeds {
-        cfg,
-        columns,
+    let second_lent = Columns {
+        numbers: second_columns,
+        fourfold: false,
+        radius: second.radius,
+    };
+    let first_seeds = Seeds {
+        cfg: first,
+        columns: first_lent,
         corners,
-    }
+    };
+    let second_seeds = Seeds {
+        cfg: second,
+        columns: second_lent,
+        corners,
+    };
+    Ok(walk::refine_both(
+        &image,
+        &first_seeds,
+        &second_seeds,
+        out,
+        passes,
+    ))
 }
 
 // The tests that follow the image's in their order, of so many numbers, with so much room for them and so many pass bytes.
