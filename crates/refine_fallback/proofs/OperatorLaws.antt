@@ -6,7 +6,6 @@ use Prim.Native.Nat.{ℕ, ◌+◌, ◌*◌, zero-le}
 use lib.Dec.{ltb}
 use lib.Ieee.{Float}
 use Rattle.shapes.specs.Numbers.{entry}
-use Rattle.refusals.specs.declared.Refusal.{Refusal}
 use Rattle.imageview.specs.Image.{Image}
 use Rattle.refine_operator.specs.Call as Operator
 use Rattle.std.specs.Prelude.{Result, Ok, Err, Option, Some, None}

@@ -1,23 +1,17 @@
 -- Laws of the walk: one seed's spot and byte, the first fits that are held, and the bytes so far.
 use mathlib.Core.Path.{◌≡◌, refl, sym, ap, ◌∙◌, subst}
-use mathlib.Core.Bool.{false}
-use mathlib.Core.List.{List, [], ◌∷◌, ◌++◌}
-use Prim.Native.Nat.{ℕ, ◌+◌, ◌*◌, ◌/◌, ◌≤◌, ◌<◌}
+use mathlib.Core.List.{List, ◌∷◌, ◌++◌}
+use Prim.Native.Nat.{ℕ, ◌+◌, ◌/◌, ◌≤◌, ◌<◌}
 use native.Mathlib.Nat.{le_trans, add-zero}
 use native.Mathlib.Numerals.{add-one}
 use native.Mathlib.Omega.{arith}
 use lib.ListN.{length, take, drop, set, length-append, take-append-drop}
 use lib.Seq.{set_split}
 use lib.Ieee.{Float}
-use Rattle.shapes.specs.Numbers.{entry}
-use Rattle.imageview.specs.Image.{Image}
-use Rattle.refine_formulas.specs.declared.SaddlePointConfig.{SaddlePointConfig}
 use Rattle.refine_seed.specs.declared.Spot.{Spot}
 use Rattle.std.specs.Prelude.{Option, Some, None}
-use Rattle.refine_seed.specs.Refine.{refine_lent}
-use Rattle.refine_seed.specs.StepsSpot.{Lands}
 use Rattle.refine_list.specs.Refining.{records_by}
-use Rattle.refine_list.specs.Steps.{FirstFits, Going}
+use Rattle.refine_list.specs.Steps.{Going}
 use Rattle.refine_list.proofs.ListLaws.{front-more, front_long}
 use Rattle.refine_fallback.specs.declared.walk.Pass.{Pass}
 use Rattle.refine_fallback.specs.declared.walk.Pass.TheVariants.{First, Second}

@@ -1,8 +1,7 @@
 -- Refining a list of corners with a second try: a seed that the first settings do not accept starts again from its own place with the second ones. The tests of
 -- docs/RULES.md in their order (`way_by`), what each way answers and leaves in the lent output and in the lent pass bytes. No refusal writes; elements past the last
 -- record, and bytes past the last one written, stay.
-use Rattle.std.specs.Prelude.{◌≡◌, not, ◌&&◌, ◌||◌, cond, false, List, [], ◌∷◌, ◌++◌, ℕ, zero, suc, ◌+◌, ◌*◌, ◌/◌, leb, ltb, length, drop, Float, Result, Ok, Err, Option, Some, None}
-use Rattle.shapes.specs.Numbers.{entry}
+use Rattle.std.specs.Prelude.{◌≡◌, not, ◌&&◌, ◌||◌, cond, List, [], ◌∷◌, ◌++◌, ℕ, zero, suc, ◌/◌, leb, ltb, length, drop, Float, Result, Ok, Err, Option, Some, None}
 use Rattle.corners.specs.Corners.{whole, too_many}
 use Rattle.refusals.specs.declared.Refusal.{Refusal}
 use Rattle.refusals.specs.declared.Refusal.TheVariants.{BadImage, BadSample, BadRadius, BadLimit, BadLength, TooMany, BadOut}

@@ -1,9 +1,9 @@
 -- What the inner functions do: the tests before the first seed, the settings with which columns serve, one seed, and the seeds so far.
-use Rattle.std.specs.Prelude.{◌≡◌, not, ◌&&◌, ◌||◌, cond, List, [], ◌∷◌, ◌++◌, ℕ, ◌/◌, ◌≤◌, ◌<◌, leb, ltb, length, drop, Float, Result, Ok, Err, Option, Some, None}
+use Rattle.std.specs.Prelude.{◌≡◌, not, ◌&&◌, ◌||◌, cond, List, [], ◌∷◌, ◌++◌, ℕ, ◌/◌, ◌≤◌, leb, ltb, length, drop, Float, Result, Ok, Err, Option, Some, None}
 use Rattle.corners.specs.Corners.{whole, too_many}
 use Rattle.refusals.specs.declared.Refusal.{Refusal}
 use Rattle.refusals.specs.declared.Refusal.TheVariants.{BadRadius, BadLimit, BadLength, TooMany, BadOut}
-use Rattle.imageview.specs.Image.{Image, is_image, in_range}
+use Rattle.imageview.specs.Image.{Image}
 use Rattle.refine_formulas.specs.declared.SaddlePointConfig.{SaddlePointConfig}
 use Rattle.refine_seed.specs.declared.Spot.{Spot}
 use Rattle.refine_seed.specs.Refine.{good_limits}

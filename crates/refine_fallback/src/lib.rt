@@ -28,9 +28,7 @@ pub fn refine_corners_on_image_with_fallback<S: Sample>(
 {
     let image = Image::new(view)?;
     test(first, second, corners.len(), out.len(), passes.len())?;
-    Ok(walk::refine_both_own(
-        &image, first, second, corners, out, passes,
-    ))
+    Ok(walk::refine_both_own(&image, first, second, corners, out, passes))
 }
 
 // The same with the columns of both operators lent, whatever they hold.
@@ -68,13 +66,7 @@ pub fn refine_corners_with_columns<S: Sample>(
         columns: second_lent,
         corners,
     };
-    Ok(walk::refine_both(
-        &image,
-        &first_seeds,
-        &second_seeds,
-        out,
-        passes,
-    ))
+    Ok(walk::refine_both(&image, &first_seeds, &second_seeds, out, passes))
 }
 
 // The tests that follow the image's in their order, of so many numbers, with so much room for them and so many pass bytes.

@@ -84,10 +84,7 @@ fn build(cfg: SaddlePointConfig, columns: &mut [f32; 1125]) -> SaddlePointConfig
 fn at_zero(cfg: SaddlePointConfig) -> SaddlePointConfig
     ensures { result ≡ at_zero cfg }
 {
-    SaddlePointConfig {
-        radius: 0,
-        ..cfg
-    }
+    SaddlePointConfig { radius: 0, ..cfg }
 }
 
 // How many were written of one list with two settings.
