@@ -4,40 +4,33 @@ use mathlib.Core.Logic.{⊎_elim}
 use mathlib.Core.Bool.{Bool, true, false, not, ◌&&◌, cond, and-false, false≢true}
 use mathlib.Core.List.{List}
 use Prim.Native.Nat.{ℕ, ◌-◌, ◌*◌, ◌≤◌, ◌<◌}
-use native.Mathlib.Nat.{le_trans, mul-le-mul_left, mul-le-mul_right}
 use native.Mathlib.Omega.{arith}
-use lib.Dec.{leb, ltb, eqb}
+use lib.Dec.{leb, ltb}
 use lib.ListN.{length, take, drop, length-drop}
 use lib.Seq.{take_all}
-use borrow.Author.Tests.{leb-true, lt-leb, lt-ltb, le-ltb, eq-eqb, ne_eqb}
-use Rattle.shapes.specs.Lists.{tabulated}
-use Rattle.shapes.proofs.TestLaws.{first_of, second-of}
+use borrow.Author.Tests.{leb-true, lt-leb, le-ltb}
+use Rattle.shapes.proofs.TestLaws.{second-of}
 use Rattle.imageview.specs.Image.{most, is_size}
-use Rattle.refusals.specs.declared.Refusal.TheVariants.{NoMagic, BadHeader, BadGraymapSize, TooShort, LeftOver, BadBuffer}
-use Rattle.graymap.specs.declared.Graymap.{Graymap}
-use Rattle.graymap.specs.declared.Graymap.TheVariants.{Read, Above, Refused}
+use Rattle.refusals.specs.declared.Refusal.TheVariants.{NoMagic, BadHeader, BadGraymapSize, TooShort, LeftOver}
 use Rattle.graymap.specs.Grammar.{magic_in, no_header, header, header_in}
-use Rattle.graymap.specs.Call.{first_above, is_maximum, bytes_of, sample_in, pixels_of, sized_of, magic_of, read_of, room_for, out_after, Done}
+use Rattle.graymap.specs.Call.{Reading, read, above_at, refused, first_above, is_maximum, bytes_of, sample_in, pixels_of, sized_of, magic_of, read_of}
 use Rattle.graymap.specs.Steps.{has_magic, cut, cut_at}
 use Rattle.graymap.proofs.CutLaws.{cut_below, cut-above, sides}
-use Rattle.graymap.proofs.HeaderLaws.{magic-is, magic-none, place_of, Whole}
+use Rattle.graymap.proofs.HeaderLaws.{magic-is, magic-none, Whole}
 
 -- ---- the tests past the header
 module _ (deep : Bool) (count w h m : ℕ) (l : List ℕ) where
-  pub bad-maximum : is_maximum deep m ≡ false → sized_of deep count (header w h m l) ≡ Refused BadHeader
-  bad-maximum e = ap (λ (b : Bool). cond (not b) (Refused BadHeader) (cond (not (is_size w h)) (Refused BadGraymapSize) (pixels_of deep count w h m l))) e
+  pub bad-maximum : is_maximum deep m ≡ false → sized_of deep count (header w h m l) ≡ refused BadHeader
+  bad-maximum e = ap (λ (b : Bool). cond (not b) (refused BadHeader) (cond (not (is_size w h)) (refused BadGraymapSize) (pixels_of deep count w h m l))) e
 
-  pub good-maximum : is_maximum deep m ≡ true → sized_of deep count (header w h m l) ≡ cond (not (is_size w h)) (Refused BadGraymapSize) (pixels_of deep count w h m l)
-  good-maximum e = ap (λ (b : Bool). cond (not b) (Refused BadHeader) (cond (not (is_size w h)) (Refused BadGraymapSize) (pixels_of deep count w h m l))) e
+  pub good-maximum : is_maximum deep m ≡ true → sized_of deep count (header w h m l) ≡ cond (not (is_size w h)) (refused BadGraymapSize) (pixels_of deep count w h m l)
+  good-maximum e = ap (λ (b : Bool). cond (not b) (refused BadHeader) (cond (not (is_size w h)) (refused BadGraymapSize) (pixels_of deep count w h m l))) e
 
-  bad-sizes : is_size w h ≡ false → sized_of deep count (header w h m l) ≡ cond (not (is_maximum deep m)) (Refused BadHeader) (Refused BadGraymapSize)
-  bad-sizes e = ap (λ (b : Bool). cond (not (is_maximum deep m)) (Refused BadHeader) (cond (not b) (Refused BadGraymapSize) (pixels_of deep count w h m l))) e
-
-  pub bad-size : is_maximum deep m ≡ true → is_size w h ≡ false → sized_of deep count (header w h m l) ≡ Refused BadGraymapSize
-  bad-size t e = bad-sizes e ∙ ap (λ (b : Bool). cond (not b) (Refused BadHeader) (Refused BadGraymapSize)) t
+  bad-sizes : is_size w h ≡ false → sized_of deep count (header w h m l) ≡ cond (not (is_maximum deep m)) (refused BadHeader) (refused BadGraymapSize)
+  bad-sizes e = ap (λ (b : Bool). cond (not (is_maximum deep m)) (refused BadHeader) (cond (not b) (refused BadGraymapSize) (pixels_of deep count w h m l))) e
 
   pub good-size : is_maximum deep m ≡ true → is_size w h ≡ true → sized_of deep count (header w h m l) ≡ pixels_of deep count w h m l
-  good-size t e = good-maximum t ∙ ap (λ (b : Bool). cond (not b) (Refused BadGraymapSize) (pixels_of deep count w h m l)) e
+  good-size t e = good-maximum t ∙ ap (λ (b : Bool). cond (not b) (refused BadGraymapSize) (pixels_of deep count w h m l)) e
 
 -- ---- numbers above the limit pass no test
 much : (deep : Bool) (m : ℕ) → cut_at ≤ m → is_maximum deep m ≡ false
@@ -78,7 +71,7 @@ module _ (deep : Bool) (count : ℕ) (l : List ℕ) where
 
 -- ---- the whole call
 module _ (deep : Bool) (file : List ℕ) where
-  pub no-magic : has_magic file ≡ false → Refused NoMagic ≡ read_of deep file
+  pub no-magic : has_magic file ≡ false → refused NoMagic ≡ read_of deep file
   unfolding read_of
   no-magic e = ap (magic_of deep (length file)) (sym (magic-none (magic_in file) e))
 
@@ -87,7 +80,7 @@ module _ (deep : Bool) (file : List ℕ) where
     unfolding read_of
     behind = ap (magic_of deep (length file)) (sym (magic-is file e).1)
 
-    pub no-heading : header_in (drop 3 file) ≡ no_header → Refused BadHeader ≡ read_of deep file
+    pub no-heading : header_in (drop 3 file) ≡ no_header → refused BadHeader ≡ read_of deep file
     no-heading n = ap (sized_of deep (length file)) (sym n) ∙ behind
 
     pub heading : (w h m start : ℕ) → Whole file (header_in (drop 3 file)) w h m start → sized_of deep (length file) (header w h m (drop start file)) ≡ read_of deep file
@@ -111,35 +104,20 @@ pub below-cut : (deep : Bool) (m : ℕ) → is_maximum deep m ≡ true → m < c
 below-cut deep m e = ⊎_elim (λ l. l) (λ g. absurd (false≢true (sym (much deep m g) ∙ e))) (sides m cut_at)
 
 -- ---- the pixels
-pub area-most : (w h : ℕ) → is_size w h ≡ true → w * h ≤ most * most
-area-most w h e =
-    let a = leb 1 w in
-    let b = leb w most in
-    let c = leb 1 h in
-    let d = leb h most in
-    le_trans (mul-le-mul_right h (leb-true w most (second-of a b (first_of (a && b) c (first_of (a && b && c) d e)))))
-    (mul-le-mul_left most (leb-true h most (second-of (a && b && c) d e)))
-
 -- a part that runs to the end is all that is left, and where it begins
 pub whole_part : (file : List ℕ) (start : ℕ) → take (length file - start) (drop start file) ≡ drop start file
 whole_part file start = take_all (length file - start) (drop start file) (let n = length-drop start file in omega arith)
-
-pub part-place : (file : List ℕ) (start : ℕ) → start ≤ length file → start ≡ length file - length (take (length file - start) (drop start file))
-part-place file start h = place_of file start h ∙ ap (λ (l : List ℕ). length file - length l) (sym (whole_part file start))
 
 module _ (deep : Bool) (count w h m : ℕ) (left : List ℕ) (size : ℕ) (sizes : size ≡ bytes_of deep (w * h)) where
   abbrev first : ℕ
   first = first_above (sample_in deep left) m (w * h)
 
-  abbrev judge : Bool → Bool → Bool → Graymap
-  judge short above over = cond short (Refused TooShort) (cond above (Above first) (cond over (Refused LeftOver) (Read w h m (count - length left))))
+  abbrev judge : Bool → Bool → Bool → Reading
+  judge short above over = cond short (refused TooShort) (cond above (above_at first) (cond over (refused LeftOver) (read w h m (count - length left))))
 
   -- the last test, by the size that was worked out
   over_by : (b : Bool) → ltb size (length left) ≡ b → b ≡ ltb (bytes_of deep (w * h)) (length left)
   over_by b o = sym o ∙ ap (λ (k : ℕ). ltb k (length left)) sizes
-
-  pub too_short : length left < size → Refused TooShort ≡ pixels_of deep count w h m left
-  too_short g = ap (λ (b : Bool). judge b (ltb first (w * h)) (ltb (bytes_of deep (w * h)) (length left))) (sym (lt-ltb _ _ (subst (λ (k : ℕ). length left < k) sizes g)))
 
   module _ (long : size ≤ length left) where
     past-short : judge false (ltb first (w * h)) (ltb (bytes_of deep (w * h)) (length left)) ≡ pixels_of deep count w h m left
@@ -149,36 +127,6 @@ module _ (deep : Bool) (count w h m : ℕ) (left : List ℕ) (size : ℕ) (sizes
       above-by : (b : Bool) → ltb k (w * h) ≡ b → judge false b (ltb (bytes_of deep (w * h)) (length left)) ≡ pixels_of deep count w h m left
       above-by b g = ap (λ (b : Bool). judge false b (ltb (bytes_of deep (w * h)) (length left))) (sym g ∙ ap (λ (j : ℕ). ltb j (w * h)) e) ∙ past-short
 
-      pub one-above : ltb k (w * h) ≡ true → Above k ≡ pixels_of deep count w h m left
-      one-above g = ap Above e ∙ above-by true g
-
       module _ (g : ltb k (w * h) ≡ false) where
-        pub left_over : ltb size (length left) ≡ true → Refused LeftOver ≡ pixels_of deep count w h m left
-        left_over o = ap (λ (b : Bool). judge false false b) (over_by true o) ∙ above-by false g
-
-        pub all_read : (start : ℕ) → start ≡ count - length left → ltb size (length left) ≡ false → Read w h m start ≡ pixels_of deep count w h m left
-        all_read start p o = ap (Read w h m) p ∙ ap (λ (b : Bool). judge false false b) (over_by false o) ∙ above-by false g
-
--- ---- the second call: what was read, the room for it, and what is left in the buffer
-module _ (file out : List ℕ) where
-  pub done : (x : Graymap) → read_of true file ≡ x → (r : Graymap) (out' : List ℕ) → r ≡ room_for (length out) x → out' ≡ out_after file out (room_for (length out) x) → Done file out r out'
-  done x e r out' p q =
-      record { answers = p ∙ ap (room_for (length out)) (sym e); leaves = q ∙ ap (λ (y : Graymap). out_after file out (room_for (length out) y)) (sym e) }
-
-  module _ (w h m start : ℕ) (e : read_of true file ≡ Read w h m start) where
-    abbrev room : Bool → Graymap
-    room b = cond b (Read w h m start) (Refused BadBuffer)
-
-    pub bad-buffer : (length out ≡ w * h → ⊥) → Done file out (Refused BadBuffer) out
-    bad-buffer n =
-        let t : false ≡ eqb (length out) (w * h) = sym (ne_eqb (length out) (w * h) n) in
-        done (Read w h m start) e (Refused BadBuffer) out (ap room t) (ap (λ (b : Bool). out_after file out (room b)) t)
-
-    pub written : (left out' : List ℕ) → length out ≡ w * h → left ≡ drop start file → out' ≡ tabulated (length out) (sample_in true left) → Done file out (Read w h m start) out'
-    written left out' n p q =
-        let t : true ≡ eqb (length out) (w * h) = sym (eq-eqb (length out) (w * h) n) in
-        done (Read w h m start) e (Read w h m start) out' (ap room t)
-        (q
-        ∙ ap (λ (k : ℕ). tabulated k (sample_in true left)) n
-        ∙ ap (λ (l : List ℕ). tabulated (w * h) (sample_in true l)) p
-        ∙ ap (λ (b : Bool). out_after file out (room b)) t)
+        pub all_read : (start : ℕ) → start ≡ count - length left → ltb size (length left) ≡ false → read w h m start ≡ pixels_of deep count w h m left
+        all_read start p o = ap (read w h m) p ∙ ap (λ (b : Bool). judge false false b) (over_by false o) ∙ above-by false g

@@ -26,8 +26,8 @@ sides n k = by (ltb n k) refl
 pub cut_most : (n : ℕ) → cut n ≤ cut_at
 cut_most n = ⊎_elim (λ h. omega (arith, cut_below n h)) (λ h. omega (arith, cut-above n h)) (sides n cut_at)
 
-pub cut-cut : (n : ℕ) → cut (cut n) ≡ cut n
-cut-cut n =
+pub cut_cut : (n : ℕ) → cut (cut n) ≡ cut n
+cut_cut n =
     ⊎_elim (λ h. ap cut (cut_below n h)) (λ h. ap cut (cut-above n h) ∙ cut-above cut_at (omega arith) ∙ sym (cut-above n h)) (sides n cut_at)
 
 pub cut_digit : (v d : ℕ) → cut (10 * cut v + d) ≡ cut (10 * v + d)

@@ -39,13 +39,13 @@ goes_on false b l e = by (is_space b) (eqb b 35) e
     by false false e = absurd (false≢true (sym e))
 
 module _ (file : List ℕ) (from i : ℕ) (hidden : Bool) (same : gap hidden (drop i file) ≡ gap false (drop from file)) where
-  pub gap-ended : i < length file → ends_gap hidden (get_or file i 0) ≡ true → gap false (drop from file) ≡ drop i file
-  gap-ended h e =
+  pub gap_ended : i < length file → ends_gap hidden (get_or file i 0) ≡ true → gap false (drop from file) ≡ drop i file
+  gap_ended h e =
       sym same ∙ ap (gap hidden) (at_place file i h) ∙ ended hidden (get_or file i 0) (drop (i + 1) file) e ∙ sym (at_place file i h)
 
-  pub gap-on : i < length file → ends_gap hidden (get_or file i 0) ≡ false → gap (hides hidden (get_or file i 0)) (drop (i + 1) file) ≡ gap false (drop from file)
-  gap-on h e = sym (goes_on hidden (get_or file i 0) (drop (i + 1) file) e) ∙ ap (gap hidden) (sym (at_place file i h)) ∙ same
+  pub gap_on : i < length file → ends_gap hidden (get_or file i 0) ≡ false → gap (hides hidden (get_or file i 0)) (drop (i + 1) file) ≡ gap false (drop from file)
+  gap_on h e = sym (goes_on hidden (get_or file i 0) (drop (i + 1) file) e) ∙ ap (gap hidden) (sym (at_place file i h)) ∙ same
 
-  pub gap-out : length file ≤ i → gap false (drop from file) ≡ drop i file
+  pub gap_out : length file ≤ i → gap false (drop from file) ≡ drop i file
   unfolding gap
-  gap-out h = sym same ∙ ap (gap hidden) (drop_of_length-le file h) ∙ sym (drop_of_length-le file h)
+  gap_out h = sym same ∙ ap (gap hidden) (drop_of_length-le file h) ∙ sym (drop_of_length-le file h)

@@ -8,8 +8,9 @@ use lib.Dec.{eqb}
 use lib.ListN.{length, get_or, take, drop, length-drop, take-append-drop}
 use Rattle.graymap.specs.declared.header.Found.{Found}
 use Rattle.graymap.specs.declared.header.Heading.{Heading}
+use Rattle.std.specs.Prelude.{Some, None}
 use Rattle.graymap.specs.Grammar.{is_space, Number, missing, number, number_in, Magic, no_magic, magic, magic_in, Header, no_header, header, with_maximum, with_height, with_width, header_in}
-use Rattle.graymap.specs.Steps.{is_magic, has_magic, cut, found_of, heading_of, then_maximum, then_height}
+use Rattle.graymap.specs.Steps.{is_magic, has_magic, cut, number_found, found_of, heading, heading_of}
 use Rattle.graymap.proofs.TailLaws.{EndsIn, ends_on, ends_at, NumberEnds, number-ends, HeaderEnds, header-ends}
 
 -- ---- the magic
@@ -58,57 +59,48 @@ left-ends file from = (take from file, sym (take-append-drop from file))
 pub place_of : (file : List ℕ) (at : ℕ) → at ≤ length file → at ≡ length file - length (drop at file)
 place_of file at h = let n = length-drop at file in omega arith
 
-pub none_found : (count : ℕ) (n : Number) → Found.Missing ≡ found_of count n → n ≡ missing
+pub none_found : (count : ℕ) (n : Number) → None ≡ found_of count n → n ≡ missing
 none_found count missing e = refl
-none_found count (number v l) e = absurd (let z : ◌≡◌ {A = ℕ} 0 1 = cc in let w : ⊥ = omega arith in w)
+none_found count (number v l) e = absurd (cc)
 
-pub found : (file : List ℕ) (from value next : ℕ) → Found.Number value next ≡ found_of (length file) (number_in (drop from file)) → Next file (number_in (drop from file)) value next
+pub found : (file : List ℕ) (from value next : ℕ) → Some (number_found value next) ≡ found_of (length file) (number_in (drop from file)) → Next file (number_in (drop from file)) value next
 found file from value next e = by (number_in (drop from file)) (number-ends (drop from file)) e
   where
-    by : (n : Number) → NumberEnds n (drop from file) → Found.Number value next ≡ found_of (length file) n → Next file n value next
-    by missing t e = absurd (let z : ◌≡◌ {A = ℕ} 0 1 = cc in let w : ⊥ = omega arith in w)
+    by : (n : Number) → NumberEnds n (drop from file) → Some (number_found value next) ≡ found_of (length file) n → Next file n value next
+    by missing t e = absurd (cc)
     by (number v l) t e =
         let at = ends_at (ends_on t (left-ends file from)) in
-        let p : next ≡ length file - length l = cc in
-        record { exact = v; is = ap (number v) (sym at.1 ∙ ap (λ (k : ℕ). drop k file) (sym p)); cuts = cc; within = omega (arith, at.0) }
+        let same : number_found value next ≡ number_found (cut v) (length file - length l) = cc in
+        let p = ap (λ (f : Found). f.next) same in
+        record { exact = v; is = ap (number v) (sym at.1 ∙ ap (λ (k : ℕ). drop k file) (sym p)); cuts = ap (λ (f : Found). f.value) same; within = omega (arith, at.0) }
 
 -- ---- the header, number by number
-maximum-cut : (count w h : ℕ) (n : Number) → then_maximum count (cut w) (cut h) n ≡ heading_of count (with_maximum w h n)
-maximum-cut count w h missing = refl
-maximum-cut count w h (number m l) = refl
-
-height-cut : (count w : ℕ) (n : Number) → then_height count (cut w) n ≡ heading_of count (with_height w n)
-height-cut count w missing = refl
-height-cut count w (number h l) = maximum-cut count w h (number_in l)
-
-pub no-width : (count : ℕ) (l : List ℕ) → number_in l ≡ missing → Heading.Missing ≡ heading_of count (header_in l)
+pub no-width : (count : ℕ) (l : List ℕ) → number_in l ≡ missing → None ≡ heading_of count (header_in l)
 unfolding header_in
 no-width count l e = ap (λ (n : Number). heading_of count (with_width n)) (sym e)
 
-pub no-height : (count w : ℕ) (n : Number) → n ≡ missing → Heading.Missing ≡ then_height count w n
-no-height count w n e = ap (then_height count w) (sym e)
-
-pub no-maximum : (count w h : ℕ) (n : Number) → n ≡ missing → Heading.Missing ≡ then_maximum count w h n
-no-maximum count w h n e = ap (then_maximum count w h) (sym e)
-
-module _ (file : List ℕ) (from value next : ℕ) (t : Next file (number_in (drop from file)) value next) where
-  pub width-found : then_height (length file) value (number_in (drop next file)) ≡ heading_of (length file) (header_in (drop from file))
+module _ (file : List ℕ) (from w at : ℕ) (a : Next file (number_in (drop from file)) w at) where
+  behind-width : heading_of (length file) (header_in (drop from file)) ≡ heading_of (length file) (with_height a.exact (number_in (drop at file)))
   unfolding header_in
-  width-found =
-      ap (λ (w : ℕ). then_height (length file) w (number_in (drop next file))) t.cuts
-      ∙ height-cut (length file) t.exact (number_in (drop next file))
-      ∙ ap (λ (n : Number). heading_of (length file) (with_width n)) (sym t.is)
+  behind-width = ap (λ (n : Number). heading_of (length file) (with_width n)) a.is
 
-  pub height-found : (w : ℕ) → then_maximum (length file) w value (number_in (drop next file)) ≡ then_height (length file) w (number_in (drop from file))
-  height-found w =
-      ap (λ (h : ℕ). then_maximum (length file) w h (number_in (drop next file))) t.cuts
-      ∙ ap (then_height (length file) w) (sym t.is)
+  pub no-height : number_in (drop at file) ≡ missing → None ≡ heading_of (length file) (header_in (drop from file))
+  no-height e = sym (behind-width ∙ ap (λ (n : Number). heading_of (length file) (with_height a.exact n)) e)
 
-  pub maximum-found : (w h : ℕ) → Heading.Given w h value next ≡ then_maximum (length file) w h (number_in (drop from file))
-  maximum-found w h =
-      ap (λ (m : ℕ). Heading.Given w h m next) t.cuts
-      ∙ ap (Heading.Given w h (cut t.exact)) (place_of file next t.within)
-      ∙ ap (then_maximum (length file) w h) (sym t.is)
+  module _ (h to : ℕ) (b : Next file (number_in (drop at file)) h to) where
+    behind-height : heading_of (length file) (header_in (drop from file)) ≡ heading_of (length file) (with_maximum a.exact b.exact (number_in (drop to file)))
+    behind-height = behind-width ∙ ap (λ (n : Number). heading_of (length file) (with_height a.exact n)) b.is
+
+    pub no-maximum : number_in (drop to file) ≡ missing → None ≡ heading_of (length file) (header_in (drop from file))
+    no-maximum e = sym (behind-height ∙ ap (λ (n : Number). heading_of (length file) (with_maximum a.exact b.exact n)) e)
+
+    pub whole_found : (m start : ℕ) → Next file (number_in (drop to file)) m start → Some (heading w h m start) ≡ heading_of (length file) (header_in (drop from file))
+    whole_found m start c =
+        ap (λ (k : ℕ). Some (heading k h m start)) a.cuts
+        ∙ ap (λ (k : ℕ). Some (heading (cut a.exact) k m start)) b.cuts
+        ∙ ap (λ (k : ℕ). Some (heading (cut a.exact) (cut b.exact) k start)) c.cuts
+        ∙ ap (λ (k : ℕ). Some (heading (cut a.exact) (cut b.exact) (cut c.exact) k)) (place_of file start c.within)
+        ∙ sym (behind-height ∙ ap (λ (n : Number). heading_of (length file) (with_maximum a.exact b.exact n)) c.is)
 
 -- ---- the header that was found: its numbers before the cut, and what is left behind it
 pub record Whole (file : List ℕ) (x : Header) (w h m start : ℕ) : Type 0 where
@@ -121,25 +113,26 @@ pub record Whole (file : List ℕ) (x : Header) (w h m start : ℕ) : Type 0 whe
   pub maximum-cut : m ≡ cut maximum
   pub within : start ≤ length file
 
-pub none-given : (count : ℕ) (x : Header) → Heading.Missing ≡ heading_of count x → x ≡ no_header
+pub none-given : (count : ℕ) (x : Header) → None ≡ heading_of count x → x ≡ no_header
 none-given count no_header e = refl
-none-given count (header w h m l) e = absurd (let z : ◌≡◌ {A = ℕ} 0 1 = cc in let w : ⊥ = omega arith in w)
+none-given count (header w h m l) e = absurd (cc)
 
-pub given : (file : List ℕ) (from w h m start : ℕ) → Heading.Given w h m start ≡ heading_of (length file) (header_in (drop from file)) → Whole file (header_in (drop from file)) w h m start
+pub given : (file : List ℕ) (from w h m start : ℕ) → Some (heading w h m start) ≡ heading_of (length file) (header_in (drop from file)) → Whole file (header_in (drop from file)) w h m start
 given file from w h m start e = by (header_in (drop from file)) (header-ends (drop from file)) e
   where
-    by : (x : Header) → HeaderEnds x (drop from file) → Heading.Given w h m start ≡ heading_of (length file) x → Whole file x w h m start
-    by no_header t e = absurd (let z : ◌≡◌ {A = ℕ} 0 1 = cc in let w : ⊥ = omega arith in w)
+    by : (x : Header) → HeaderEnds x (drop from file) → Some (heading w h m start) ≡ heading_of (length file) x → Whole file x w h m start
+    by no_header t e = absurd (cc)
     by (header w' h' m' l) t e =
         let at = ends_at (ends_on t (left-ends file from)) in
-        let p : start ≡ length file - length l = cc in
+        let same : heading w h m start ≡ heading (cut w') (cut h') (cut m') (length file - length l) = cc in
+        let p = ap (λ (x : Heading). x.start) same in
         record {
           width = w';
           height = h';
           maximum = m';
           is = ap (header w' h' m') (sym at.1 ∙ ap (λ (k : ℕ). drop k file) (sym p));
-          width-cut = cc;
-          height-cut = cc;
-          maximum-cut = cc;
+          width-cut = ap (λ (x : Heading). x.width) same;
+          height-cut = ap (λ (x : Heading). x.height) same;
+          maximum-cut = ap (λ (x : Heading). x.maximum) same;
           within = omega (arith, at.0);
         }

@@ -33,8 +33,8 @@ digit-ends d =
     by : (a b c d e : Bool) → a ≡ false → b ≡ false → c ≡ false → d ≡ false → e ≡ false → not (a || b || c || d || e) ≡ true
     by a b c d e p q r s t = rw (p, q, r, s, t)
 
-digit-on : (v d : ℕ) (some : Bool) (rest : List ℕ) → d < 10 → digits v some ((48 + d) ∷ rest) ≡ digits (10 * v + d) true rest
-digit-on v d some rest h = one_more v some (48 + d) rest (is_digit_lem d h) ∙ ap (λ (n : ℕ). digits n true rest) (omega arith)
+digit_on : (v d : ℕ) (some : Bool) (rest : List ℕ) → d < 10 → digits v some ((48 + d) ∷ rest) ≡ digits (10 * v + d) true rest
+digit_on v d some rest h = one_more v some (48 + d) rest (is_digit_lem d h) ∙ ap (λ (n : ℕ). digits n true rest) (omega arith)
 
 -- ---- a number: below ten one digit, else the last digit behind those of a tenth
 single : (k n : ℕ) (rest : List ℕ) → n < 10 → decimal_in (suc k) n ++ rest ≡ (48 + n) ∷ rest
@@ -46,13 +46,13 @@ parted k n rest h =
     ∙ append_assoc (decimal_in k (n / 10)) ((48 + n % 10) ∷ []) rest
 
 digits-read : (k n : ℕ) (some : Bool) (rest : List ℕ) → n < 10 ^ suc k → digits 0 some (decimal_in (suc k) n ++ rest) ≡ digits n true rest
-digits-read zero n some rest h = ap (digits 0 some) (single zero n rest h) ∙ digit-on 0 n some rest h ∙ ap (λ (v : ℕ). digits v true rest) (omega arith)
+digits-read zero n some rest h = ap (digits 0 some) (single zero n rest h) ∙ digit_on 0 n some rest h ∙ ap (λ (v : ℕ). digits v true rest) (omega arith)
 digits-read (suc k) n some rest h =
     ⊎_elim
-    (λ l. ap (digits 0 some) (single (suc k) n rest l) ∙ digit-on 0 n some rest l ∙ ap (λ (v : ℕ). digits v true rest) (omega arith))
+    (λ l. ap (digits 0 some) (single (suc k) n rest l) ∙ digit_on 0 n some rest l ∙ ap (λ (v : ℕ). digits v true rest) (omega arith))
     (λ l. ap (digits 0 some) (parted (suc k) n rest l)
     ∙ digits-read k (n / 10) some ((48 + n % 10) ∷ rest) ((div-lt_iff_lt-mul (omega arith)).1 (subst (λ (x : ℕ). n < x) (pow-suc 10 (suc k)) h))
-    ∙ digit-on (n / 10) (n % 10) true rest (mod-lt n (omega arith))
+    ∙ digit_on (n / 10) (n % 10) true rest (mod-lt n (omega arith))
     ∙ ap (λ (v : ℕ). digits v true rest) (div-add-mod n 10))
     (sides n 10)
 

@@ -14,9 +14,9 @@ use Rattle.graymap.specs.Call.{first_above}
 use Rattle.graymap.specs.Steps.{higher_of, highest_of}
 
 module _ (f : ℕ → ℕ) (m : ℕ) where
-  pub above-none : first_above f m 0 ≡ 0
+  pub above_none : first_above f m 0 ≡ 0
   unfolding first_above
-  above-none = refl
+  above_none = refl
 
   -- one more sample, where one was above, and where none was
   stays : (n : ℕ) → first_above f m n < n → first_above f m (suc n) ≡ first_above f m n
@@ -32,12 +32,12 @@ module _ (f : ℕ → ℕ) (m : ℕ) where
   passed : (n : ℕ) → first_above f m n ≡ n → f n ≤ m → first_above f m (suc n) ≡ suc n
   passed n e h = clear n e ∙ ap (λ (b : Bool). cond b n (suc n)) (le-ltb m (f n) h)
 
-  pub above-passed : (n : ℕ) → first_above f m n ≡ n → f n ≤ m → first_above f m (n + 1) ≡ n + 1
-  above-passed n e h = ap (first_above f m) (add-one n) ∙ passed n e h ∙ sym (add-one n)
+  pub above_passed : (n : ℕ) → first_above f m n ≡ n → f n ≤ m → first_above f m (n + 1) ≡ n + 1
+  above_passed n e h = ap (first_above f m) (add-one n) ∙ passed n e h ∙ sym (add-one n)
 
-  pub above-all : (n : ℕ) → ((i : ℕ) → i < n → f i ≤ m) → first_above f m n ≡ n
-  above-all zero h = above-none
-  above-all (suc n) h = passed n (above-all n (λ i l. h i (omega arith))) (h n (omega arith))
+  pub above_all : (n : ℕ) → ((i : ℕ) → i < n → f i ≤ m) → first_above f m n ≡ n
+  above_all zero h = above_none
+  above_all (suc n) h = passed n (above_all n (λ i l. h i (omega arith))) (h n (omega arith))
 
   -- d samples at a time
   many : (n d : ℕ) → first_above f m n ≡ n → ((i : ℕ) → i < d → f (n + i) ≤ m) → first_above f m (n + d) ≡ n + d
@@ -46,12 +46,12 @@ module _ (f : ℕ → ℕ) (m : ℕ) where
       ap (first_above f m) (add-suc n d) ∙ passed (n + d) (many n d e (λ i l. h i (omega arith))) (h d (omega arith)) ∙ sym (add-suc n d)
 
   -- the first one is found, and stays the first
-  pub above-found : (n k : ℕ) → first_above f m k ≡ k → m < f k → k < n → first_above f m n ≡ k
-  above-found zero k e h l = absurd (not-suc-le-zero l)
-  above-found (suc n) k e h l =
+  pub above_found : (n k : ℕ) → first_above f m k ≡ k → m < f k → k < n → first_above f m n ≡ k
+  above_found zero k e h l = absurd (not-suc-le-zero l)
+  above_found (suc n) k e h l =
       ⊎_elim
       (λ q. ap (λ (j : ℕ). first_above f m (suc j)) (sym q) ∙ clear k e ∙ ap (λ (b : Bool). cond b k (suc k)) (lt-ltb m (f k) h))
-      (λ q. let before : first_above f m n ≡ k = above-found n k e h q in stays n (subst (λ (j : ℕ). j < n) (sym before) q) ∙ before)
+      (λ q. let before : first_above f m n ≡ k = above_found n k e h q in stays n (subst (λ (j : ℕ). j < n) (sym before) q) ∙ before)
       (eq-or-lt_of_le (le_of_suc-le-suc l))
 
   -- ---- what it says of each sample
@@ -84,13 +84,13 @@ module _ (f : ℕ → ℕ) (m : ℕ) where
 
 -- ---- the highest of many samples
 module _ (f : ℕ → ℕ) where
-  pub highest-none : highest_of f 0 ≡ 0
+  pub highest_none : highest_of f 0 ≡ 0
   unfolding highest_of turns
-  highest-none = refl
+  highest_none = refl
 
-  pub highest-more : (n : ℕ) → highest_of f (n + 1) ≡ higher_of (highest_of f n) (f n)
+  pub highest_more : (n : ℕ) → highest_of f (n + 1) ≡ higher_of (highest_of f n) (f n)
   unfolding highest_of
-  highest-more n = turns_more n (λ i a. higher_of a (f i)) 0
+  highest_more n = turns_more n (λ i a. higher_of a (f i)) 0
 
   higher-both : (a b : ℕ) → (a ≤ higher_of a b) × (b ≤ higher_of a b)
   higher-both a b = by (ltb a b) refl
@@ -108,5 +108,5 @@ module _ (f : ℕ → ℕ) where
       (eq-or-lt_of_le (le_of_suc-le-suc h))
 
 -- a block whose highest sample is not above the maximum is passed
-pub above-block : (f : ℕ → ℕ) (m n d top : ℕ) → first_above f m n ≡ n → top ≡ highest_of (λ i. f (n + i)) d → top ≤ m → first_above f m (n + d) ≡ n + d
-above-block f m n d top e t h = many f m n d e (λ i l. let b = below-highest (λ i. f (n + i)) d i l in omega arith)
+pub above_block : (f : ℕ → ℕ) (m n d top : ℕ) → first_above f m n ≡ n → top ≡ highest_of (λ i. f (n + i)) d → top ≤ m → first_above f m (n + d) ≡ n + d
+above_block f m n d top e t h = many f m n d e (λ i l. let b = below-highest (λ i. f (n + i)) d i l in omega arith)

@@ -13,20 +13,19 @@ use Rattle.imageview.specs.Image.{is_size}
 use Rattle.imageview.proofs.ImageLaws.{sized, passed}
 use Rattle.refusals.specs.declared.Refusal.TheVariants.{BadHeader, BadGraymapSize, TooShort, LeftOver}
 use Rattle.graymap.specs.declared.Graymap.{Graymap}
-use Rattle.graymap.specs.declared.Graymap.TheVariants.{Read, Above, Refused}
 use Rattle.graymap.specs.Grammar.{is_space, no_magic, magic, Header, no_header, header, header_in}
-use Rattle.graymap.specs.Call.{first_above, is_maximum, bytes_of, sample_in, pixels_of, sized_of, magic_of, read_of}
+use Rattle.std.specs.Prelude.{Ok, Err}
+use Rattle.graymap.specs.Call.{Reading, read, above_at, refused, first_above, is_maximum, bytes_of, sample_in, pixels_of, sized_of, magic_of, read_of}
 use Rattle.graymap.specs.Claims.{EndsWithPixels, decimal, bytes_in, plain_of, RoundTrip}
 use Rattle.graymap.proofs.TailLaws.{EndsIn, ends-self, ends_more, ends_on, ends_at, HeaderEnds, header-ends}
-use Rattle.graymap.proofs.SampleLaws.{above-all, above_most, none_above}
+use Rattle.graymap.proofs.SampleLaws.{above_all, above_most, none_above}
 use Rattle.graymap.proofs.CallLaws.{below-cut, good-size, all_read}
 use Rattle.graymap.proofs.PlainLaws.{header_read, bytes_count, samples-read}
 
 -- ---- an accepted file ends with its pixels
-abbrev Ends : Bool → List ℕ → Graymap → Type 0
-Ends deep file (Read w h m start) = (length file ≡ start + bytes_of deep (w * h)) × ((i : ℕ) → i < w * h → sample_in deep (drop start file) i ≤ m)
-Ends deep file (Above k) = Unit {0}
-Ends deep file (Refused r) = Unit {0}
+abbrev Ends : Bool → List ℕ → Reading → Type 0
+Ends deep file (Ok g) = (length file ≡ g.start + bytes_of deep (g.width * g.height)) × ((i : ℕ) → i < g.width * g.height → sample_in deep (drop g.start file) i ≤ g.maximum)
+Ends deep file (Err u) = Unit {0}
 
 pixels-end : (deep : Bool) (file : List ℕ) (w h m : ℕ) (left : List ℕ) → EndsIn left file → Ends deep file (pixels_of deep (length file) w h m left)
 pixels-end deep file w h m left e = by (ltb (length left) size) (ltb first n) (ltb size (length left)) refl refl refl
@@ -41,7 +40,7 @@ pixels-end deep file w h m left e = by (ltb (length left) size) (ltb first n) (l
     first = first_above (sample_in deep left) m n
 
     by : (s a o : Bool) → ltb (length left) size ≡ s → ltb first n ≡ a → ltb size (length left) ≡ o
-        → Ends deep file (cond s (Refused TooShort) (cond a (Above first) (cond o (Refused LeftOver) (Read w h m (length file - length left)))))
+        → Ends deep file (cond s (refused TooShort) (cond a (above_at first) (cond o (refused LeftOver) (read w h m (length file - length left)))))
     by true a o p q r = tt
     by false true o p q r = tt
     by false false true p q r = tt
@@ -56,7 +55,7 @@ sized-ends : (deep : Bool) (file : List ℕ) (x : Header) → HeaderEnds x file 
 sized-ends deep file no_header e = tt
 sized-ends deep file (header w h m left) e = by (is_maximum deep m) (is_size w h)
   where
-    by : (a b : Bool) → Ends deep file (cond (not a) (Refused BadHeader) (cond (not b) (Refused BadGraymapSize) (pixels_of deep (length file) w h m left)))
+    by : (a b : Bool) → Ends deep file (cond (not a) (refused BadHeader) (cond (not b) (refused BadGraymapSize) (pixels_of deep (length file) w h m left)))
     by false b = tt
     by true false = tt
     by true true = pixels-end deep file w h m left e
@@ -85,6 +84,10 @@ read-ends deep (a ∷ b ∷ c ∷ l) = by (eqb a 80 && eqb b 53 && is_space c)
 pub ends-with-pixels : EndsWithPixels
 ends-with-pixels deep file w h m start e = subst (Ends deep file) e (read-ends deep file)
 
+-- how many bytes the samples of a deep file take
+pub read_bytes : (file : List ℕ) (g : Graymap) → read_of true file ≡ Ok g → length file ≡ g.start + 2 * (g.width * g.height)
+read_bytes file g e = (ends-with-pixels true file g.width g.height g.maximum g.start e).0
+
 -- ---- the plain form is read back
 pub round_trip : RoundTrip
 unfolding read_of
@@ -97,7 +100,7 @@ round_trip deep w h m samples sizes maximum count below =
     let e : header_in text ≡ header w h m bytes = header_read w h m bytes (omega (arith, s.width-most)) (omega (arith, s.height-most)) (below-cut deep m maximum) in
     let same : length bytes ≡ bytes_of deep (w * h) = bytes_count deep samples ∙ ap (bytes_of deep) count in
     let clear : w * h ≡ first_above (sample_in deep bytes) m (w * h)
-    = sym (above-all (sample_in deep bytes) m (w * h) (λ i l. subst (λ (v : ℕ). v ≤ m) (sym (samples-read deep samples i)) (below i l))) in
+    = sym (above_all (sample_in deep bytes) m (w * h) (λ i l. subst (λ (v : ℕ). v ≤ m) (sym (samples-read deep samples i)) (below i l))) in
     let ends : EndsIn bytes text = subst (λ (x : Header). HeaderEnds x text) e (header-ends text) in (
       n - length bytes,
       ap (sized_of deep n) e

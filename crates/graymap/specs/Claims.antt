@@ -2,12 +2,11 @@
 use Rattle.std.specs.Prelude.{◌≡◌, Bool, true, cond, List, [], ◌∷◌, ◌++◌, ℕ, zero, suc, ◌+◌, ◌*◌, ◌/◌, ◌%◌, ◌≤◌, ◌<◌, ltb, length, get_or, drop}
 use Rattle.shapes.specs.Lists.{tabulated}
 use Rattle.imageview.specs.Image.{is_size}
-use Rattle.graymap.specs.declared.Graymap.TheVariants.{Read}
-use Rattle.graymap.specs.Call.{is_maximum, bytes_of, sample_in, read_of}
+use Rattle.graymap.specs.Call.{read, is_maximum, bytes_of, sample_in, read_of}
 
 abbrev pub EndsWithPixels : Type 0
 EndsWithPixels =
-    (deep : Bool) (file : List ℕ) (w h m start : ℕ) → read_of deep file ≡ Read w h m start
+    (deep : Bool) (file : List ℕ) (w h m start : ℕ) → read_of deep file ≡ read w h m start
     → (length file ≡ start + bytes_of deep (w * h)) × ((i : ℕ) → i < w * h → sample_in deep (drop start file) i ≤ m)
 
 -- ---- the plain form: "P5 w h m", a line feed, the samples
@@ -30,4 +29,4 @@ plain_of deep w h m samples = 80 ∷ 53 ∷ 32 ∷ (decimal w ++ (32 ∷ (decima
 abbrev pub RoundTrip : Type 0
 RoundTrip =
     (deep : Bool) (w h m : ℕ) (samples : List ℕ) → is_size w h ≡ true → is_maximum deep m ≡ true → length samples ≡ w * h → ((i : ℕ) → i < w * h → get_or samples i 0 ≤ m)
-    → (start : ℕ) × (read_of deep (plain_of deep w h m samples) ≡ Read w h m start) × (tabulated (w * h) (sample_in deep (drop start (plain_of deep w h m samples))) ≡ samples)
+    → (start : ℕ) × (read_of deep (plain_of deep w h m samples) ≡ read w h m start) × (tabulated (w * h) (sample_in deep (drop start (plain_of deep w h m samples))) ≡ samples)

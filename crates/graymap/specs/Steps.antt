@@ -1,9 +1,9 @@
 -- What the steps of the call promise each other. Numbers are cut where the code reads them, at a limit that no test asks about.
-use Rattle.std.specs.Prelude.{◌≡◌, Bool, true, false, not, ◌&&◌, ◌||◌, cond, List, ℕ, ◌-◌, ◌≤◌, ltb, eqb, length, drop}
+use Rattle.std.specs.Prelude.{◌≡◌, Bool, true, false, not, ◌&&◌, ◌||◌, cond, Option, Some, None, List, ℕ, ◌-◌, ◌≤◌, ltb, eqb, length, drop}
 use Rattle.shapes.specs.Turns.{turns}
 use Rattle.graymap.specs.declared.header.Found.{Found}
 use Rattle.graymap.specs.declared.header.Heading.{Heading}
-use Rattle.graymap.specs.Grammar.{is_space, ends_line, gap, Number, missing, number, number_in, Magic, no_magic, magic, magic_in, Header, no_header, header}
+use Rattle.graymap.specs.Grammar.{is_space, ends_line, gap, Number, missing, number, Magic, no_magic, magic, magic_in, Header, no_header, header}
 
 -- ---- the magic
 abbrev pub is_magic : Magic → Bool
@@ -33,26 +33,23 @@ cut_at = 10000
 unfoldable pub cut : ℕ → ℕ
 cut n = cond (ltb n cut_at) n cut_at
 
-abbrev pub ended_of : ℕ → Bool → ℕ → ℕ → Found
-ended_of value some b next = cond (some && is_space b) (Found.Number value next) Found.Missing
+abbrev pub number_found : ℕ → ℕ → Found
+number_found value next = record { value = value; next = next }
+
+abbrev pub ended_of : ℕ → Bool → ℕ → ℕ → Option Found
+ended_of value some b next = cond (some && is_space b) (Some (number_found value next)) None
 
 -- the number with the place where what is left of a file of so many bytes begins
-abbrev pub found_of : ℕ → Number → Found
-found_of count missing = Found.Missing
-found_of count (number v l) = Found.Number (cut v) (count - length l)
+abbrev pub found_of : ℕ → Number → Option Found
+found_of count missing = None
+found_of count (number v l) = Some (number_found (cut v) (count - length l))
 
-abbrev pub heading_of : ℕ → Header → Heading
-heading_of count no_header = Heading.Missing
-heading_of count (header w h m l) = Heading.Given (cut w) (cut h) (cut m) (count - length l)
+abbrev pub heading : ℕ → ℕ → ℕ → ℕ → Heading
+heading w h m start = record { width = w; height = h; maximum = m; start = start }
 
--- the rest of a heading, where its first numbers are known already
-abbrev pub then_maximum : ℕ → ℕ → ℕ → Number → Heading
-then_maximum count w h missing = Heading.Missing
-then_maximum count w h (number m l) = Heading.Given w h (cut m) (count - length l)
-
-abbrev pub then_height : ℕ → ℕ → Number → Heading
-then_height count w missing = Heading.Missing
-then_height count w (number h l) = then_maximum count w (cut h) (number_in l)
+abbrev pub heading_of : ℕ → Header → Option Heading
+heading_of count no_header = None
+heading_of count (header w h m l) = Some (heading (cut w) (cut h) (cut m) (count - length l))
 
 -- ---- the highest of n samples
 abbrev pub higher_of : ℕ → ℕ → ℕ

@@ -13,67 +13,58 @@ ghost use Rattle.graymap.specs.Call.{first_above, is_maximum, bytes_of, sample_i
 use header::Heading;
 use refusals::Refusal;
 
-// How reading ended: sizes, maximum and where the pixels begin; the first pixel above the maximum; or a refusal.
-#[derive(Clone, Copy)]
-pub enum Graymap {
-    Read {
-        width: usize,
-        height: usize,
-        maximum: usize,
-        start: usize,
-    },
+/// A graymap that was read: its sizes, its maximum and where its pixels begin in the file.
+#[derive(Clone, Copy, Debug, PartialEq, Eq)]
+pub struct Graymap {
+    pub width: usize,
+    pub height: usize,
+    pub maximum: usize,
+    pub start: usize,
+}
+
+/// Why a graymap was not read: its first pixel above the maximum, by number, or a refusal.
+#[derive(Clone, Copy, Debug, PartialEq, Eq)]
+pub enum Unread {
     Above(usize),
     Refused(Refusal),
 }
 
+impl From<Refusal> for Unread {
+    ghost use Rattle.graymap.specs.declared.Unread.TheVariants.{Refused};
+
+    ghost from_gives = { λ refusal unread. unread ≡ Refused refusal };
+
+    fn from(refusal: Refusal) -> Unread {
+        Unread::Refused(refusal)
+    }
+}
+
 // How reading a graymap of one byte a sample ends.
-pub fn read_graymap(file: &[u8]) -> Graymap
+pub fn read_graymap(file: &[u8]) -> Result<Graymap, Unread>
     ensures { result ≡ read_of false file.now }
 {
     read_as(file, false)
 }
 
 // How reading a graymap of two bytes a sample ends: its samples are written to a buffer that holds just them. A refusal writes nothing.
-pub fn read_graymap_u16(file: &[u8], out: &mut [u16]) -> Graymap
+pub fn read_graymap_u16(file: &[u8], out: &mut [u16]) -> Result<Graymap, Unread>
     ensures { Done file.now out.old result out.new }
 {
-    let read = read_as(file, true);
-    match read {
-        Graymap::Read {
-            width,
-            height,
-            maximum,
-            start,
-        } => {
-            if out.len() != width * height {
-                return Graymap::Refused(Refusal::BadBuffer);
-            }
-            samples::write_samples(&file[start..], out);
-            Graymap::Read {
-                width,
-                height,
-                maximum,
-                start,
-            }
-        }
-        Graymap::Above(k) => Graymap::Above(k),
-        Graymap::Refused(r) => Graymap::Refused(r),
+    let read = read_as(file, true)?;
+    if out.len() != read.width * read.height {
+        return Err(Unread::Refused(Refusal::BadBuffer));
     }
+    samples::write_samples(&file[read.start..], out);
+    Ok(read)
 }
 
 // The pixels of a file that was read, a part of its own bytes; the empty part where it was refused, or where there is no such part.
-pub fn pixels(file: &[u8], read: Graymap) -> &[u8]
+pub fn pixels(file: &[u8], read: Result<Graymap, Unread>) -> &[u8]
     ensures { result.now ≡ part_of file.now read }
 {
     match read {
-        Graymap::Read {
-            width: _,
-            height: _,
-            maximum: _,
-            start,
-        } => part_from(file, start),
-        Graymap::Above(_) => &file[0..0],
-        Graymap::Refused(_) => &file[0..0],
+        Ok(graymap) => part_from(file, graymap.start),
+        Err(_) => &file[0..0],
     }
 }
 
@@ -87,90 +78,73 @@ fn part_from(file: &[u8], start: usize) -> &[u8]
     &file[0..0]
 }
 
-// Either call's reading: `deep` says that a sample takes two bytes.
-fn read_as(file: &[u8], deep: bool) -> Graymap
+// Either call's reading: `deep` says that a sample takes two bytes. A bool and no type parameter: the definitions ask it too (`read_of deep`).
+fn read_as(file: &[u8], deep: bool) -> Result<Graymap, Unread>
     ensures { result ≡ read_of deep file.now }
 {
     if !header::has_magic(file) {
-        return Graymap::Refused(Refusal::NoMagic);
+        return Err(Unread::Refused(Refusal::NoMagic));
     }
-    let heading = header::read_header(file, 3);
-    match heading {
-        Heading::Missing => Graymap::Refused(Refusal::BadHeader),
-        Heading::Given {
-            width,
-            height,
-            maximum,
-            start,
-        } => sized(file, deep, width, height, maximum, start),
-    }
+    let Some(heading) = header::read_header(file, 3) else {
+        return Err(Unread::Refused(Refusal::BadHeader));
+    };
+    sized(file, deep, heading)
 }
 
 // Past the header, which may have cut its numbers: first the maximum, then the sizes.
-fn sized(
-    file: &[u8],
-    deep: bool,
-    width: usize,
-    height: usize,
-    maximum: usize,
-    start: usize,
-) -> Graymap
-    requires { start ≤ length file.now }
-    ensures { result ≡ sized_of deep (length file.now) (header width height maximum (drop start file.now)) }
+fn sized(file: &[u8], deep: bool, heading: Heading) -> Result<Graymap, Unread>
+    requires { heading.start ≤ length file.now }
+    ensures { result ≡ sized_of deep (length file.now) (header heading.width heading.height heading.maximum (drop heading.start file.now)) }
 {
-    let ranged = is_maximum(deep, maximum);
-    let fits = imageview::is_size(width, height);
+    let ranged = is_maximum(deep, heading.maximum);
+    let fits = imageview::is_size(heading.width, heading.height);
     if !ranged {
-        return Graymap::Refused(Refusal::BadHeader);
+        return Err(Unread::Refused(Refusal::BadHeader));
     }
     if !fits {
-        return Graymap::Refused(Refusal::BadGraymapSize);
+        return Err(Unread::Refused(Refusal::BadGraymapSize));
     }
-    judged(file, deep, width, height, maximum, start)
+    judged(file, deep, heading)
 }
 
 fn is_maximum(deep: bool, maximum: usize) -> bool
     ensures { result ≡ is_maximum deep maximum }
 {
     if deep {
-        return (256 <= maximum) & (maximum <= 4095);
+        (256 <= maximum) & (maximum <= 4095)
+    } else {
+        (1 <= maximum) & (maximum <= 255)
     }
-    (1 <= maximum) & (maximum <= 255)
 }
 
 // The bytes behind a header whose numbers can be used.
-fn judged(
-    file: &[u8],
-    deep: bool,
-    width: usize,
-    height: usize,
-    maximum: usize,
-    start: usize,
-) -> Graymap
-    requires { (start ≤ length file.now) × (is_size width height ≡ true) × (is_maximum deep maximum ≡ true) }
-    ensures { result ≡ pixels_of deep (length file.now) width height maximum (drop start file.now) }
+fn judged(file: &[u8], deep: bool, heading: Heading) -> Result<Graymap, Unread>
+    requires inside { heading.start ≤ length file.now }
+    requires size { is_size heading.width heading.height ≡ true }
+    requires maximum { is_maximum deep heading.maximum ≡ true }
+    ensures { result ≡ pixels_of deep (length file.now) heading.width heading.height heading.maximum (drop heading.start file.now) }
 {
-    let n = width * height;
+    let n = heading.width * heading.height;
     let size = bytes_of(deep, n);
-    let left = &file[start..];
+    let left = &file[heading.start..];
     if left.len() < size {
-        return Graymap::Refused(Refusal::TooShort);
+        return Err(Unread::Refused(Refusal::TooShort));
     }
-    let k = first_above(left, deep, maximum, n);
+    let k = first_above(left, deep, heading.maximum, n);
     let above = k < n;
     let over = size < left.len();
     if above {
-        return Graymap::Above(k);
+        return Err(Unread::Above(k));
     }
     if over {
-        return Graymap::Refused(Refusal::LeftOver);
+        return Err(Unread::Refused(Refusal::LeftOver));
     }
-    Graymap::Read {
-        width,
-        height,
-        maximum,
-        start,
-    }
+    Ok(Graymap {
+        width: heading.width,
+        height: heading.height,
+        maximum: heading.maximum,
+        start: heading.start,
+    })
 }
 
 // How many bytes n samples take.
@@ -178,19 +152,18 @@ fn bytes_of(deep: bool, n: usize) -> usize
     requires { n ≤ most * most }
     ensures { result ≡ bytes_of deep n }
 {
-    if deep {
-        return 2 * n;
-    }
-    n
+    if deep { 2 * n } else { n }
 }
 
 // The first sample above the maximum, whatever bytes a sample takes.
 fn first_above(left: &[u8], deep: bool, maximum: usize, n: usize) -> usize
-    requires { (bytes_of deep n ≤ length left.now) × (is_maximum deep maximum ≡ true) }
+    requires long { bytes_of deep n ≤ length left.now }
+    requires maximum { is_maximum deep maximum ≡ true }
     ensures { result ≡ first_above (sample_in deep left.now) maximum n }
 {
     if deep {
-        return samples::first_above_deep(left, maximum as u16, n);
+        samples::first_above_deep(left, maximum as u16, n)
+    } else {
+        samples::first_above(left, maximum as u8, n)
     }
-    samples::first_above(left, maximum as u8, n)
 }

@@ -5,6 +5,7 @@ ghost use Rattle.graymap.specs.Call.{first_above, sample_in};
 ghost use Rattle.graymap.specs.Steps.{higher_of, highest_of};
 
 // The number of the first of n samples above the maximum, or n.
+#[tactic(auto, using(crate::proofs::SampleLaws::above_none, crate::proofs::SampleLaws::above_all, crate::proofs::SampleLaws::above_block))]
 pub fn first_above(samples: &[u8], maximum: u8, n: usize) -> usize
     requires { n ≤ length samples.now }
     ensures { result ≡ first_above (λ i. get_or samples.now i 0) maximum n }
@@ -12,65 +13,62 @@ pub fn first_above(samples: &[u8], maximum: u8, n: usize) -> usize
     if maximum == 255 {
         return n;
     }
-    let mut i = 0;
-    while 256 <= n - i {
-        if maximum < highest(samples, i) {
-            return first_from(samples, maximum, i, n);
+    for block in 0..n / 256 {
+        let from = 256 * block;
+        if maximum < highest(samples, from) {
+            return first_from(samples, maximum, from, n);
         }
-        i += 256;
     }
-    first_from(samples, maximum, i, n)
+    first_from(samples, maximum, 256 * (n / 256), n)
 }
 
 // The highest of 256 samples. The compiler makes vectors of it.
+#[tactic(auto, using(crate::proofs::SampleLaws::highest_none, crate::proofs::SampleLaws::highest_more))]
 fn highest(samples: &[u8], from: usize) -> u8
     requires { from + 256 ≤ length samples.now }
     ensures { result ≡ highest_of (λ i. get_or samples.now (from + i) 0) 256 }
 {
     let mut top = 0;
-    let mut i = 0;
-    while i < 256 {
+    for i in 0..256 {
         top = higher(top, samples[from + i]);
-        i += 1;
     }
     top
 }
 
+// One comparison, which the compiler makes a vector's maximum.
 fn higher(a: u8, b: u8) -> u8
     ensures { result ≡ higher_of a b }
 {
-    if a < b {
-        return b;
-    }
-    a
+    if a < b { b } else { a }
 }
 
 // None of the samples before `from` is above the maximum.
+#[tactic(auto, using(crate::proofs::SampleLaws::above_passed, crate::proofs::SampleLaws::above_found))]
 fn first_from(samples: &[u8], maximum: u8, from: usize, n: usize) -> usize
-    requires { (from ≤ n) × (n ≤ length samples.now) × (first_above (λ i. get_or samples.now i 0) maximum from ≡ from) }
+    requires upto { from ≤ n }
+    requires long { n ≤ length samples.now }
+    requires none_before { first_above (λ i. get_or samples.now i 0) maximum from ≡ from }
     ensures { result ≡ first_above (λ i. get_or samples.now i 0) maximum n }
 {
-    let mut i = from;
-    while i < n {
+    for i in from..n {
         if maximum < samples[i] {
             return i;
         }
-        i += 1;
     }
     n
 }
 
 // The number of the first of n samples of two bytes above the maximum, or n.
+// Beside `first_from`, which begins anywhere: with the sample as a closure both loops would be one line shorter and each call a line longer.
+#[tactic(auto, using(crate::proofs::SampleLaws::above_none, crate::proofs::SampleLaws::above_passed, crate::proofs::SampleLaws::above_found))]
 pub fn first_above_deep(left: &[u8], maximum: u16, n: usize) -> usize
     requires { 2 * n ≤ length left.now }
     ensures { result ≡ first_above (sample_in true left.now) maximum n }
 {
-    let mut i = 0;
-    while i < n {
+    for i in 0..n {
         if maximum < sample(left, i) {
             return i;
         }
-        i += 1;
     }
     n
 }
@@ -90,9 +88,7 @@ pub fn write_samples(left: &[u8], out: &mut [u16])
     requires { 2 * length out.old ≤ length left.now }
     ensures { out.new ≡ tabulated (length out.old) (sample_in true left.now) }
 {
-    let mut i = 0;
-    while i < out.len() {
+    for i in 0..out.len() {
         out[i] = sample(left, i);
-        i += 1;
     }
 }

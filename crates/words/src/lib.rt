@@ -15,7 +15,7 @@ pub fn word(bytes: &[u8], at: usize) -> u32
     u32::from_le_bytes([bytes[at], bytes[at + 1], bytes[at + 2], bytes[at + 3]])
 }
 
-// Two words as one, the low one first; 0 where they do not lie whole within the bytes.
+// Two words as one, the low one first; 0 where they do not lie whole within the bytes. Not generic with `word`: its sum of two words is not the sum of four bytes.
 #[tactic(auto, unfolding(crate::specs::Words::long_at))]
 pub fn long(bytes: &[u8], at: usize) -> u64
     ensures { result ≡ long_at bytes.now at }

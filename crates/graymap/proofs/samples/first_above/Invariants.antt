@@ -1,12 +1,9 @@
 -- `graymap::samples::first_above` meets its contract: no sample of the blocks passed is above the maximum.
 use mathlib.Core.Path.{◌≡◌}
-use Prim.Native.Nat.{◌-◌, ◌≤◌}
+use Prim.Native.Nat.{◌*◌}
 use lib.ListN.{get_or}
 use Rattle.graymap.specs.Call.{first_above}
 use Rattle.graymap.proofs.samples.first_above.Given as goal
 
-abbrev pub invariant-loop-i : goal.invariant-loop-i
-invariant-loop-i l = (l.i ≤ l.n) × (first_above (λ k. get_or l.samples k 0) l.maximum l.i ≡ l.i)
-
-abbrev pub decreases-loop-i : goal.decreases-loop-i
-decreases-loop-i l = l.n - l.i
+abbrev pub invariant-loop-block : goal.invariant-loop-block
+invariant-loop-block l = first_above (λ k. get_or l.samples k 0) l.maximum (256 * l.block) ≡ 256 * l.block

@@ -1,14 +1,9 @@
 -- `graymap::samples::write_samples` meets its contract: after i turns i samples are written.
 use mathlib.Core.Path.{◌≡◌}
 use mathlib.Core.Bool.{true}
-use Prim.Native.Nat.{◌-◌, ◌≤◌}
-use lib.ListN.{length}
 use Rattle.shapes.specs.Lists.{overwritten}
 use Rattle.graymap.specs.Call.{sample_in}
 use Rattle.graymap.proofs.samples.write_samples.Given as goal
 
 abbrev pub invariant-loop-i : goal.invariant-loop-i
-invariant-loop-i l = (l.i ≤ length l.out) × (length l.out ≡ length l.initial.out) × (l.out ≡ overwritten l.i (sample_in true l.left) l.initial.out)
-
-abbrev pub decreases-loop-i : goal.decreases-loop-i
-decreases-loop-i l = length l.out - l.i
+invariant-loop-i l = l.out ≡ overwritten l.i (sample_in true l.left) l.initial.out
