@@ -1,5 +1,6 @@
 // What a sample may be: a byte, or a word of which twelve bits are used.
 ghost use Rattle.std.specs.Prelude.{◌≡◌, Bool, true, false, List, ℕ, ◌<◌, ◌≤◌, length, get_or, take, drop, fold, ◌&&◌, leb, refl};
+ghost use Rattle.std.specs.Int.{abs_diff};
 ghost use Rattle.imageview.specs.Levels.{row_low};
 
 /// A sample of an image, of either width.
@@ -13,6 +14,12 @@ pub trait Sample: Copy {
     fn level_at(row: &[Self], i: usize) -> u16
         requires { i < length row.now }
         ensures { result ≡ get_or (levels row.now) i 0 };
+
+    /// How far two rows' samples of one index are apart, taken in the samples' own width.
+    fn apart_at(a: &[Self], b: &[Self], i: usize) -> u16
+        requires first { i < length a.now }
+        requires second { i < length b.now }
+        ensures { result ≡ abs_diff (get_or (levels a.now) i 0) (get_or (levels b.now) i 0) };
 
     /// Whether no sample of a row is above the greatest; no byte is.
     fn are_low(row: &[Self]) -> bool
@@ -41,6 +48,10 @@ impl Sample for u8 {
         row[i] as u16
     }
 
+    fn apart_at(a: &[u8], b: &[u8], i: usize) -> u16 {
+        a[i].abs_diff(b[i]) as u16
+    }
+
     fn are_low(_row: &[u8]) -> bool {
         true
     }
@@ -59,6 +70,10 @@ impl Sample for u16 {
 
     fn level_at(row: &[u16], i: usize) -> u16 {
         row[i]
+    }
+
+    fn apart_at(a: &[u16], b: &[u16], i: usize) -> u16 {
+        a[i].abs_diff(b[i])
     }
 
     #[tactic(auto, using(crate::proofs::LevelLaws::fold_is_row_low))]

@@ -1,6 +1,7 @@
 -- Laws of the tests: which way the call goes by them, what holds where all pass, and that each way ends as it should.
 use mathlib.Core.Path.{◌≡◌, refl, sym, ap, ◌∙◌, subst}
 use mathlib.Core.Bool.{Bool, true, false, not, ◌&&◌, ◌||◌, cond}
+use mathlib.Core.Logic.{inl, inr}
 use mathlib.Core.List.{List}
 use Prim.Native.Nat.{ℕ, ◌/◌, ◌≤◌}
 use lib.Dec.{leb, ltb}
@@ -12,10 +13,12 @@ use Rattle.corners.specs.Corners.{whole, too_many}
 use Rattle.refusals.specs.declared.Refusal.{Refusal}
 use Rattle.refusals.specs.declared.Refusal.TheVariants.{BadImage, BadSample, BadRadius, BadLimit, BadLength, TooMany, BadOut}
 use Rattle.imageview.specs.Image.{Image, is_image, in_range}
+use Rattle.imageview.specs.View.{IsRefusedBy}
+use Rattle.imageview.specs.Steps.{IsTested}
 use Rattle.refine_formulas.specs.declared.SaddlePointConfig.{SaddlePointConfig}
 use Rattle.refine_seed.specs.declared.Spot.{Spot}
 use Rattle.refine_seed.specs.Refine.{good_limits}
-use Rattle.std.specs.Prelude.{Result, Ok, Err}
+use Rattle.std.specs.Prelude.{Result, Ok, Err, Option}
 use Rattle.refine_list.specs.Refining.{records_by}
 use Rattle.refine_fallback.specs.Call.{either, passes_by, Way, refused, wrote, way_by, answer_of, out_after, passes_after, Done}
 use Rattle.refine_seed.specs.StepsSpot.{Ready}
@@ -65,10 +68,9 @@ all-passed false false false false false false true h = absurd (subst is_good (s
 all-passed false false false false false false false h = record { image = refl; range = refl; radii = refl; limits = refl; room = refl }
 
 -- ---- where all pass
-module _ (img : Image) (one two : SaddlePointConfig) (len room bytes : ℕ) (good : tests_of img one two len room bytes ≡ all_good) where
-  passed : Passed (not (is_image img)) (not (in_range img)) (not (leb one.radius 7 && leb two.radius 7)) (not (good_limits one && good_limits two)) (ltb room len || ltb bytes (len / 3))
-  passed =
-      all-passed (not (is_image img)) (not (in_range img)) (not (leb one.radius 7 && leb two.radius 7)) (not (good_limits one && good_limits two)) (not (whole len)) (too_many len) (ltb room len || ltb bytes (len / 3)) good
+module _ (one two : SaddlePointConfig) (len room bytes : ℕ) (good : tests_of one two len room bytes ≡ all_good) where
+  passed : Passed false false (not (leb one.radius 7 && leb two.radius 7)) (not (good_limits one && good_limits two)) (ltb room len || ltb bytes (len / 3))
+  passed = all-passed false false (not (leb one.radius 7 && leb two.radius 7)) (not (good_limits one && good_limits two)) (not (whole len)) (too_many len) (ltb room len || ltb bytes (len / 3)) good
 
   radii : (leb one.radius 7 && leb two.radius 7) ≡ true
   radii = not-false (leb one.radius 7 && leb two.radius 7) passed.radii
@@ -76,18 +78,18 @@ module _ (img : Image) (one two : SaddlePointConfig) (len room bytes : ℕ) (goo
   limits : (good_limits one && good_limits two) ≡ true
   limits = not-false (good_limits one && good_limits two) passed.limits
 
-  pub first-ready : Ready img one
-  first-ready = record { image = not-false (is_image img) passed.image; range = not-false (in_range img) passed.range; small = first_of (leb one.radius 7) (leb two.radius 7) radii; limits = first_of (good_limits one) (good_limits two) limits }
+  pub first-ready : {img : Image} → IsTested img → Ready img one
+  first-ready t = record { image = t.image; range = t.range; small = first_of (leb one.radius 7) (leb two.radius 7) radii; limits = first_of (good_limits one) (good_limits two) limits }
 
-  pub second-ready : Ready img two
-  second-ready = record { image = not-false (is_image img) passed.image; range = not-false (in_range img) passed.range; small = second-of (leb one.radius 7) (leb two.radius 7) radii; limits = second-of (good_limits one) (good_limits two) limits }
+  pub second-ready : {img : Image} → IsTested img → Ready img two
+  second-ready t = record { image = t.image; range = t.range; small = second-of (leb one.radius 7) (leb two.radius 7) radii; limits = second-of (good_limits one) (good_limits two) limits }
 
   pub has_room : (len ≤ room) × (len / 3 ≤ bytes)
   has_room =
       (ltb-false room len (first-not (ltb room len) (ltb bytes (len / 3)) passed.room), ltb-false bytes (len / 3) (second-not (ltb room len) (ltb bytes (len / 3)) passed.room))
 
 -- ---- each way ends as it should
-module _ (first second : ℕ → Spot) (img : Image) (one two : SaddlePointConfig) (corners out : List Float) (passes : List ℕ) where
+module _ (first second : ℕ → Option Spot) (img : Image) (one two : SaddlePointConfig) (corners out : List Float) (passes : List ℕ) where
   abbrev way : Way
   way = way_by first second img one two corners (length out) (length passes)
 
@@ -95,19 +97,40 @@ module _ (first second : ℕ → Spot) (img : Image) (one two : SaddlePointConfi
   all = wrote (records_by (λ i. either (first i) (second i)) corners (length corners / 3)) (passes_by first second (length corners / 3))
 
   abbrev said : Result Unit Refusal
-  said = tests_of img one two (length corners) (length out) (length passes)
+  said = tests_of one two (length corners) (length out) (length passes)
 
-  way-is : way ≡ goes said all
+  abbrev settled : Way
+  settled = by_tests refused false false (not (leb one.radius 7 && leb two.radius 7)) (not (good_limits one && good_limits two)) (not (whole (length corners))) (too_many (length corners)) (ltb (length out) (length corners) || ltb (length passes) (length corners / 3)) all
+
+  ends : (r : Refusal) → way ≡ refused r → Done way out passes (Err r) out passes
+  ends r e = record { answers = sym (ap answer_of e); leaves = sym (ap (out_after out) e); marks = sym (ap (passes_after passes) e) }
+
+  not-image : is_image img ≡ false → way ≡ refused BadImage
   unfolding way_by
-  way-is =
-      through refused Err (λ (w : Way). w) (λ (t : Result Unit Refusal). goes t all) (λ r. refl) all all_good refl (not (is_image img)) (not (in_range img)) (not (leb one.radius 7 && leb two.radius 7)) (not (good_limits one && good_limits two)) (not (whole (length corners))) (too_many (length corners)) (ltb (length out) (length corners) || ltb (length passes) (length corners / 3))
+  not-image h = ap (λ (i : Bool). cond (not i) (refused BadImage) (cond (not (in_range img)) (refused BadSample) settled)) h
 
-  pub refuses : (r : Refusal) → said ≡ Err r → Done way out passes (Err r) out passes
-  refuses r h =
-      let e : way ≡ refused r = way-is ∙ ap (λ (t : Result Unit Refusal). goes t all) h in
-      record { answers = sym (ap answer_of e); leaves = sym (ap (out_after out) e); marks = sym (ap (passes_after passes) e) }
+  module _ (image : is_image img ≡ true) where
+    an-image : way ≡ cond (not (in_range img)) (refused BadSample) settled
+    unfolding way_by
+    an-image = ap (λ (i : Bool). cond (not i) (refused BadImage) (cond (not (in_range img)) (refused BadSample) settled)) image
 
-  pub refines : said ≡ all_good → (n : ℕ) (out' : List Float) (passes' : List ℕ) → Walked first second corners out passes n out' passes' → Done way out passes (Ok n) out' passes'
-  refines h n out' passes' w =
-      let e : way ≡ all = way-is ∙ ap (λ (t : Result Unit Refusal). goes t all) h in
+    not-range : in_range img ≡ false → way ≡ refused BadSample
+    not-range h = an-image ∙ ap (λ (i : Bool). cond (not i) (refused BadSample) settled) h
+
+    way-is : in_range img ≡ true → way ≡ goes said all
+    way-is h =
+        an-image ∙ ap (λ (i : Bool). cond (not i) (refused BadSample) settled) h
+        ∙ through refused Err (λ (w : Way). w) (λ (t : Result Unit Refusal). goes t all) (λ r. refl) all all_good refl false false (not (leb one.radius 7 && leb two.radius 7)) (not (good_limits one && good_limits two)) (not (whole (length corners))) (too_many (length corners)) (ltb (length out) (length corners) || ltb (length passes) (length corners / 3))
+
+  -- an image that is refused
+  pub refuses-image : (r : Refusal) → IsRefusedBy img r → Done way out passes (Err r) out passes
+  refuses-image r (inl h) = ends r (not-image h.0 ∙ ap refused (sym h.1))
+  refuses-image r (inr h) = ends r (not-range h.0 h.1 ∙ ap refused (sym h.2))
+
+  pub refuses : IsTested img → (r : Refusal) → said ≡ Err r → Done way out passes (Err r) out passes
+  refuses t r h = ends r (way-is t.image t.range ∙ ap (λ (t : Result Unit Refusal). goes t all) h)
+
+  pub refines : IsTested img → said ≡ all_good → (n : ℕ) (out' : List Float) (passes' : List ℕ) → Walked first second corners out passes n out' passes' → Done way out passes (Ok n) out' passes'
+  refines t h n out' passes' w =
+      let e : way ≡ all = way-is t.image t.range ∙ ap (λ (t : Result Unit Refusal). goes t all) h in
       record { answers = ap Ok w.count ∙ sym (ap answer_of e); leaves = w.leaves ∙ sym (ap (out_after out) e); marks = w.marks ∙ sym (ap (passes_after passes) e) }

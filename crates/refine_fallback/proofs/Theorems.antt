@@ -14,9 +14,8 @@ use Rattle.imageview.specs.Image.{Image, is_image, in_range}
 use Rattle.refusals.specs.declared.Refusal.{Refusal}
 use Rattle.refine_formulas.specs.declared.SaddlePointConfig.{SaddlePointConfig}
 use Rattle.refine_seed.specs.declared.Spot.{Spot}
-use Rattle.refine_seed.specs.declared.Spot.TheVariants.{At, Nowhere}
 use Rattle.refine_seed.specs.Refine.{good_limits}
-use Rattle.std.specs.Prelude.{Ok}
+use Rattle.std.specs.Prelude.{Ok, Option, Some, None}
 use Rattle.refine_list.specs.Refining as Single
 use Rattle.refine_list.specs.Refining.{record_of, records_by, spot_for}
 use Rattle.refine_fallback.specs.Call.{either, pass_of, passes_by, Way, refused, wrote, way_by, way_of, answer_of, out_after}
@@ -24,8 +23,8 @@ use Rattle.refine_fallback.specs.Claims.{EqualIsSingle, chosen, second-alone, Ea
 use Rattle.refine_fallback.proofs.TestLaws.{by_tests, through}
 
 -- ---- records and bytes, seed by seed
-module _ (first second : ℕ → Spot) (corners : List Float) where
-  abbrev best : ℕ → Spot
+module _ (first second : ℕ → Option Spot) (corners : List Float) where
+  abbrev best : ℕ → Option Spot
   best i = either (first i) (second i)
 
   abbrev records : ℕ → List Float
@@ -43,10 +42,10 @@ module _ (first second : ℕ → Spot) (corners : List Float) where
       ∙ more (length (records n)) (length (bytes n)) (length (record_of (best n) (entry corners (3 * n + 2)))) (length (pass_of (first n) (second n))) (one_each n) (by (first n) (second n))
       ∙ ap (λ (k : ℕ). 3 * k) (sym (length-append (bytes n) (pass_of (first n) (second n))))
     where
-      by : (a b : Spot) → length (record_of (either a b) (entry corners (3 * n + 2))) ≡ 3 * length (pass_of a b)
-      by (At x y) b = refl
-      by Nowhere (At x y) = refl
-      by Nowhere Nowhere = refl
+      by : (a b : Option Spot) → length (record_of (either a b) (entry corners (3 * n + 2))) ≡ 3 * length (pass_of a b)
+      by (Some v) b = refl
+      by None (Some v) = refl
+      by None None = refl
 
       more : (a b c d : ℕ) → a ≡ 3 * b → c ≡ 3 * d → a + c ≡ 3 * (b + d)
       more a b c d e f = omega arith
@@ -63,7 +62,7 @@ chosen_more p (b ∷ bytes) more [] r h = absurd (let z : ⊥ = omega arith in z
 chosen_more p (b ∷ bytes) more (x ∷ []) r h = absurd (let z : ⊥ = omega arith in z)
 chosen_more p (b ∷ bytes) more (x ∷ y ∷ []) r h = absurd (let z : ⊥ = omega arith in z)
 
-module _ (first second : ℕ → Spot) (corners : List Float) (p : ℕ) (mine : Spot → Spot → Spot) (by : (a b : Spot) (s : Float) → chosen p (pass_of a b) (record_of (either a b) s) ≡ record_of (mine a b) s) where
+module _ (first second : ℕ → Option Spot) (corners : List Float) (p : ℕ) (mine : Option Spot → Option Spot → Option Spot) (by : (a b : Option Spot) (s : Float) → chosen p (pass_of a b) (record_of (either a b) s) ≡ record_of (mine a b) s) where
   chosen_is : (n : ℕ) → chosen p (bytes first second corners n) (records first second corners n) ≡ records_by (λ i. mine (first i) (second i)) corners n
   unfolding records_by passes_by
   chosen_is zero = refl
@@ -72,15 +71,15 @@ module _ (first second : ℕ → Spot) (corners : List Float) (p : ℕ) (mine : 
       ∙ ap (λ (l : List Float). l ++ chosen p (pass_of (first n) (second n)) (record_of (best first second corners n) (entry corners (3 * n + 2)))) (chosen_is n)
       ∙ ap (λ (l : List Float). records_by (λ i. mine (first i) (second i)) corners n ++ l) (by (first n) (second n) (entry corners (3 * n + 2)))
 
-first-chosen : (a b : Spot) (s : Float) → chosen 1 (pass_of a b) (record_of (either a b) s) ≡ record_of a s
-first-chosen (At x y) b s = refl
-first-chosen Nowhere (At x y) s = refl
-first-chosen Nowhere Nowhere s = refl
+first-chosen : (a b : Option Spot) (s : Float) → chosen 1 (pass_of a b) (record_of (either a b) s) ≡ record_of a s
+first-chosen (Some v) b s = refl
+first-chosen None (Some v) s = refl
+first-chosen None None s = refl
 
-second-chosen : (a b : Spot) (s : Float) → chosen 2 (pass_of a b) (record_of (either a b) s) ≡ record_of (second-alone a b) s
-second-chosen (At x y) b s = refl
-second-chosen Nowhere (At x y) s = refl
-second-chosen Nowhere Nowhere s = refl
+second-chosen : (a b : Option Spot) (s : Float) → chosen 2 (pass_of a b) (record_of (either a b) s) ≡ record_of (second-alone a b) s
+second-chosen (Some v) b s = refl
+second-chosen None (Some v) s = refl
+second-chosen None None s = refl
 
 pub each-told : EachTold
 each-told first second corners n =
@@ -91,9 +90,9 @@ each-told first second corners n =
     }
 
 -- ---- equal settings
-same_spot : (a : Spot) → either a a ≡ a
-same_spot (At x y) = refl
-same_spot Nowhere = refl
+same_spot : (a : Option Spot) → either a a ≡ a
+same_spot (Some v) = refl
+same_spot None = refl
 
 both-same : (b : Bool) → (b && b) ≡ b
 both-same true = refl
@@ -104,7 +103,7 @@ or-none true b e = refl
 or-none false b e = e
 
 module _ (img : Image) (cfg : SaddlePointConfig) (corners out : List Float) (bytes : ℕ) (enough : length corners / 3 ≤ bytes) where
-  abbrev spots : ℕ → Spot
+  abbrev spots : ℕ → Option Spot
   spots = spot_for img cfg corners
 
   abbrev n : ℕ
@@ -120,11 +119,11 @@ module _ (img : Image) (cfg : SaddlePointConfig) (corners out : List Float) (byt
   unfolding way_by
   way-is =
       rw (both-same (leb cfg.radius 7), both-same (good_limits cfg), or-none (ltb (length out) (length corners)) (ltb bytes n) (le-ltb bytes n enough))
-      (ap (λ (f : ℕ → Spot). single refused (wrote (records_by f corners n) (passes_by spots spots n))) spots-same)
+      (ap (λ (f : ℕ → Option Spot). single refused (wrote (records_by f corners n) (passes_by spots spots n))) spots-same)
 
   -- as many bytes as records
   count : length (passes_by spots spots n) ≡ length (records_by spots corners n) / 3
-  count = third (length (passes_by spots spots n)) (length (records_by spots corners n)) (sym (ap (λ (f : ℕ → Spot). length (records_by f corners n)) spots-same) ∙ one_each spots spots corners n)
+  count = third (length (passes_by spots spots n)) (length (records_by spots corners n)) (sym (ap (λ (f : ℕ → Option Spot). length (records_by f corners n)) spots-same) ∙ one_each spots spots corners n)
     where
       third : (a b : ℕ) → b ≡ 3 * a → a ≡ b / 3
       third a b e = omega arith

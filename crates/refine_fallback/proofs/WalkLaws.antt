@@ -13,7 +13,7 @@ use Rattle.shapes.specs.Numbers.{entry}
 use Rattle.imageview.specs.Image.{Image}
 use Rattle.refine_formulas.specs.declared.SaddlePointConfig.{SaddlePointConfig}
 use Rattle.refine_seed.specs.declared.Spot.{Spot}
-use Rattle.refine_seed.specs.declared.Spot.TheVariants.{At, Nowhere}
+use Rattle.std.specs.Prelude.{Option, Some, None}
 use Rattle.refine_seed.specs.Refine.{refine_lent}
 use Rattle.refine_seed.specs.StepsSpot.{Lands}
 use Rattle.refine_list.specs.Refining.{records_by}
@@ -25,29 +25,29 @@ use Rattle.refine_fallback.specs.Call.{either, pass_of, passes_by}
 use Rattle.refine_fallback.specs.Steps.{number_of, byte_of, Tries, Marking, Walked}
 
 -- ---- one seed
-pub first-kept : (p other : Spot) (x y : Float) → p ≡ At x y → Tries p other p First
-first-kept p other x y e = subst (λ (q : Spot). Tries q other q First) (sym e) (record { is = refl; byte = refl })
+pub first-kept : (p other : Option Spot) (v : Spot) → p ≡ Some v → Tries p other p First
+first-kept p other v e = subst (λ (q : Option Spot). Tries q other q First) (sym e) (record { is = refl; byte = refl })
 
-pub second-tried : (p other q : Spot) → p ≡ Nowhere → q ≡ other → Tries p other q Second
-second-tried p other q e f = subst (λ (v : Spot). Tries v other q Second) (sym e) (subst (λ (v : Spot). Tries Nowhere other v Second) (sym f) (by other))
+pub second-tried : (p other q : Option Spot) → p ≡ None → q ≡ other → Tries p other q Second
+second-tried p other q e f = subst (λ (v : Option Spot). Tries v other q Second) (sym e) (subst (λ (v : Option Spot). Tries None other v Second) (sym f) (by other))
   where
-    by : (o : Spot) → Tries Nowhere o o Second
-    by (At x y) = record { is = refl; byte = refl }
-    by Nowhere = record { is = refl; byte = refl }
+    by : (o : Option Spot) → Tries None o o Second
+    by (Some v) = record { is = refl; byte = refl }
+    by None = record { is = refl; byte = refl }
 
 -- what a byte writes
-abbrev Marks : List ℕ → ℕ → Spot → Pass → ℕ → List ℕ → Type 0
+abbrev Marks : List ℕ → ℕ → Option Spot → Pass → ℕ → List ℕ → Type 0
 Marks l n p b n' l' = (n' ≡ n + length (byte_of p b)) × (l' ≡ take n l ++ (byte_of p b ++ drop (n + length (byte_of p b)) l))
 
-pub marks : (l : List ℕ) (n : ℕ) (p : Spot) (x y : Float) (b : Pass) → p ≡ At x y → n < length l → Marks l n p b (n + 1) (set l n (number_of b))
-marks l n p x y b e h =
-    subst (λ (q : Spot). Marks l n q b (n + 1) (set l n (number_of b))) (sym e) (refl, set_split l n (number_of b) h ∙ ap (λ (k : ℕ). take n l ++ (number_of b ∷ drop k l)) (sym (add-one n)))
+pub marks : (l : List ℕ) (n : ℕ) (p : Option Spot) (v : Spot) (b : Pass) → p ≡ Some v → n < length l → Marks l n p b (n + 1) (set l n (number_of b))
+marks l n p v b e h =
+    subst (λ (q : Option Spot). Marks l n q b (n + 1) (set l n (number_of b))) (sym e) (refl, set_split l n (number_of b) h ∙ ap (λ (k : ℕ). take n l ++ (number_of b ∷ drop k l)) (sym (add-one n)))
 
-pub marks-none : (l : List ℕ) (n : ℕ) (p : Spot) (b : Pass) → p ≡ Nowhere → Marks l n p b n l
-marks-none l n p b e = subst (λ (q : Spot). Marks l n q b n l) (sym e) (sym (add-zero n), sym (ap (λ (k : ℕ). take n l ++ drop k l) (add-zero n) ∙ take-append-drop n l))
+pub marks-none : (l : List ℕ) (n : ℕ) (p : Option Spot) (b : Pass) → p ≡ None → Marks l n p b n l
+marks-none l n p b e = subst (λ (q : Option Spot). Marks l n q b n l) (sym e) (sym (add-zero n), sym (ap (λ (k : ℕ). take n l ++ drop k l) (add-zero n) ∙ take-append-drop n l))
 
 -- ---- the bytes so far
-module _ (first second : ℕ → Spot) (passes : List ℕ) where
+module _ (first second : ℕ → Option Spot) (passes : List ℕ) where
   pub unmarked : Marking first second passes 0 0 passes
   unfolding passes_by
   unmarked = record { count = refl; leaves = refl; most = omega arith }
@@ -57,7 +57,7 @@ module _ (first second : ℕ → Spot) (passes : List ℕ) where
   longer i l e = ap (λ (b : List ℕ). passes_by first second i ++ b) e ∙ ap (passes_by first second) (sym (add-one i))
 
   module _ (i n : ℕ) (now : List ℕ) (g : Marking first second passes i n now) where
-    pub marked : (p : Spot) (b : Pass) → byte_of p b ≡ pass_of (first i) (second i) → (n' : ℕ) (after : List ℕ) → n' ≡ n + length (byte_of p b) → after ≡ take n now ++ (byte_of p b ++ drop (n + length (byte_of p b)) now) → Marking first second passes (i + 1) n' after
+    pub marked : (p : Option Spot) (b : Pass) → byte_of p b ≡ pass_of (first i) (second i) → (n' : ℕ) (after : List ℕ) → n' ≡ n + length (byte_of p b) → after ≡ take n now ++ (byte_of p b ++ drop (n + length (byte_of p b)) now) → Marking first second passes (i + 1) n' after
     marked p b e n' after q r =
         record {
           count = q ∙ ap (λ (k : ℕ). k + length (byte_of p b)) g.count ∙ sym length-longer;
@@ -68,9 +68,9 @@ module _ (first second : ℕ → Spot) (passes : List ℕ) where
         length-longer : length (passes_by first second (i + 1)) ≡ length (passes_by first second i) + length (byte_of p b)
         length-longer = ap length (sym (longer i (byte_of p b) e)) ∙ length-append (passes_by first second i) (byte_of p b)
 
-        at_most : (s : Spot) → length (byte_of s b) ≤ 1
-        at_most (At x y) = omega arith
-        at_most Nowhere = omega arith
+        at_most : (s : Option Spot) → length (byte_of s b) ≤ 1
+        at_most (Some v) = omega arith
+        at_most None = omega arith
 
         more : (a c i : ℕ) → a ≤ i → c ≤ 1 → a + c ≤ i + 1
         more a c i h k = omega arith
@@ -86,7 +86,7 @@ module _ (first second : ℕ → Spot) (passes : List ℕ) where
         fits n r i a b e m h q = omega arith
 
 -- ---- at the end
-pub walked : (first second : ℕ → Spot) (corners out : List Float) (passes : List ℕ) (i w n : ℕ) (now : List Float) (now' : List ℕ) → Going (λ k. either (first k) (second k)) corners out i w now → Marking first second passes i n now' → i ≡ length corners / 3 → Walked first second corners out passes n now now'
+pub walked : (first second : ℕ → Option Spot) (corners out : List Float) (passes : List ℕ) (i w n : ℕ) (now : List Float) (now' : List ℕ) → Going (λ k. either (first k) (second k)) corners out i w now → Marking first second passes i n now' → i ≡ length corners / 3 → Walked first second corners out passes n now now'
 walked first second corners out passes i w n now now' g m e =
     record {
       count = m.count ∙ ap (λ (k : ℕ). length (passes_by first second k)) e;

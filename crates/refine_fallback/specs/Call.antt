@@ -1,7 +1,7 @@
 -- Refining a list of corners with a second try: a seed that the first settings do not accept starts again from its own place with the second ones. The tests of
 -- docs/RULES.md in their order (`way_by`), what each way answers and leaves in the lent output and in the lent pass bytes. No refusal writes; elements past the last
 -- record, and bytes past the last one written, stay.
-use Rattle.std.specs.Prelude.{◌≡◌, not, ◌&&◌, ◌||◌, cond, false, List, [], ◌∷◌, ◌++◌, ℕ, zero, suc, ◌+◌, ◌*◌, ◌/◌, leb, ltb, length, drop, Float, Result, Ok, Err}
+use Rattle.std.specs.Prelude.{◌≡◌, not, ◌&&◌, ◌||◌, cond, false, List, [], ◌∷◌, ◌++◌, ℕ, zero, suc, ◌+◌, ◌*◌, ◌/◌, leb, ltb, length, drop, Float, Result, Ok, Err, Option, Some, None}
 use Rattle.shapes.specs.Numbers.{entry}
 use Rattle.corners.specs.Corners.{whole, too_many}
 use Rattle.refusals.specs.declared.Refusal.{Refusal}
@@ -9,23 +9,22 @@ use Rattle.refusals.specs.declared.Refusal.TheVariants.{BadImage, BadSample, Bad
 use Rattle.imageview.specs.Image.{Image, is_image, in_range}
 use Rattle.refine_formulas.specs.declared.SaddlePointConfig.{SaddlePointConfig}
 use Rattle.refine_seed.specs.declared.Spot.{Spot}
-use Rattle.refine_seed.specs.declared.Spot.TheVariants.{At, Nowhere}
 use Rattle.refine_seed.specs.Refine.{good_limits}
 use Rattle.refine_list.specs.Refining.{spot_for, lent_for, records_by}
 
 -- the first's spot, or else the second's
-abbrev pub either : Spot → Spot → Spot
-either (At x y) other = At x y
-either Nowhere other = other
+abbrev pub either : Option Spot → Option Spot → Option Spot
+either (Some spot) other = Some spot
+either None other = other
 
 -- the byte that says which of them it was; none where it was neither
-abbrev pub pass_of : Spot → Spot → List ℕ
-pass_of (At x y) other = 1 ∷ []
-pass_of Nowhere (At x y) = 2 ∷ []
-pass_of Nowhere Nowhere = []
+abbrev pub pass_of : Option Spot → Option Spot → List ℕ
+pass_of (Some spot) other = 1 ∷ []
+pass_of None (Some spot) = 2 ∷ []
+pass_of None None = []
 
 -- the bytes of the first n seeds, in input order
-unfoldable pub passes_by : (ℕ → Spot) → (ℕ → Spot) → ℕ → List ℕ
+unfoldable pub passes_by : (ℕ → Option Spot) → (ℕ → Option Spot) → ℕ → List ℕ
 passes_by first second zero = []
 passes_by first second (suc n) = passes_by first second n ++ pass_of (first n) (second n)
 
@@ -34,7 +33,7 @@ pub data Way : Type 0 where
   wrote : List Float → List ℕ → Way
 
 -- by the spots of both settings; room is the output's length, bytes how many pass bytes are lent
-unfoldable pub way_by : (ℕ → Spot) → (ℕ → Spot) → Image → SaddlePointConfig → SaddlePointConfig → List Float → ℕ → ℕ → Way
+unfoldable pub way_by : (ℕ → Option Spot) → (ℕ → Option Spot) → Image → SaddlePointConfig → SaddlePointConfig → List Float → ℕ → ℕ → Way
 unfolding records_by passes_by
 way_by first second img one two corners room bytes =
     cond (not (is_image img)) (refused BadImage)

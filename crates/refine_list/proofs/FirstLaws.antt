@@ -22,11 +22,15 @@ use Rattle.refine_patch.proofs.FourLaws.{written-length}
 use Rattle.refine_fits.specs.StepsAdding.{PatchWithin}
 use Rattle.refine_fits.specs.StepsBases.{coefs_in, first_place}
 use Rattle.refine_fits.proofs.BaseLaws.{lane-at, lane-from, last-place}
-use Rattle.refine_seed.specs.declared.Admitted.{Admitted}
-use Rattle.refine_seed.specs.declared.Admitted.TheVariants.{Good, Unmoved, Refused}
+use Rattle.std.specs.Prelude.{Result, Ok, Err}
+use Rattle.refine_fits.specs.declared.Seed.{Seed}
+use Rattle.refine_seed.specs.declared.Unrefined.{Unrefined}
 use Rattle.refine_seed.specs.StepsSpot.{Ready, seed_alone, first_for, Fitted}
 use Rattle.refine_seed.proofs.EntryLaws.{ready-sound, alone, good-within}
 use Rattle.refine_list.specs.Steps.{FirstFits, Begins}
+
+pub or-same : {w w' h h' : ℕ} (most : ℕ) → w ≡ w' → h ≡ h' → (leb w' most || leb h' most) ≡ (leb w most || leb h most)
+or-same {w} {w'} {h} {h'} most e f = sym (ap (λ (k : ℕ). leb k most || leb h most) e ∙ ap (λ (k : ℕ). leb w' most || leb k most) f)
 
 module _ (img : Image) (cfg : SaddlePointConfig) where
   -- ---- an image that no patch fits into
@@ -52,10 +56,9 @@ module _ (img : Image) (cfg : SaddlePointConfig) where
             ap (λ (n : ℕ). n * img.pitch + n) (let e : cfg.radius - cfg.radius ≡ 0 = omega arith in e)
             ∙ ap (λ (n : ℕ). n + 0) (zero-mul img.pitch)
 
-    by-case : (x y : Float) (d : Admitted) → seed_alone img.width img.height cfg.radius x y ≡ d → Reaches (first_for img.pitch cfg.radius d)
-    by-case x y (Good seed) e = last-place img cfg.radius seed.centre_x seed.centre_y (good-within img cfg x y seed (sym (alone img cfg x y ready) ∙ e))
-    by-case x y (Unmoved why) e = first-reaches
-    by-case x y (Refused r) e = first-reaches
+    by-case : (x y : Float) (d : Result Seed Unrefined) → seed_alone img.width img.height cfg.radius x y ≡ d → Reaches (first_for img.pitch cfg.radius d)
+    by-case x y (Ok seed) e = last-place img cfg.radius seed.centre_x seed.centre_y (good-within img cfg x y seed (sym (alone img cfg x y ready) ∙ e))
+    by-case x y (Err r) e = first-reaches
 
     reaches : (i r : ℕ) → Begins img.width img.height img.pitch cfg.radius corners i r → Reaches r
     reaches i r b = by (ltb i (length corners / 3)) refl

@@ -17,7 +17,7 @@ use Rattle.corners.proofs.CornerLaws.{recorded-parts}
 use Rattle.imageview.specs.Image.{Image}
 use Rattle.refine_formulas.specs.declared.SaddlePointConfig.{SaddlePointConfig}
 use Rattle.refine_seed.specs.declared.Spot.{Spot}
-use Rattle.refine_seed.specs.declared.Spot.TheVariants.{At, Nowhere}
+use Rattle.std.specs.Prelude.{Option, Some, None}
 use Rattle.refine_seed.specs.Refine.{refine_lent, refine_of}
 use Rattle.refine_seed.specs.Spot.{spot_of}
 use Rattle.refine_seed.specs.StepsSpot.{Lands}
@@ -34,19 +34,19 @@ written_at l w c h =
     ∙ ap (λ (t : List Float). take w l ++ (flat (c ∷ []) ++ t)) (drop-drop 3 w l)
 
 -- what a spot writes
-abbrev Puts : List Float → ℕ → Spot → Float → ℕ → List Float → Type 0
+abbrev Puts : List Float → ℕ → Option Spot → Float → ℕ → List Float → Type 0
 Puts l w p s n l' = (n ≡ w + length (record_of p s)) × (l' ≡ take w l ++ (record_of p s ++ drop (w + length (record_of p s)) l))
 
-pub puts : (l : List Float) (w : ℕ) (p : Spot) (x y s : Float) (part : List Float) → p ≡ At x y → w + 3 ≤ length l → part ≡ recorded (mid_of w (length l - w) l) 0 (corner x y s) → Puts l w p s (w + 3) (put_mid w (length l - w) l part)
-puts l w p x y s part e h f =
-    subst (λ (q : Spot). Puts l w q s (w + 3) (put_mid w (length l - w) l part)) (sym e) (refl, ap (put_mid w (length l - w) l) f ∙ written_at l w (corner x y s) h)
+pub puts : (l : List Float) (w : ℕ) (p : Option Spot) (v : Spot) (s : Float) (part : List Float) → p ≡ Some v → w + 3 ≤ length l → part ≡ recorded (mid_of w (length l - w) l) 0 (corner v.x v.y s) → Puts l w p s (w + 3) (put_mid w (length l - w) l part)
+puts l w p v s part e h f =
+    subst (λ (q : Option Spot). Puts l w q s (w + 3) (put_mid w (length l - w) l part)) (sym e) (refl, ap (put_mid w (length l - w) l) f ∙ written_at l w (corner v.x v.y s) h)
 
-pub puts_none : (l : List Float) (w : ℕ) (p : Spot) (s : Float) → p ≡ Nowhere → Puts l w p s w l
-puts_none l w p s e = subst (λ (q : Spot). Puts l w q s w l) (sym e) (sym (add-zero w), sym (ap (λ (k : ℕ). take w l ++ drop k l) (add-zero w) ∙ take-append-drop w l))
+pub puts_none : (l : List Float) (w : ℕ) (p : Option Spot) (s : Float) → p ≡ None → Puts l w p s w l
+puts_none l w p s e = subst (λ (q : Option Spot). Puts l w q s w l) (sym e) (sym (add-zero w), sym (ap (λ (k : ℕ). take w l ++ drop k l) (add-zero w) ∙ take-append-drop w l))
 
-record-most : (p : Spot) (s : Float) → length (record_of p s) ≤ 3
-record-most (At x y) s = omega arith
-record-most Nowhere s = omega arith
+record-most : (p : Option Spot) (s : Float) → length (record_of p s) ≤ 3
+record-most (Some v) s = omega arith
+record-most None s = omega arith
 
 -- ---- a list of anything that stands in the front of another
 -- so many more behind it
@@ -68,16 +68,16 @@ front_long l out now e h =
     whole a b h = omega arith
 
 -- ---- the loop
-module _ (spots : ℕ → Spot) (corners out : List Float) where
+module _ (spots : ℕ → Option Spot) (corners out : List Float) where
   pub begins : Going spots corners out 0 0 out
   unfolding records_by
   begins = record { count = refl; leaves = refl; most = omega arith }
 
-  longer : (i : ℕ) (p : Spot) → p ≡ spots i → records_by spots corners i ++ record_of p (entry corners (3 * i + 2)) ≡ records_by spots corners (i + 1)
+  longer : (i : ℕ) (p : Option Spot) → p ≡ spots i → records_by spots corners i ++ record_of p (entry corners (3 * i + 2)) ≡ records_by spots corners (i + 1)
   unfolding records_by
-  longer i p e = ap (λ (q : Spot). records_by spots corners i ++ record_of q (entry corners (3 * i + 2))) e ∙ ap (records_by spots corners) (sym (add-one i))
+  longer i p e = ap (λ (q : Option Spot). records_by spots corners i ++ record_of q (entry corners (3 * i + 2))) e ∙ ap (records_by spots corners) (sym (add-one i))
 
-  module _ (i w : ℕ) (now : List Float) (g : Going spots corners out i w now) (p : Spot) (e : p ≡ spots i) where
+  module _ (i w : ℕ) (now : List Float) (g : Going spots corners out i w now) (p : Option Spot) (e : p ≡ spots i) where
     abbrev recs : List Float
     recs = records_by spots corners i
 
@@ -115,16 +115,16 @@ module _ (spots : ℕ → Spot) (corners out : List Float) where
   ends i w now g e = subst (λ (k : ℕ). Front (records_by spots corners k) out w now) e (record { count = g.count; leaves = g.leaves })
 
   -- ---- none accepted
-  none : ((i : ℕ) → spots i ≡ Nowhere) → (n : ℕ) → records_by spots corners n ≡ []
+  none : ((i : ℕ) → spots i ≡ None) → (n : ℕ) → records_by spots corners n ≡ []
   unfolding records_by
   none h zero = refl
-  none h (suc n) = ap (λ (p : Spot). records_by spots corners n ++ record_of p (entry corners (3 * n + 2))) (h n) ∙ append-nil (records_by spots corners n) ∙ none h n
+  none h (suc n) = ap (λ (p : Option Spot). records_by spots corners n ++ record_of p (entry corners (3 * n + 2))) (h n) ∙ append-nil (records_by spots corners n) ∙ none h n
 
-  pub empty : ((i : ℕ) → spots i ≡ Nowhere) → Front (records_by spots corners (length corners / 3)) out 0 out
+  pub empty : ((i : ℕ) → spots i ≡ None) → Front (records_by spots corners (length corners / 3)) out 0 out
   empty h = subst (λ (l : List Float). Front l out 0 out) (sym (none h (length corners / 3))) (record { count = refl; leaves = refl })
 
 -- ---- a seed with columns that are lent
-pub spot-lent : (img : Image) (cfg : SaddlePointConfig) (columns corners : List Float) (i : ℕ) (p : Spot) → Lands (λ overlap wanted. refine_lent img cfg (entry corners (3 * i)) (entry corners (3 * i + 1)) wanted columns overlap) p → p ≡ lent_for img cfg columns corners i
+pub spot-lent : (img : Image) (cfg : SaddlePointConfig) (columns corners : List Float) (i : ℕ) (p : Option Spot) → Lands (λ overlap wanted. refine_lent img cfg (entry corners (3 * i)) (entry corners (3 * i + 1)) wanted columns overlap) p → p ≡ lent_for img cfg columns corners i
 unfolding lent_for
 spot-lent img cfg columns corners i p l = l.is [] false
 
@@ -134,6 +134,6 @@ unfolding lent_for spot_for
 lent-is img cfg columns corners i u = ap spot_of (u.same img (entry corners (3 * i)) (entry corners (3 * i + 1)) false)
 
 -- ---- without an operator
-pub nowhere : (img : Image) (cfg : SaddlePointConfig) (corners : List Float) → ((x y : Float) → spot_of (refine_of img cfg x y false) ≡ Nowhere) → (i : ℕ) → spot_for img cfg corners i ≡ Nowhere
+pub nowhere : (img : Image) (cfg : SaddlePointConfig) (corners : List Float) → ((x y : Float) → spot_of (refine_of img cfg x y false) ≡ None) → (i : ℕ) → spot_for img cfg corners i ≡ None
 unfolding spot_for
 nowhere img cfg corners h i = h (entry corners (3 * i)) (entry corners (3 * i + 1))

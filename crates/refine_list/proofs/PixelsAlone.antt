@@ -14,6 +14,7 @@ use Rattle.imageview.specs.Same.{SamePixels, unpadded}
 use Rattle.imageview.proofs.SameLaws.{range-alike}
 use Rattle.imageview.proofs.Unpadded.{shows-unpadded}
 use Rattle.refine_formulas.specs.declared.SaddlePointConfig.{SaddlePointConfig}
+use Rattle.std.specs.Prelude.{Option}
 use Rattle.refine_seed.specs.declared.Spot.{Spot}
 use Rattle.refine_seed.specs.Refine.{good_limits}
 use Rattle.refine_seed.specs.Spot.{spot_of}
@@ -31,7 +32,7 @@ module _ (a b : Image) (s : SamePixels a b) (cfg : SaddlePointConfig) (corners :
   records-same zero = refl
   records-same (suc n) =
       ap (λ (l : List Float). l ++ record_of (spot_for a cfg corners n) (entry corners (3 * n + 2))) (records-same n)
-      ∙ ap (λ (v : Spot). records_of b cfg corners n ++ record_of v (entry corners (3 * n + 2))) (spot-same n)
+      ∙ ap (λ (v : Option Spot). records_of b cfg corners n ++ record_of v (entry corners (3 * n + 2))) (spot-same n)
 
   way_same : (room : ℕ) → way_of a cfg corners room ≡ way_of b cfg corners room
   unfolding way_of

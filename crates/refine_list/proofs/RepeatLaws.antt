@@ -15,8 +15,8 @@ use Rattle.shapes.specs.Numbers.{entry}
 use Rattle.shapes.proofs.ListLaws.{length-tabulated, get_d-tabulated, tabulated-by, tabulated-cong}
 use Rattle.refine_operator.specs.Basis.{samples}
 use Rattle.refine_operator.specs.Call.{Way, refused, none, built, way_of, columns_after, overlap_after, ColumnsDone}
-use Rattle.refine_operator.specs.declared.Operator.{Operator}
-use Rattle.refine_operator.specs.declared.Operator.TheVariants.{Built}
+use Rattle.std.specs.Prelude.{Result, Ok}
+use Rattle.refine_operator.specs.declared.OperatorError.{OperatorError}
 use Rattle.refine_operator.proofs.CallLaws.{with-overlap, built-length}
 use Rattle.refine_formulas.specs.declared.SaddlePointConfig.{SaddlePointConfig}
 use Rattle.refine_patch.specs.StepsFrom.{Repeats}
@@ -130,7 +130,7 @@ numbers-few (suc (suc zero)) h = omega arith
 numbers-few (suc (suc (suc r))) h = absurd (let z : ⊥ = omega arith in z)
 
 -- a list is as long with its columns as before
-pub long_after : (radius : ℕ) (old columns : List Float) (r : Operator) → radius < 3 → length old ≡ 1125 → ColumnsDone radius old r columns → length columns ≡ 1125
+pub long_after : (radius : ℕ) (old columns : List Float) (r : Result Unit OperatorError) → radius < 3 → length old ≡ 1125 → ColumnsDone radius old r columns → length columns ≡ 1125
 long_after radius old columns r h long done = by (way_of radius) refl done.leaves
   where
     whole : (n front behind count : ℕ) → n ≤ 125 → front ≡ n → behind ≡ count - n → count ≡ 1125 → front + behind ≡ 1125
@@ -162,21 +162,21 @@ module _ (radius : ℕ) (old columns : List Float) (h : radius ≤ 2) (long : le
       before i n h p = omega arith
 
   -- what is behind the operator's numbers may have been there before
-  still-done : (r : Operator) → ColumnsDone radius old r columns → ColumnsDone radius (repeated columns) r (repeated columns)
+  still-done : (r : Result Unit OperatorError) → ColumnsDone radius old r columns → ColumnsDone radius (repeated columns) r (repeated columns)
   still-done r done = record { answers = done.answers; leaves = still_after (way_of radius) refl done.leaves }
 
 -- ---- as they are built
-pub usable : (cfg : SaddlePointConfig) (columns : List Float) (r : Operator) → Building cfg.radius r columns → r ≡ Built → Usable cfg columns
+pub usable : (cfg : SaddlePointConfig) (columns : List Float) (r : Result Unit OperatorError) → Building cfg.radius r columns → r ≡ Ok tt → Usable cfg columns
 usable cfg columns r b e =
     record {
       overlap = overlap_after [] (way_of cfg.radius);
       same = λ img x y wanted. lent-is-built img cfg x y wanted b.before [] columns (overlap_after [] (way_of cfg.radius)) r (with-overlap cfg.radius b.before [] columns r b.done) e;
     }
 
-pub built-once : (radius : ℕ) (old columns : List Float) (r : Operator) → ColumnsDone radius old r columns → 3 ≤ radius → Building radius r columns
+pub built-once : (radius : ℕ) (old columns : List Float) (r : Result Unit OperatorError) → ColumnsDone radius old r columns → 3 ≤ radius → Building radius r columns
 built-once radius old columns r done h = record { before = old; done = done; repeats = subst (λ (b : Bool). Repeats b radius columns) (sym (le-ltb radius 3 h)) (once radius columns) }
 
-pub built-repeated : (radius : ℕ) (old columns now : List Float) (r : Operator) → length old ≡ 1125 → ColumnsDone radius old r columns → radius < 3 → now ≡ repeated columns → Building radius r now
+pub built-repeated : (radius : ℕ) (old columns now : List Float) (r : Result Unit OperatorError) → length old ≡ 1125 → ColumnsDone radius old r columns → radius < 3 → now ≡ repeated columns → Building radius r now
 built-repeated radius old columns now r long done h q =
     subst (Building radius r) (sym q)
     (record {

@@ -1,6 +1,6 @@
 -- Refining a list of corners, x, y and strength of each: the tests of docs/RULES.md in their order (`way_of`), what each way answers and leaves in the lent
 -- output. No refusal writes; elements past the last record stay.
-use Rattle.std.specs.Prelude.{◌≡◌, false, not, cond, List, [], ◌∷◌, ◌++◌, ℕ, zero, suc, ◌+◌, ◌*◌, ◌/◌, leb, ltb, length, drop, Float, Result, Ok, Err}
+use Rattle.std.specs.Prelude.{◌≡◌, false, not, cond, List, [], ◌∷◌, ◌++◌, ℕ, zero, suc, ◌+◌, ◌*◌, ◌/◌, leb, ltb, length, drop, Float, Result, Ok, Err, Option, Some, None}
 use Rattle.shapes.specs.Numbers.{entry}
 use Rattle.corners.specs.Corners.{whole, too_many}
 use Rattle.refusals.specs.declared.Refusal.{Refusal}
@@ -9,7 +9,6 @@ use Rattle.refusals.specs.Numbers as Refusals
 use Rattle.imageview.specs.Image.{Image, is_image, in_range}
 use Rattle.refine_formulas.specs.declared.SaddlePointConfig.{SaddlePointConfig}
 use Rattle.refine_seed.specs.declared.Spot.{Spot}
-use Rattle.refine_seed.specs.declared.Spot.TheVariants.{At, Nowhere}
 use Rattle.refine_seed.specs.Refine.{good_limits, refine_of, refine_lent}
 use Rattle.refine_seed.specs.Spot.{spot_of}
 
@@ -19,22 +18,22 @@ number_of (Ok n) = 0
 number_of (Err r) = Refusals.number_of r
 
 -- what is written of a seed: where it was refined to and its own strength, if it was accepted
-abbrev pub record_of : Spot → Float → List Float
-record_of (At x y) strength = x ∷ y ∷ strength ∷ []
-record_of Nowhere strength = []
+abbrev pub record_of : Option Spot → Float → List Float
+record_of (Some spot) strength = spot.x ∷ spot.y ∷ strength ∷ []
+record_of None strength = []
 
 -- where the seed number i is refined to
-unfoldable pub spot_for : Image → SaddlePointConfig → List Float → ℕ → Spot
+unfoldable pub spot_for : Image → SaddlePointConfig → List Float → ℕ → Option Spot
 unfolding refine_of
 spot_for img cfg corners i = spot_of (refine_of img cfg (entry corners (3 * i)) (entry corners (3 * i + 1)) false)
 
 -- and with columns that are lent, whatever they hold; no covariance is wanted, so no overlap is asked for
-unfoldable pub lent_for : Image → SaddlePointConfig → List Float → List Float → ℕ → Spot
+unfoldable pub lent_for : Image → SaddlePointConfig → List Float → List Float → ℕ → Option Spot
 unfolding refine_lent
 lent_for img cfg columns corners i = spot_of (refine_lent img cfg (entry corners (3 * i)) (entry corners (3 * i + 1)) false columns [])
 
 -- the records of the first n seeds, in input order, where seed i is refined to `spots i`
-unfoldable pub records_by : (ℕ → Spot) → List Float → ℕ → List Float
+unfoldable pub records_by : (ℕ → Option Spot) → List Float → ℕ → List Float
 records_by spots corners zero = []
 records_by spots corners (suc n) = records_by spots corners n ++ record_of (spots n) (entry corners (3 * n + 2))
 

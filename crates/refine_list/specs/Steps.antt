@@ -1,10 +1,10 @@
 -- What the list's inner functions do: records written to the front of the output, and the first fits of four seeds at once.
-use Rattle.std.specs.Prelude.{◌≡◌, Bool, ◌&&◌, cond, List, ◌++◌, ℕ, ◌+◌, ◌-◌, ◌*◌, ◌/◌, ◌≤◌, ◌<◌, leb, ltb, length, drop, Float}
+use Rattle.std.specs.Prelude.{◌≡◌, Bool, ◌&&◌, cond, List, ◌++◌, ℕ, ◌+◌, ◌-◌, ◌*◌, ◌/◌, ◌≤◌, ◌<◌, leb, ltb, length, drop, Float, Result, Option}
 use Rattle.shapes.specs.Lists.{tabulated}
 use Rattle.shapes.specs.Numbers.{entry}
 use Rattle.imageview.specs.Image.{Image}
 use Rattle.refine_operator.specs.Call.{ColumnsDone}
-use Rattle.refine_operator.specs.declared.Operator.{Operator}
+use Rattle.refine_operator.specs.declared.OperatorError.{OperatorError}
 use Rattle.refine_patch.specs.StepsFrom.{Repeats}
 use Rattle.refine_formulas.specs.declared.SaddlePointConfig.{SaddlePointConfig}
 use Rattle.refine_fits.specs.StepsBases.{coefs_in}
@@ -23,7 +23,7 @@ abbrev pub AllWritten : Image → SaddlePointConfig → List Float → List Floa
 AllWritten img cfg corners = Front (records_of img cfg corners (length corners / 3))
 
 -- after i seeds, each refined to its spot, with w numbers written
-pub record Going (spots : ℕ → Spot) (corners out : List Float) (i w : ℕ) (now : List Float) : Type 0 where
+pub record Going (spots : ℕ → Option Spot) (corners out : List Float) (i w : ℕ) (now : List Float) : Type 0 where
   pub count : w ≡ length (records_by spots corners i)
   pub leaves : now ≡ records_by spots corners i ++ drop (length (records_by spots corners i)) out
   pub most : length (records_by spots corners i) ≤ 3 * i
@@ -63,7 +63,7 @@ pub record Begins (width height pitch radius : ℕ) (corners : List Float) (i r 
   pub else : length corners / 3 ≤ i → r ≡ 0
 
 -- columns that were built for a radius, or not: those of its operator over some list, and below radius 3 each number once more
-pub record Building (radius : ℕ) (r : Operator) (columns : List Float) : Type 0 where
+pub record Building (radius : ℕ) (r : Result Unit OperatorError) (columns : List Float) : Type 0 where
   pub before : List Float
   pub done : ColumnsDone radius before r columns
   pub repeats : Repeats (ltb radius 3) radius columns

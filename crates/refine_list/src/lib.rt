@@ -5,31 +5,24 @@ pub mod list;
 pub mod seeds;
 
 ghost use Rattle.std.specs.Prelude.{◌≡◌};
-ghost use Rattle.imageview.specs.Image.{image_of};
+ghost use Rattle.imageview.specs.View.{shown};
 ghost use Rattle.refine_list.specs.Refining.{Done};
 
-use imageview::Sizes;
+use imageview::{Image, ImageView, Sample};
 use refine_formulas::SaddlePointConfig;
 use refusals::Refusal;
 
-#[tactic(auto, unfolding(crate::specs::Refining::way_of))]
 // Refines the corners, x, y and strength of each, and writes those that are accepted, in input order with their own strength.
-pub fn refine_corners_on_image(
-    bytes: &[u8],
-    words: &[u16],
-    sizes: Sizes,
+#[tactic(auto, unfolding(crate::specs::Refining::way_of))]
+pub fn refine_corners_on_image<S: Sample>(
+    view: ImageView<S>,
     cfg: SaddlePointConfig,
     corners: &[f32],
     out: &mut [f32],
 ) -> Result<usize, Refusal>
-    ensures { Done (image_of bytes.now words.now sizes) cfg corners.now out.old result out.new }
+    ensures { Done (shown S.levels S.deep view.entry) cfg corners.now out.old result out.new }
 {
-    if !imageview::is_image(bytes, words, sizes) {
-        return Err(Refusal::BadImage);
-    }
-    if !imageview::in_range(bytes, words, sizes) {
-        return Err(Refusal::BadSample);
-    }
+    let image = Image::new(view)?;
     if 7 < cfg.radius {
         return Err(Refusal::BadRadius);
     }
@@ -46,5 +39,5 @@ pub fn refine_corners_on_image(
     if out.len() < len {
         return Err(Refusal::BadOut);
     }
-    Ok(list::refine_list(bytes, words, sizes, cfg, corners, out) / 3)
+    Ok(list::refine_list(&image, cfg, corners, out) / 3)
 }

@@ -3,11 +3,21 @@
 ghost use Rattle.std.specs.Prelude.{◌≡◌, ◌+◌, ◌≤◌, ◌<◌, length};
 ghost use Rattle.shapes.specs.Numbers.{plus_zero};
 ghost use Rattle.pixel_response.specs.Samples.{value_of};
-ghost use Rattle.pixel_response.specs.Steps.{listed, cross_of, AddedQuarter, Spare, Abreast, Wrote};
+ghost use Rattle.pixel_response.specs.Steps.{listed, edges_of, cross_of, Bounded, AddedQuarter, Spare, Abreast, Wrote};
 ghost use Rattle.response.specs.StepsStarts.{Low, Below, Reach, Part, SampledQuarter, SampledCross, value_at};
 
 use imageview::Sample;
 use pixel_response::pixel;
+
+// The edges of a quarter at element i. Bytes are taken apart in eight bits, so that more of them go at a time.
+fn edges_at<S: Sample>(a: &[S], b: &[S], c: &[S], d: &[S], i: usize) -> u16
+    requires abreast { Abreast a.now b.now c.now d.now }
+    requires low { Low (S.levels a.now) × Low (S.levels b.now) × Low (S.levels c.now) × Low (S.levels d.now) }
+    requires within { i < length a.now }
+    ensures { Bounded (edges_of (listed (S.levels a.now) i) (listed (S.levels b.now) i) (listed (S.levels c.now) i) (listed (S.levels d.now) i)) 8190 result }
+{
+    S::apart_at(a, c, i) + S::apart_at(b, d, i)
+}
 
 // Adds one quarter of the ring, its square, its edges and its sum.
 fn add_quarter<S: Sample>(
@@ -33,7 +43,7 @@ fn add_quarter<S: Sample>(
         let y = edge[i];
         let z = sum[i];
         square[i] = x + pixel::square_of(p, q, r, s);
-        edge[i] = y + pixel::edges_of(p, q, r, s);
+        edge[i] = y + edges_at(a, b, c, d, i);
         sum[i] = z + pixel::sum_of(p, q, r, s);
     }
 }

@@ -1,44 +1,48 @@
 -- `refine_fallback::refine_corners_with_columns` meets its contract: by what the tests say, refused or walked with columns that are lent.
-use Rattle.std.proofs.Common.{refl, sym, ◌∙◌, length}
+use Rattle.std.proofs.Common.{sym, ◌∙◌, subst, length}
+use Rattle.std.specs.Prelude.{Ok}
 use Rattle.std.proofs.lemmas.Result.{err_from_is_err_and}
-use Rattle.imageview.specs.Image.{image_of}
-use Rattle.refine_patch.proofs.PatchLaws.{once}
+use Rattle.imageview.specs.Image.{Image}
+use Rattle.imageview.specs.View.{shown}
+use Rattle.imageview.specs.Steps.{IsTested}
 use Rattle.refine_list.specs.Refining.{lent_for}
-use Rattle.refine_fallback.proofs.TestLaws.{first-ready, second-ready, has_room, refuses, refines}
+use Rattle.refine_fallback.specs.Call.{way_lent, Done}
+use Rattle.refine_fallback.proofs.TestLaws.{second-ready, has_room, refuses-image, refuses, refines}
 use Rattle.refine_fallback.proofs.refine_corners_with_columns.Goals as goal
 
-pub returns-in_err-test : goal.returns-in_err-test
-returns-in_err-test c =
+pub returns-in_err-image : goal.returns-in_err-image
+returns-in_err-image g c =
     let a = c.args in
-    let img = image_of a.bytes.now a.words.now a.sizes in
+    let img = shown g.S.Sample.levels g.S.Sample.deep a.view in
     let p = err_from_is_err_and c.from_residual.result c.from_residual.ensures.1 in
-    rw (p.1, p.2) (refuses (lent_for img a.first a.first_columns.now a.corners.now) (lent_for img a.second a.second_columns.now a.corners.now) img a.first a.second a.corners.now a.out.now a.passes.now c.in_err-test.field-0.0 (sym c.test.ensures ∙ c.in_err-test.was))
+    rw (p.1, p.2) (refuses-image (lent_for img a.first a.first_columns.now a.corners.now) (lent_for img a.second a.second_columns.now a.corners.now) img a.first a.second a.corners.now a.out.now a.passes.now _ c.in_err-image.ensures.refused)
 
-pub invariant_of-first : goal.invariant_of-first
-invariant_of-first c =
+pub returns-in_err-test : goal.returns-in_err-test
+returns-in_err-test g c =
     let a = c.args in
-    record {
-      ready = first-ready (image_of a.bytes.now a.words.now a.sizes) a.first a.second (length a.corners.now) (length a.out.now) (length a.passes.now) (sym c.test.ensures ∙ c.in_ok-test.was);
-      repeats = once a.first.radius a.first_columns.now;
-    }
+    let t = c.in_ok-image.ensures in
+    let r = c.from_residual-in_err-test in
+    let img = shown g.S.Sample.levels g.S.Sample.deep a.view in
+    let p = err_from_is_err_and r.result r.ensures.1 in
+    rw (p.1, p.2)
+    (refuses (lent_for img a.first a.first_columns.now a.corners.now) (lent_for img a.second a.second_columns.now a.corners.now) img a.first a.second a.corners.now a.out.now a.passes.now (subst IsTested t.image t.tested) c.in_err-test.field-0.0 (sym c.test.ensures ∙ c.in_err-test.was))
 
-pub invariant_of-second : goal.invariant_of-second
-invariant_of-second c =
-    let a = c.args in
-    record {
-      ready = second-ready (image_of a.bytes.now a.words.now a.sizes) a.first a.second (length a.corners.now) (length a.out.now) (length a.passes.now) (sym c.test.ensures ∙ c.in_ok-test.was);
-      repeats = once a.second.radius a.second_columns.now;
-    }
+pub refine_both-requires-clause-room : goal.refine_both-requires-clause-room
+refine_both-requires-clause-room g c = let a = c.args in (has_room a.first a.second (length a.corners.now) (length a.out.now) (length a.passes.now) (sym c.test.ensures ∙ c.in_ok-test.was)).0
 
-pub refine_both-requires : goal.refine_both-requires
-refine_both-requires c =
+pub refine_both-requires-clause-bytes : goal.refine_both-requires-clause-bytes
+refine_both-requires-clause-bytes g c = let a = c.args in (has_room a.first a.second (length a.corners.now) (length a.out.now) (length a.passes.now) (sym c.test.ensures ∙ c.in_ok-test.was)).1
+
+pub refine_both-requires-clause-second_ready : goal.refine_both-requires-clause-second_ready
+refine_both-requires-clause-second_ready g c =
     let a = c.args in
-    let room = has_room (image_of a.bytes.now a.words.now a.sizes) a.first a.second (length a.corners.now) (length a.out.now) (length a.passes.now) (sym c.test.ensures ∙ c.in_ok-test.was) in
-    record { same_list = refl; room = room.0; bytes = room.1 }
+    second-ready a.first a.second (length a.corners.now) (length a.out.now) (length a.passes.now) (sym c.test.ensures ∙ c.in_ok-test.was) c.in_ok-image.ensures.tested
 
 pub returns : goal.returns
-returns c =
+returns g c =
     let a = c.args in
-    let img = image_of a.bytes.now a.words.now a.sizes in
+    let t = c.in_ok-image.ensures in
+    let img : Image = c.in_ok-image.image in
     let w = c.refine_both in
-    refines (lent_for img a.first a.first_columns.now a.corners.now) (lent_for img a.second a.second_columns.now a.corners.now) img a.first a.second a.corners.now a.out.now a.passes.now (sym c.test.ensures ∙ c.in_ok-test.was) w.result _ _ w.ensures
+    subst (λ (z : Image). Done (way_lent z a.first a.second a.first_columns.now a.second_columns.now a.corners.now (length a.out.now) (length a.passes.now)) a.out.now a.passes.now (Ok w.result) w.new.out w.new.passes) t.image
+    (refines (lent_for img a.first a.first_columns.now a.corners.now) (lent_for img a.second a.second_columns.now a.corners.now) img a.first a.second a.corners.now a.out.now a.passes.now t.tested (sym c.test.ensures ∙ c.in_ok-test.was) w.result _ _ w.ensures)

@@ -1,6 +1,6 @@
 -- `response::row::add_quarter` meets its contract. After i turns the first i pixels have it.
 use Rattle.std.proofs.Common.{◌≡◌, ℕ, ◌<◌, length, sym, refl, ◌∙◌, subst, arith}
-use Rattle.pixel_response.specs.Steps.{listed, Levels, square_of, edges_of, sum_of, Bounded, AddedQuarter}
+use Rattle.pixel_response.specs.Steps.{listed, Levels, square_of, sum_of, Bounded, AddedQuarter}
 use Rattle.response.proofs.PassLaws.{quarter-none, quarter-more}
 use Rattle.response.proofs.RowLaws.{levels-low, same-four}
 use Rattle.response.proofs.row.add_quarter.Goals as goal
@@ -22,16 +22,8 @@ square_of-requires g c =
 pub overflow_add-square : goal.overflow_add-square
 overflow_add-square g c = omega (arith, c.loop-i.invariant.squares.past c.loop-i.i (omega arith), c.requires.spare.squares.most c.loop-i.i (omega arith), c.square_of.ensures.most)
 
-pub edges_of-requires : goal.edges_of-requires
-edges_of-requires g c =
-    let a = c.args in
-    let count = g.met.S.Sample.length_levels in
-    let h = c.requires.abreast in
-    let low = levels-low _ _ _ _ (length a.a.now) c.loop-i.i c.requires.low (count a.a.now) (count a.b.now ∙ h.second) (count a.c.now ∙ h.third) (count a.d.now ∙ h.fourth) (omega arith) in
-    record { first = omega (arith, low.first); second = omega (arith, low.second); third = omega (arith, low.third); fourth = omega (arith, low.fourth) }
-
 pub overflow_add-edge : goal.overflow_add-edge
-overflow_add-edge g c = omega (arith, c.loop-i.invariant.edges.past c.loop-i.i (omega arith), c.requires.spare.edges.most c.loop-i.i (omega arith), c.edges_of.ensures.most)
+overflow_add-edge g c = omega (arith, c.loop-i.invariant.edges.past c.loop-i.i (omega arith), c.requires.spare.edges.most c.loop-i.i (omega arith), c.edges_at.ensures.most)
 
 pub sum_of-requires : goal.sum_of-requires
 sum_of-requires g c =
@@ -50,9 +42,9 @@ loop-i-preserved g c =
     let i = c.loop-i.i in
     let levels = g.S.Sample.levels in
     quarter-more 4096 i (listed (levels a.a.now)) (listed (levels a.b.now)) (listed (levels a.c.now)) (listed (levels a.d.now)) a.square.now a.edge.now a.sum.now c.loop-i.square c.loop-i.edge c.loop-i.sum
-        c.square_of.result c.edges_of.result c.sum_of.result (omega arith) (omega arith) (omega arith) c.loop-i.invariant
+        c.square_of.result c.edges_at.result c.sum_of.result (omega arith) (omega arith) (omega arith) c.loop-i.invariant
         (same-four 8190 square_of _ _ _ _ _ _ _ _ _ c.level_at-p.ensures c.level_at-q.ensures c.level_at-r.ensures c.level_at-s.ensures c.square_of.ensures)
-        (same-four 8190 edges_of _ _ _ _ _ _ _ _ _ c.level_at-p.ensures c.level_at-q.ensures c.level_at-r.ensures c.level_at-s.ensures c.edges_of.ensures)
+        c.edges_at.ensures
         (same-four 16380 sum_of _ _ _ _ _ _ _ _ _ c.level_at-p.ensures c.level_at-q.ensures c.level_at-r.ensures c.level_at-s.ensures c.sum_of.ensures)
 
 pub returns : goal.returns
