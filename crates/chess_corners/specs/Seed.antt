@@ -1,13 +1,11 @@
--- The exported refiner of one seed. Numbers 0 to 3 write x, y and score, the values of the case; 0 also writes whether it converged, the tries and
+-- The exported refiner of one seed. Numbers 0 to 7 write x, y and score, the values of the case; 0 also writes whether it converged, the tries and
 -- whether there is a covariance, and that where there is one. A number from 10 up writes nothing. And the operator, which is built once for many seeds.
-use Rattle.std.specs.Prelude.{◌≡◌, Bool, not, cond, List, [], ◌∷◌, ℕ, eqb, Float}
+use Rattle.std.specs.Prelude.{◌≡◌, Bool, not, cond, List, [], ◌∷◌, ℕ, eqb, Float, Option, None, Some, Ok, Err}
 use Rattle.refine_operator.specs.Call as Operator
 use Rattle.refine_formulas.specs.declared.SaddlePointConfig.{SaddlePointConfig}
 use Rattle.refine_formulas.specs.declared.Covariance.{Covariance}
-use Rattle.refine_formulas.specs.declared.Covariance.TheVariants.{Known, Unknown}
-use Rattle.refine_seed.specs.declared.Refined.{Refined}
-use Rattle.refine_seed.specs.declared.Refined.TheVariants.{Accepted, Unmoved, Refused}
-use Rattle.refine_seed.specs.Refine.{number_of, Values, nothing, values, values_of}
+use Rattle.refine_seed.specs.declared.Estimate.{Estimate}
+use Rattle.refine_seed.specs.Refine.{Refined, number_of, Values, nothing, values, values_of}
 
 abbrev pub settings : ℕ → Float → Float → Float → SaddlePointConfig
 settings radius margin offset least = record { radius = radius; det_margin = margin; max_offset = offset; min_abs_det = least }
@@ -24,25 +22,26 @@ abbrev pub place_after : List Float → Values → List Float
 place_after old nothing = old
 place_after old (values x y score) = x ∷ y ∷ score ∷ []
 
-abbrev pub given : Covariance → ℕ
-given (Known xx xy yy) = 1
-given Unknown = 0
+abbrev pub given : Option Covariance → ℕ
+given (Some v) = 1
+given None = 0
 
 -- converged, tries, whether there is a covariance
+abbrev pub state_of : Estimate → List ℕ
+state_of e = flag e.converged ∷ e.tries ∷ given e.covariance ∷ []
+
 abbrev pub state_after : List ℕ → Refined → List ℕ
-state_after old (Accepted e) = flag e.converged ∷ e.tries ∷ given e.covariance ∷ []
-state_after old (Unmoved why score) = old
-state_after old (Refused r) = old
+state_after old (Ok e) = state_of e
+state_after old (Err u) = old
 
 -- xx, xy and yy, where there is one
-abbrev pub entries_after : List Float → Covariance → List Float
-entries_after old (Known xx xy yy) = xx ∷ xy ∷ yy ∷ []
-entries_after old Unknown = old
+abbrev pub entries_after : List Float → Option Covariance → List Float
+entries_after old (Some v) = v.xx ∷ v.xy ∷ v.yy ∷ []
+entries_after old None = old
 
 abbrev pub covariance_after : List Float → Refined → List Float
-covariance_after old (Accepted e) = entries_after old e.covariance
-covariance_after old (Unmoved why score) = old
-covariance_after old (Refused r) = old
+covariance_after old (Ok e) = entries_after old e.covariance
+covariance_after old (Err u) = old
 
 -- what is told of a seed's answer
 pub record Told (answer : Refined) (x y : Float) (place : List Float) (state : List ℕ) (covariance : List Float) (number : ℕ) (place' : List Float) (state' : List ℕ) (covariance' : List Float) : Type 0 where

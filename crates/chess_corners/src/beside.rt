@@ -3,12 +3,12 @@ ghost use Rattle.coverage.specs.Call.{fresh_way, add_way, replace_way, drop_way}
 ghost use Rattle.gradient.specs.Call.{asked_of};
 ghost use Rattle.chess_corners.specs.Face.{Salvaging, Covering, Grading};
 
+use crate::told;
 use corners::Corner;
-use gradient::{Gradient, Scale};
+use gradient::Scale;
 
-// The records of a corner file that can be used, as they are, and the fault of each other one; 0, 10, 16 or 15.
-#[unsafe(no_mangle)]
-pub extern "C" fn chess_corners_salvage(
+/// The records of a corner file that can be used, as they are, and the fault of each other one; 0, 10, 16 or 15.
+pub fn chess_corners_salvage(
     file: &[u8],
     width: usize,
     height: usize,
@@ -19,20 +19,18 @@ pub extern "C" fn chess_corners_salvage(
 ) -> u32
     ensures { Salvaging width height file.now out.old faults.old kept.old dropped.old result out.new faults.new kept.new dropped.new }
 {
-    let answer = salvage::salvage_corners(file, width, height, out, faults);
-    match answer {
+    match salvage::salvage_corners(file, width, height, out, faults) {
         Ok(saved) => {
             *kept = saved.kept;
             *dropped = saved.dropped;
             0
         }
-        Err(refusal) => u32::from(refusal),
+        Err(refusal) => refusal.into(),
     }
 }
 
-// How many of the first `count` corners lie in each tile, afresh; 0, 10 or 16.
-#[unsafe(no_mangle)]
-pub extern "C" fn chess_corners_coverage(
+/// How many of the first `count` corners lie in each tile, afresh; 0, 10 or 16.
+pub fn chess_corners_coverage(
     width: usize,
     height: usize,
     list: &[f32; 12288],
@@ -41,16 +39,11 @@ pub extern "C" fn chess_corners_coverage(
 ) -> u32
     ensures { Covering (fresh_way width height list.now count) list.now counts.old count result list.now counts.new count }
 {
-    let answer = coverage::coverage_afresh(width, height, list, count, counts);
-    match answer {
-        Ok(_) => 0,
-        Err(refusal) => u32::from(refusal),
-    }
+    told::tell(coverage::coverage_afresh(width, height, list, count, counts).map(|_| ()))
 }
 
-// One corner more, at the end of the list; 0, 10 or 16.
-#[unsafe(no_mangle)]
-pub extern "C" fn chess_corners_coverage_add(
+/// One corner more, at the end of the list; 0, 10 or 16.
+pub fn chess_corners_coverage_add(
     width: usize,
     height: usize,
     list: &mut [f32; 12288],
@@ -64,18 +57,11 @@ pub extern "C" fn chess_corners_coverage_add(
 {
     let corner = Corner { x, y, strength };
     let answer = coverage::add_corner(width, height, list, *count, counts, corner);
-    match answer {
-        Ok(longer) => {
-            *count = longer;
-            0
-        }
-        Err(refusal) => u32::from(refusal),
-    }
+    told::tell_count(answer, count)
 }
 
-// The corner of this number is another one from now on; 0, 10, 16 or 35.
-#[unsafe(no_mangle)]
-pub extern "C" fn chess_corners_coverage_replace(
+/// The corner of this number is another one from now on; 0, 10, 16 or 35.
+pub fn chess_corners_coverage_replace(
     width: usize,
     height: usize,
     list: &mut [f32; 12288],
@@ -90,15 +76,11 @@ pub extern "C" fn chess_corners_coverage_replace(
 {
     let other = Corner { x, y, strength };
     let answer = coverage::replace_corner(width, height, list, count, counts, number, other);
-    match answer {
-        Ok(_) => 0,
-        Err(refusal) => u32::from(refusal),
-    }
+    told::tell(answer.map(|_| ()))
 }
 
-// The corner of this number is left out; the later ones move down by one; 0, 10, 16 or 35.
-#[unsafe(no_mangle)]
-pub extern "C" fn chess_corners_coverage_drop(
+/// The corner of this number is left out; the later ones move down by one; 0, 10, 16 or 35.
+pub fn chess_corners_coverage_drop(
     width: usize,
     height: usize,
     list: &mut [f32; 12288],
@@ -109,18 +91,11 @@ pub extern "C" fn chess_corners_coverage_drop(
     ensures { Covering (drop_way width height list.old count.old counts.old number) list.old counts.old count.old result list.new counts.new count.new }
 {
     let answer = coverage::drop_corner(width, height, list, *count, counts, number);
-    match answer {
-        Ok(left) => {
-            *count = left;
-            0
-        }
-        Err(refusal) => u32::from(refusal),
-    }
+    told::tell_count(answer, count)
 }
 
-// Adds two scales times the gradient of the response at the cell (x, y) of the tile to the grid; 0, 10, 13 or 15.
-#[unsafe(no_mangle)]
-pub extern "C" fn chess_corners_gradient(
+/// Adds two scales times the gradient of the response at the cell (x, y) of the tile to the grid; 0, 10, 13 or 15.
+pub fn chess_corners_gradient(
     tile: &[u8],
     side: usize,
     ring: &[i32; 32],
@@ -137,8 +112,5 @@ pub extern "C" fn chess_corners_gradient(
         y: scale_y,
     };
     let answer = gradient::add_gradient(tile, side, ring, x, y, scale, grid);
-    match answer {
-        Gradient::Added => 0,
-        Gradient::Refused(refusal) => u32::from(refusal),
-    }
+    told::tell(answer)
 }

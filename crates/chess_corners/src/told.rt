@@ -1,61 +1,28 @@
-// The number of an answer, and its further answers through references, for calls of either depth.
-ghost use Rattle.chess_corners.specs.Face.{Reading, Extent};
-ghost use Rattle.chess_corners.specs.Fallback.{Counted};
+// The number of an answer, and its further answers through references.
+ghost use Rattle.std.specs.Prelude.{◌≡◌};
+ghost use Rattle.chess_corners.specs.Told.{number_of, Counted};
 
-use graymap::{Graymap, Unread};
-use refine_list::Refinements;
-use response::Response;
+use refusals::Refusal;
 
-// The clamped width and height of a response that was written.
-pub fn tell_response(answer: Response, out_width: &mut usize, out_height: &mut usize) -> u32
-    ensures { Extent answer out_width.old out_height.old result out_width.new out_height.new }
+// A call that hands out nothing beside its number.
+pub fn tell(answer: Result<(), Refusal>) -> u32
+    ensures { result ≡ number_of answer }
 {
     match answer {
-        Response::Written { width, height } => {
-            *out_width = width;
-            *out_height = height;
-            0
-        }
-        Response::Refused(refusal) => u32::from(refusal),
+        Ok(()) => 0,
+        Err(refusal) => refusal.into(),
     }
 }
 
-// How many records were written.
-pub fn tell_count(answer: Refinements, count: &mut usize) -> u32
+// How many there are of what was asked for.
+pub fn tell_count(answer: Result<usize, Refusal>, count: &mut usize) -> u32
     ensures { Counted answer count.old result count.new }
 {
     match answer {
-        Refinements::Refined(accepted) => {
-            *count = accepted;
+        Ok(found) => {
+            *count = found;
             0
         }
-        Refinements::Refused(refusal) => u32::from(refusal),
-    }
-}
-
-// What was read of a graymap, or the pixel above its maximum.
-pub fn tell_graymap(
-    answer: Result<Graymap, Unread>,
-    width: &mut usize,
-    height: &mut usize,
-    maximum: &mut usize,
-    start: &mut usize,
-    pixel: &mut usize,
-) -> u32
-    ensures { Reading answer (record { width = width.old; height = height.old; maximum = maximum.old; start = start.old; pixel = pixel.old }) result (record { width = width.new; height = height.new; maximum = maximum.new; start = start.new; pixel = pixel.new }) }
-{
-    match answer {
-        Ok(graymap) => {
-            *width = graymap.width;
-            *height = graymap.height;
-            *maximum = graymap.maximum;
-            *start = graymap.start;
-            0
-        }
-        Err(Unread::Above(at)) => {
-            *pixel = at;
-            24
-        }
-        Err(Unread::Refused(refusal)) => u32::from(refusal),
+        Err(refusal) => refusal.into(),
     }
 }

@@ -1,10 +1,11 @@
 // What asks for the operator of a radius: the covariance of a place, and the fit on a patch.
-ghost use Rattle.std.specs.Prelude.{◌≡◌, ◌+◌, ◌*◌, ◌≤◌, ◌<◌, length};
+ghost use Rattle.std.specs.Prelude.{◌≡◌, ◌+◌, ◌*◌, ◌≤◌};
 
 use crate::{moving, numbers};
-use imageview::Sizes;
+use imageview::{Image, ImageView};
 use refine_fits::fits;
 use refine_formulas::{Jacobian, noise};
+use refine_patch::Columns;
 use replay::{Aim, Part, Spoilt, Trial};
 
 // The radius, the fractions, J and M; whether the covariance is finite, and its entries.
@@ -57,12 +58,11 @@ impl Trial for Fit {
         if (7 < radius) | (8192 < pitch) | (pitch <= 2 * radius) {
             return false;
         }
-        let n = bytes_of(radius, pitch);
-        if case.len() < 8 + n {
-            return false;
+        let patch = Part::of(case).behind(2).bytes(bytes_of(radius, pitch));
+        match fit_middle(patch, radius, pitch) {
+            Some(found) => numbers::are(coefficients(case), &found),
+            None => false,
         }
-        let found = fit(&case[8..8 + n], radius, pitch);
-        numbers::are(coefficients(case), &found)
     }
 }
 
@@ -85,21 +85,28 @@ fn bytes_of(radius: usize, pitch: usize) -> usize
     pitch * side
 }
 
-fn fit(patch: &[u8], radius: usize, pitch: usize) -> [f32; 5]
-    requires low_radius { radius ≤ 7 }
-    requires wide { (2 * radius < pitch) × (pitch ≤ 8192) }
-    requires whole { length patch.now ≡ pitch * (2 * radius + 1) }
+// The fit about the middle of a patch; none where its bytes are no image of that pitch.
+fn fit_middle(patch: &[u8], radius: usize, pitch: usize) -> Option<[f32; 5]>
+    requires { radius ≤ 7 }
 {
-    let mut columns = [0.0f32; 1125];
+    let mut numbers = [0.0f32; 1125];
     let mut overlap = [0.0f32; 225];
-    // There is an operator for each radius up to 7.
-    let _ = refine_operator::fit_operator(radius, &mut columns, &mut overlap);
+    // There is an operator for each radius from 1 to 7; where there is none the columns are zeros.
+    let _ = refine_operator::fit_operator(radius, &mut numbers, &mut overlap);
     let side = 2 * radius + 1;
-    let sizes = Sizes {
+    let view = ImageView {
+        data: patch,
         width: side,
         height: side,
         pitch,
-        deep: false,
     };
-    fits::fit_patch(patch, &[], sizes, radius, radius, radius, &columns)
+    let Ok(image) = Image::new(view) else {
+        return None;
+    };
+    let columns = Columns {
+        numbers: &numbers,
+        fourfold: false,
+        radius,
+    };
+    Some(fits::fit_patch(&image, radius, radius, &columns))
 }

@@ -1,6 +1,0 @@
--- `chess_corners::chess_corners_refine_list` meets its contract: what is told of the answer, and what the wrapped call leaves.
-use Rattle.chess_corners.proofs.FaceLaws.{refining}
-use Rattle.chess_corners.proofs.chess_corners_refine_list.Goals as goal
-
-pub returns : goal.returns
-returns c = refining c.refine_corners_on_image-answer.ensures c.tell_count.ensures
