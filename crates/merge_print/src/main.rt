@@ -2,6 +2,7 @@
 // Records are x, y and strength, little-endian binary32 bits, twelve bytes, no header. A read or a write that fails is told on standard error.
 #![tactic(auto)]
 
+use refusals::Refusal;
 use std::io::{ErrorKind, Read};
 use std::process::ExitCode;
 use std::{fmt, io};
@@ -26,14 +27,7 @@ impl fmt::Display for Failure {
 }
 
 fn main(rt: HostRuntime) -> ExitCode {
-    let mut bytes = [0u8; 49152];
-    let mut list = [0f32; 12288];
-    let mut heads = [0u16; 16384];
-    let mut links = [0u16; 4096];
-    let mut input = rt.reader();
-    match run(
-        &rt, &mut input, &mut bytes, &mut list, &mut heads, &mut links,
-    ) {
+    match run(&rt, &mut rt.reader()) {
         Ok(()) => ExitCode::SUCCESS,
         Err(failure) => {
             // Where that line cannot be written either, the status is all that is left to tell.
@@ -44,45 +38,16 @@ fn main(rt: HostRuntime) -> ExitCode {
 }
 
 // The whole file is read before anything is decided: a cut file is 19 also where it is too long.
-fn run<R: Read>(
-    rt: &impl Print,
-    input: &mut R,
-    bytes: &mut [u8],
-    list: &mut [f32],
-    heads: &mut [u16],
-    links: &mut [u16],
-) -> Result<(), Failure> {
-    let got = input::read_input(input, bytes).map_err(Failure::Input)?;
-    let length = past(input, got).map_err(Failure::Input)?;
-    answer(rt, length, &bytes[..got], list, heads, links).map_err(Failure::Output)
-}
-
-// What is printed of a file of that length, which begins with those bytes.
-fn answer(
-    rt: &impl Print,
-    length: usize,
-    bytes: &[u8],
-    list: &mut [f32],
-    heads: &mut [u16],
-    links: &mut [u16],
-) -> io::Result<()> {
-    let no = merge_text::refused(length);
-    if 0 < no {
-        return print_refused(rt, no);
-    }
-    let n = bytes.len() / 4;
-    if list.len() < n {
-        return print_refused(rt, 16);
-    }
-    merge_text::read_numbers(bytes, &mut list[..n]);
-    match merge::merge_corners_simple(&mut list[..n], 2.0, heads, links) {
-        Ok(count) => print_merged(rt, list, count),
-        Err(refusal) => print_refused(rt, u64::from(u32::from(refusal))),
-    }
+fn run<R: Read>(rt: &impl Print, input: &mut R) -> Result<(), Failure> {
+    let mut bytes = [0u8; 49152];
+    let mut list = [0f32; 12288];
+    let got = input::read_input(input, &mut bytes).map_err(Failure::Input)?;
+    let length = length_past(input, got).map_err(Failure::Input)?;
+    print_answer(rt, merged(&bytes[..got], length, &mut list), &list).map_err(Failure::Output)
 }
 
 // How long the file is of which so many bytes were read. One that goes on past the limit cannot be read.
-fn past<R: Read>(input: &mut R, got: usize) -> io::Result<usize> {
+fn length_past<R: Read>(input: &mut R, got: usize) -> io::Result<usize> {
     let mut length = got;
     let mut chunk = [0u8; 4096];
     while length < MOST {
@@ -98,24 +63,42 @@ fn past<R: Read>(input: &mut R, got: usize) -> io::Result<usize> {
     Ok(length)
 }
 
-fn print_merged(rt: &impl Print, list: &[f32], count: usize) -> io::Result<()> {
-    print_corners(rt, list, count)?;
-    println!(rt; "total {count}")
+// Merges the corners of a file of that length, which begins with those bytes, at the front of the list; how many are left.
+fn merged(bytes: &[u8], length: usize, list: &mut [f32]) -> Result<usize, Refusal> {
+    let mut heads = [0u16; 16384];
+    let mut links = [0u16; 4096];
+    let n = merge_text::numbers_in(length)?;
+    let corners = list.get_mut(..n).ok_or(Refusal::TooMany)?;
+    merge_text::read_numbers(bytes, corners);
+    merge::merge_corners_simple(corners, 2.0, &mut heads, &mut links)
 }
 
+fn print_answer(
+    rt: &impl Print,
+    answer: Result<usize, Refusal>,
+    list: &[f32],
+) -> io::Result<()> {
+    match answer {
+        Ok(count) => {
+            print_corners(rt, list, count)?;
+            println!(rt; "total {count}")
+        }
+        Err(refusal) => println!(rt; "{refusal}"),
+    }
+}
+
+// A line for each of the first corners.
 fn print_corners(rt: &impl Print, list: &[f32], count: usize) -> io::Result<()> {
-    for i in 0..count.min(list.len() / 3) {
-        print_number(rt, list[3 * i], b' ')?;
-        print_number(rt, list[3 * i + 1], b' ')?;
-        print_number(rt, list[3 * i + 2], b'\n')?;
+    let (corners, _) = list.as_chunks::<3>();
+    for [x, y, strength] in corners.iter().take(count) {
+        print_number(rt, *x, b' ')?;
+        print_number(rt, *y, b' ')?;
+        print_number(rt, *strength, b'\n')?;
     }
     Ok(())
 }
 
+// By `hex`, whose clause states the text byte for byte.
 fn print_number(rt: &impl Print, x: f32, end: u8) -> io::Result<()> {
     rt.write_all(&merge_text::hex(floats::f32_to_bits(x), end))
-}
-
-fn print_refused(rt: &impl Print, no: u64) -> io::Result<()> {
-    println!(rt; "refused {no}")
 }

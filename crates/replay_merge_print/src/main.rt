@@ -2,9 +2,10 @@
 // held to the stored text, byte for byte.
 #![tactic(auto)]
 
-ghost use Rattle.std.specs.Prelude.{◌≤◌};
+ghost use Rattle.std.specs.Prelude.{◌≡◌};
+ghost use Rattle.replay.specs.Spoil.{flipped};
 
-use replay::Tally;
+use replay::{Aim, Part, Spoilt, Trial};
 use std::io;
 
 mod text;
@@ -12,85 +13,68 @@ mod text;
 // More cases than the list has, so that the loop ends.
 const MOST: u32 = 20000;
 
+// What the file is read to, and what is lent to the merge.
+#[derive(Drop)]
+struct Merging {
+    bytes: [u8; 49152],
+    list: [f32; 12288],
+    heads: [u16; 16384],
+    links: [u16; 4096],
+}
+
 fn main(rt: HostRuntime) -> io::Result<()> {
     let mut case = [0u8; 170000];
-    let mut bytes = [0u8; 49152];
-    let mut list = [0f32; 12288];
-    let mut heads = [0u16; 16384];
-    let mut links = [0u16; 4096];
-    replay::replay(&rt, "merge_print.bin", &mut case, MOST, |tally, case| {
-        trial(tally, case, &mut bytes, &mut list, &mut heads, &mut links)
-    })
+    let mut merging = Merging {
+        bytes: [0; 49152],
+        list: [0.0; 12288],
+        heads: [0; 16384],
+        links: [0; 4096],
+    };
+    replay::replay(&rt, "merge_print.bin", &mut case, MOST, &mut merging)
 }
 
-// One case: as it is stored, and with a bit of its text or of the text's length flipped.
-fn trial(
-    tally: Tally,
-    case: &mut [u8],
-    bytes: &mut [u8],
-    list: &mut [f32],
-    heads: &mut [u16],
-    links: &mut [u16],
-) -> Tally {
-    let right = holds(case, bytes, list, heads, links);
-    let taken = spoilt_holds(case, tally.cases, bytes, list, heads, links);
-    tally.counted(right, !taken)
+impl Trial for Merging {
+    // What is judged: the length of the text, and its bytes.
+    fn spoil(&self, case: &mut [u8], turn: u32) -> Spoilt {
+        let length = text_length(case);
+        let place = length.at;
+        let n = length.number(0) + 1;
+        match replay::pick(turn, n) {
+            0 => replay::spoil_at(case, turn, n, place, 0),
+            i => spoil_byte(case, turn, n, place.saturating_add(3 + i)),
+        }
+    }
+
+    // The file's length and its bytes up to the zeros at its end, then the text's length and the text.
+    fn holds(&mut self, case: &[u8], _aim: Option<Aim>) -> bool {
+        let length = text_length(case);
+        let text = length.behind(1).bytes(length.number(0));
+        let n = match merge_text::numbers_in(Part::of(case).number(0)) {
+            Ok(n) => n,
+            Err(refusal) => return text::is_refused(text, refusal),
+        };
+        let Some(list) = self.list.get_mut(..n) else {
+            return false;
+        };
+        replay::load(Part::of(case).behind(2), Part::of(case).number(1), &mut self.bytes);
+        merge_text::read_numbers(&self.bytes, list);
+        match merge::merge_corners_simple(list, 2.0, &mut self.heads, &mut self.links) {
+            Ok(count) => text::are_corners(text, list, count),
+            Err(refusal) => text::is_refused(text, refusal),
+        }
+    }
 }
 
-fn spoilt_holds(
-    case: &mut [u8],
-    turn: u32,
-    bytes: &mut [u8],
-    list: &mut [f32],
-    heads: &mut [u16],
-    links: &mut [u16],
-) -> bool {
-    let spoilt = text::spoil(case, turn, start(case));
-    let taken = holds(case, bytes, list, heads, links);
-    replay::flip(case, spoilt.place, spoilt.bit);
-    taken
+// The text's length, behind the file's two lengths and its bytes.
+fn text_length(case: &[u8]) -> Part {
+    Part::of(case).behind(2).behind_bytes(Part::of(case).word(1))
 }
 
-// Where the text begins: behind the file's two lengths and its bytes, and its own length.
-fn start(case: &[u8]) -> usize
-    ensures { (4 ≤ result) × (result ≤ 0x2_0000_0000) }
+// Flips a bit of the byte at a place, where n things are judged.
+fn spoil_byte(case: &mut [u8], turn: u32, n: usize, place: usize) -> Spoilt
+    ensures { case.new ≡ flipped case.old result.place result.bit }
 {
-    12 + (words::word(case, 4) as usize + 3) / 4 * 4
-}
-
-// The file's length and its bytes up to the zeros at its end, then the text's length and the text.
-fn holds(
-    case: &[u8],
-    bytes: &mut [u8],
-    list: &mut [f32],
-    heads: &mut [u16],
-    links: &mut [u16],
-) -> bool {
-    let size = words::word(case, 0) as usize;
-    let no = merge_text::refused(size);
-    if 0 < no {
-        return text::refusal_stands(case, start(case), no);
-    }
-    let n = size / 4;
-    if list.len() < n {
-        return false;
-    }
-    text::load(case, words::word(case, 4) as usize, bytes);
-    merged_stands(case, start(case), bytes, &mut list[..n], heads, links)
-}
-
-// A file that is not refused by its length, and is as long as the list; its text begins at a place of the case.
-fn merged_stands(
-    case: &[u8],
-    start: usize,
-    bytes: &[u8],
-    list: &mut [f32],
-    heads: &mut [u16],
-    links: &mut [u16],
-) -> bool {
-    merge_text::read_numbers(bytes, list);
-    match merge::merge_corners_simple(list, 2.0, heads, links) {
-        Ok(count) => text::corners_stand(case, start, list, count),
-        Err(refusal) => text::refusal_stands(case, start, u64::from(u32::from(refusal))),
-    }
+    let bit = replay::bit_for(case, place, turn, n) % 8;
+    replay::flip(case, place, bit);
+    Spoilt { place, bit }
 }
