@@ -12,25 +12,9 @@ use lib.Ieee.Fits.{and_l, and_r}
 use borrow.Author.Tests.{leb-true}
 use Rattle.shapes.specs.Tests.{every}
 use Rattle.shapes.proofs.TestLaws.{every-at, every-same}
-use Rattle.imageview.specs.Image.{Image, samples_of, image_of, sizes_of, pixel, is_size, is_pitch, sizes_fit, is_image, in_range, most, most_pitch, most_sample}
-use Rattle.imageview.specs.declared.Sizes.{Sizes}
-use Rattle.imageview.specs.Steps.{Sized, Tested, Rows, LowPixels, IsMeasured, IsTested, row_low, rows_low}
-
--- ---- the samples of the depth
-pub deep-samples : (bytes words : List ℕ) {deep : Bool} → deep ≡ true → samples_of bytes words deep ≡ words
-deep-samples bytes words e = ap (samples_of bytes words) e
-
-pub byte-samples : (bytes words : List ℕ) {deep : Bool} → deep ≡ false → samples_of bytes words deep ≡ bytes
-byte-samples bytes words e = ap (samples_of bytes words) e
-
--- ---- the test of a count, by that of the sizes
-pub by_count : (n w h : ℕ) → is_size w h ≡ true → eqb n (w * h) ≡ sizes_fit n w h
-unfolding sizes_fit
-by_count n w h e = sym (ap (λ (b : Bool). b && eqb n (w * h)) e)
-
-pub no_size : (n w h : ℕ) → is_size w h ≡ false → false ≡ sizes_fit n w h
-unfolding sizes_fit
-no_size n w h e = sym (ap (λ (b : Bool). b && eqb n (w * h)) e)
+use Rattle.imageview.specs.Image.{Image, pixel, is_size, is_pitch, sizes_fit, is_image, in_range, most, most_pitch, most_sample}
+use Rattle.imageview.specs.Levels.{row_low}
+use Rattle.imageview.specs.Steps.{Sized, Tested, LowPixels, IsMeasured, IsTested, rows_low}
 
 -- ---- what sizes and counts that pass have
 pub sized : (w h : ℕ) → T (is_size w h) → Sized w h
@@ -129,27 +113,6 @@ low img r d x y h l =
 
 pub row-whole : (img : Image) → Tested img → (y : ℕ) → y < img.height → y * img.pitch + img.width ≤ length img.samples
 row-whole img t y h = omega (arith, index img t 0 y img.width (omega arith) h)
-
--- ---- the test of the samples by the depth, and the rows of a deep image
-module _ (bytes words : List ℕ) (sizes : Sizes) where
-  abbrev image : Image
-  image = image_of bytes words sizes
-
-  pub deep-range : sizes.deep ≡ true → rows_low words sizes.width sizes.pitch sizes.height ≡ in_range image
-  unfolding in_range pixel
-  deep-range e = sym (ap (λ (d : Bool). in_range (image_of bytes words (sizes_of sizes.width sizes.height sizes.pitch d))) e)
-
-  pub byte-range : sizes.deep ≡ false → true ≡ in_range image
-  unfolding in_range
-  byte-range e = sym (ap (λ (d : Bool). in_range (image_of bytes words (sizes_of sizes.width sizes.height sizes.pitch d))) e)
-
-  pub deep-rows : is_image image ≡ true → sizes.deep ≡ true → Rows (length words) sizes.width sizes.height sizes.pitch
-  deep-rows is e =
-      let t = tested image (passed is) in
-      record {
-        low = (t.sized.height-most, t.pitch-most);
-        reach = λ y h. subst (λ (l : List ℕ). y * sizes.pitch + sizes.width ≤ length l) (deep-samples bytes words e) (row-whole image t y h);
-      }
 
 -- ---- the test of the samples row by row, of either width
 -- a row as a part of the samples, and the same of the samples' numbers

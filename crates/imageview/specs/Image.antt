@@ -2,7 +2,6 @@
 -- A sample is a byte or, in a deep image, a word of which twelve bits are used. Every definition that reads an image reads it through `pixel`.
 use Rattle.std.specs.Prelude.{Bool, true, false, ◌&&◌, cond, List, ℕ, ◌+◌, ◌*◌, leb, eqb, length, get_or}
 use Rattle.shapes.specs.Tests.{every}
-use Rattle.imageview.specs.declared.Sizes.{Sizes}
 
 pub record Image : Type 0 where
   pub samples : List ℕ
@@ -10,17 +9,6 @@ pub record Image : Type 0 where
   pub height : ℕ
   pub pitch : ℕ
   pub deep : Bool
-
--- of the bytes and the words that are lent, those of the depth; the others are not looked at
-abbrev pub samples_of : List ℕ → List ℕ → Bool → List ℕ
-samples_of bytes words deep = cond deep words bytes
-
--- what two slices and the sizes stand for
-abbrev pub image_of : List ℕ → List ℕ → Sizes → Image
-image_of bytes words sizes = record { samples = samples_of bytes words sizes.deep; width = sizes.width; height = sizes.height; pitch = sizes.pitch; deep = sizes.deep }
-
-abbrev pub sizes_of : ℕ → ℕ → ℕ → Bool → Sizes
-sizes_of width height pitch deep = record { width = width; height = height; pitch = pitch; deep = deep }
 
 -- an image of bytes alone, and a deep one of words alone
 abbrev pub byte_image : List ℕ → ℕ → ℕ → ℕ → Image

@@ -16,14 +16,7 @@ pub record Tested (img : Image) : Type 0 where
   pub pitch-most : img.pitch ≤ most_pitch
   pub count : length img.samples ≡ img.pitch * img.height
 
--- ---- samples by rows: so many of them hold the rows, and which rows are not above the greatest sample
-pub record Rows (count width height pitch : ℕ) : Type 0 where
-  pub low : (height ≤ most) × (pitch ≤ most_pitch)
-  pub reach : (y : ℕ) → y < height → y * pitch + width ≤ count
-
-abbrev pub row_low : List ℕ → ℕ → Bool
-row_low l n = every n (λ x. leb (get_or l x 0) most_sample)
-
+-- ---- which rows of samples are not above the greatest
 abbrev pub rows_low : List ℕ → ℕ → ℕ → ℕ → Bool
 rows_low l width pitch height = every height (λ y. every width (λ x. leb (get_or l (y * pitch + x) 0) most_sample))
 

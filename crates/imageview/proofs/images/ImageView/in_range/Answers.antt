@@ -4,7 +4,8 @@ use native.Mathlib.Nat.{add-zero}
 use Rattle.shapes.specs.Tests.{every}
 use Rattle.shapes.proofs.TestLaws.{every-none, every_more, both}
 use Rattle.imageview.specs.Image.{Image, most_sample}
-use Rattle.imageview.specs.Steps.{row_low, rows_low}
+use Rattle.imageview.specs.Steps.{rows_low}
+use Rattle.imageview.specs.Levels.{row_low}
 use Rattle.imageview.specs.View.{shown}
 use Rattle.imageview.proofs.ImageLaws.{tested, passed, row-whole, row-of-levels, low_row, rows-range, rows-low}
 use Rattle.imageview.proofs.images.ImageView.in_range.Goals as goal
