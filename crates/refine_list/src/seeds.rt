@@ -78,7 +78,7 @@ impl Seeds<'_, '_> {
             c: self.first_of(image, i + 2),
             d: self.first_of(image, i + 3),
         };
-        refine_patch::fit_four(image, &self.columns, at, flat, 0);
+        refine_patch::fit_four(image.view(), &self.columns, at, flat, 0);
     }
 
     // Where the patch about the seed number i begins; 0 for a seed that is not refined, and past the last.
