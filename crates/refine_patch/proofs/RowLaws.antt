@@ -3,7 +3,7 @@ use mathlib.Core.Path.{◌≡◌, refl, sym, ap, ◌∙◌, subst}
 use mathlib.Core.Bool.{Bool, true, ◌&&◌, cond, and-eq-true_iff}
 use mathlib.Core.Logic.{⊎_elim}
 use mathlib.Core.List.{List}
-use Prim.Native.Nat.{ℕ, zero, suc, ◌+◌, ◌-◌, ◌*◌, ◌/◌, ◌%◌, ◌≤◌, ◌<◌, ◌^◌}
+use Prim.Native.Nat.{ℕ, zero, suc, ◌+◌, ◌-◌, ◌*◌, ◌/◌, ◌%◌, ◌≤◌, ◌<◌}
 use native.Mathlib.Nat.{add_assoc, add-zero, add-suc, add-mul, mul_assoc, one-mul, zero-mul, le_refl, le_trans, suc-mul, mul-le-mul, mul-le-mul_right, eq-or-lt_of_le, div-add-mod', mod-lt}
 use native.Mathlib.Numerals.{add-one}
 use native.Mathlib.Omega.{arith}
@@ -16,9 +16,6 @@ use lib.ListN.{length, get_or}
 use lib.Ieee.{Float}
 use Rattle.shapes.specs.Numbers.{plus_zero, entry}
 use Rattle.shapes.specs.Turns.{turns}
-use Rattle.imageview.specs.Image.{Image}
-use Rattle.imageview.specs.Steps.{IsTested}
-use Rattle.imageview.proofs.ImageLaws.{samples-most as image-most}
 use Rattle.refine_operator.specs.Basis.{side, samples}
 use Rattle.refine_formulas.specs.Numbers.{◌⊕◌, ◌⊖◌, ◌⊗◌}
 use Rattle.refine_patch.specs.declared.Firsts.{Firsts}
@@ -243,13 +240,6 @@ sample-inside count pitch radius first k h q =
 
 pub samples-most : (radius : ℕ) → radius ≤ 7 → samples radius ≤ 225
 samples-most radius h = mul-le-mul {n₁ = side radius} {m₁ = side radius} {n₂ = 15} {m₂ = 15} (omega arith) (omega arith)
-
--- the samples of an image are fewer than 2 ^ 64
-pub count-below : (img : Image) → IsTested img → length img.samples < 18446744073709551616
-count-below img t = below (length img.samples) (img.pitch * img.height) t.stands.count (image-most img.pitch img.height t.stands.pitch-most t.stands.sized.height-most)
-  where
-    below : (n p : ℕ) → n ≡ p → p ≤ 2 ^ 25 → n < 18446744073709551616
-    below n p e h = omega arith
 
 -- a row's samples are numbered below 225
 pub numbered : (radius j : ℕ) → radius ≤ 7 → j < side radius → j * side radius + side radius ≤ 225
