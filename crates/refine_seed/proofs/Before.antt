@@ -6,7 +6,7 @@ use lib.Dec.{leb, eqb}
 use lib.Ieee.{Float}
 use Rattle.std.specs.Prelude.{Result, Ok, Err}
 use lib.Ieee.Scale.{finite}
-use Rattle.shapes.specs.Numbers.{plus_zero, one, entry}
+use Rattle.shapes.specs.Numbers.{one, entry}
 use Rattle.imageview.specs.Image.{Image, is_image, in_range}
 use Rattle.imageview.specs.Patch.{supports_patch}
 use Rattle.refine_operator.specs.Call as Operator
@@ -23,7 +23,6 @@ use Rattle.refine_fits.specs.Candidate.{Task, task_at, near_seed, judged}
 use Rattle.refine_fits.specs.Windows.{WindowPlace}
 use Rattle.refine_fits.specs.Fit.{coefficients}
 use Rattle.refine_seed.specs.declared.Estimate.{Estimate}
-use Rattle.refine_seed.specs.declared.Unrefined.{Unrefined}
 use Rattle.refine_seed.specs.declared.Unrefined.TheVariants.{Unmoved, Refused}
 use Rattle.refine_seed.specs.declared.Why.TheVariants.{Rejected, OutOfBounds, IllConditioned, BadSeed, Flawed}
 use Rattle.refine_seed.specs.Run.{run_of}

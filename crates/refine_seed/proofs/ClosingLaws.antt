@@ -30,9 +30,6 @@ use Rattle.refine_fits.specs.StepsAdding.{PatchWithin}
 use Rattle.refine_fits.proofs.CacheLaws.{there, behind}
 use Rattle.refine_fits.proofs.PlaceLaws.{never}
 use Rattle.refine_seed.specs.declared.Noise.{Noise}
-use Rattle.refine_seed.specs.declared.Opened.{Opened}
-use Rattle.refine_seed.specs.declared.Taken.{Taken}
-use Rattle.refine_seed.specs.declared.Spot.{Spot}
 use Rattle.refine_seed.specs.declared.Estimate.{Estimate}
 use Rattle.refine_seed.specs.declared.Unrefined.TheVariants.{Unmoved}
 use Rattle.refine_seed.specs.declared.Why.TheVariants.{Rejected}
@@ -40,7 +37,7 @@ use Rattle.refine_seed.specs.PixelSlope.{along, both, slope_at}
 use Rattle.refine_seed.specs.Run.{Finish, at_start, at_stand, picked, steps_from, search_from, run_of}
 use Rattle.refine_seed.specs.Refine.{single, estimate, closed, closed_at, finished, from_saddle, refine_with}
 use Rattle.refine_seed.specs.Spot.{spot_at}
-use Rattle.refine_seed.specs.StepsEnding.{taken_at, moves_of, middle_of, moved, estimate_in, opened_at, unsettled, closed_with, answer_with, ended_of, opened_there, opened_on, opened_from, open_by, open_of}
+use Rattle.refine_seed.specs.StepsEnding.{taken_at, moves_of, middle_of, moved, estimate_in, opened_at, closed_with, answer_with, ended_of, opened_there, opened_on, opened_from, open_by, open_of}
 use Rattle.refine_seed.proofs.StepLaws.{no, yes}
 
 -- ---- the slope at a pixel, along an axis of n pixels

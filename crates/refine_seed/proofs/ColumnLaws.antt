@@ -14,7 +14,6 @@ use Rattle.imageview.specs.Patch.{supports_patch}
 use Rattle.refine_operator.specs.Basis.{samples}
 use Rattle.refine_operator.specs.Call as Operator
 use Rattle.refine_operator.specs.declared.OperatorError.{OperatorError}
-use Rattle.refine_operator.specs.declared.OperatorError.TheVariants as OperatorError
 use Rattle.shapes.proofs.ListLaws.{tabulated-cong}
 use Rattle.shapes.proofs.TurnLaws.{turns-cong}
 use Rattle.refine_operator.proofs.CallLaws.{built-length}

@@ -1,13 +1,12 @@
 -- The call with a lent operator, where building it said that it is there, is the call that builds its own: one operator serves many seeds.
-use mathlib.Core.Path.{◌≡◌, refl, sym, ap, ◌∙◌, subst}
+use mathlib.Core.Path.{◌≡◌, refl, sym, ap, ◌∙◌}
 use mathlib.Core.Bool.{Bool, true, false, cond}
 use mathlib.Core.List.{List}
 use Prim.Native.Nat.{ℕ}
 use lib.Dec.{eqb}
 use lib.Ieee.{Float}
-use Rattle.std.specs.Prelude.{Option, None, Result, Ok, Err}
+use Rattle.std.specs.Prelude.{None, Result, Ok, Err}
 use borrow.Author.Tests.{eqb-true}
-use Rattle.shapes.specs.Numbers.{plus_zero}
 use Rattle.imageview.specs.Image.{Image}
 use Rattle.refine_operator.specs.Call as Operator
 use Rattle.refine_operator.specs.declared.OperatorError.{OperatorError}
@@ -15,8 +14,6 @@ use Rattle.refine_formulas.specs.declared.SaddlePointConfig.{SaddlePointConfig}
 use Rattle.refine_fits.specs.declared.Seed.{Seed}
 use Rattle.refine_seed.specs.declared.Unrefined.{Unrefined}
 use Rattle.refine_seed.specs.declared.Why.TheVariants.{IllConditioned}
-use Rattle.refusals.specs.declared.Refusal.{Refusal}
-use Rattle.refine_seed.specs.declared.Spot.{Spot}
 use Rattle.refine_seed.specs.Refine.{Refined, unmoved, unbuilt, admit_of, answered, refine_lent, refine_of, refine_with, lent_with, with_operator}
 use Rattle.refine_seed.specs.Spot.{spot_of}
 use Rattle.refine_seed.specs.Claims.{LentIsBuilt}

@@ -11,12 +11,12 @@ use Rattle.refine_fits.specs.declared.Seed.{Seed}
 use Rattle.refine_seed.specs.declared.Opened.{Opened}
 use Rattle.refine_seed.specs.declared.Spot.{Spot}
 use Rattle.refine_seed.specs.declared.Unrefined.{Unrefined}
-use Rattle.refine_seed.specs.Refine.{Refined, admit_of, answered, refine_with, lent_with, refine_lent}
+use Rattle.refine_seed.specs.Refine.{Refined, admit_of, refine_with, refine_lent}
 use Rattle.refine_seed.specs.Spot.{spot_of}
 use Rattle.refine_seed.specs.StepsEnding.{answer_with, open_of}
-use Rattle.refine_seed.specs.StepsSpot.{spot_in, Lands}
+use Rattle.refine_seed.specs.StepsSpot.{Ready, seed_alone, spot_in, Lands}
 use Rattle.refine_seed.proofs.ClosingLaws.{refined-opened}
-use Rattle.refine_seed.proofs.EntryLaws.{lent_answer, lent_zero, lent_other}
+use Rattle.refine_seed.proofs.EntryLaws.{alone, lent_answer, lent_zero, lent_other}
 
 spot-opened : (overlap : List Float) (wanted : Bool) (o : Result Opened Unrefined) → spot_in o ≡ spot_of (answer_with overlap wanted o)
 spot-opened overlap wanted (Ok o) = refl
@@ -51,6 +51,10 @@ module _ (img : Image) (columns : List Float) (cfg : SaddlePointConfig) (x y : F
   lands_unplaced (Ok s) h k = cc
   lands_unplaced (Err e) h k = lands_nowhere e h
 
-pub placed : (d : Result Seed Unrefined) (seed : Seed) → Some seed ≡ result_ok d → d ≡ Ok seed
+placed : (d : Result Seed Unrefined) (seed : Seed) → Some seed ≡ result_ok d → d ≡ Ok seed
 placed (Ok s) seed h = let k : s ≡ seed = cc in ap Ok k
 placed (Err e) seed h = cc
+
+-- where the image and the settings passed their tests, a seed that the code keeps passed them all
+pub was_placed : (img : Image) (cfg : SaddlePointConfig) (x y : Float) → Ready img cfg → (d : Result Seed Unrefined) (seed : Seed) → d ≡ seed_alone img.width img.height cfg.radius x y → Some seed ≡ result_ok d → Ok seed ≡ admit_of img cfg x y
+was_placed img cfg x y r d seed h k = sym (placed d seed k) ∙ h ∙ alone img cfg x y r

@@ -4,7 +4,7 @@
 use Rattle.std.specs.Prelude.{◌≡◌, Bool, ◌&&◌, ◌||◌, cond, List, Float, Ok, Err}
 use Rattle.std.specs.Float.Ieee.{lt}
 use Rattle.std.specs.Float.Ieee.Scale.{finite}
-use Rattle.shapes.specs.Numbers.{plus_zero, one, entry}
+use Rattle.shapes.specs.Numbers.{one, entry}
 use Rattle.imageview.specs.Image.{Image}
 use Rattle.refine_operator.specs.Call as Operator
 use Rattle.refine_formulas.specs.declared.SaddlePointConfig.{SaddlePointConfig}
@@ -16,7 +16,6 @@ use Rattle.refine_fits.specs.declared.Seed.{Seed}
 use Rattle.refine_fits.specs.Candidate.{Task, task_at, near_seed, Tried, passed, taken, judged}
 use Rattle.refine_fits.specs.Windows.{WindowPlace}
 use Rattle.refine_fits.specs.Fit.{coefficients}
-use Rattle.refine_seed.specs.declared.Unrefined.{Unrefined}
 use Rattle.refine_seed.specs.declared.Unrefined.TheVariants.{Unmoved, Refused}
 use Rattle.refine_seed.specs.declared.Why.{Why}
 use Rattle.refine_seed.specs.declared.Why.TheVariants.{Rejected, OutOfBounds, IllConditioned, BadSeed, Flawed}

@@ -9,7 +9,6 @@ use Rattle.imageview.specs.Image.{Image, is_image, in_range}
 use Rattle.imageview.specs.Patch.{supports_patch}
 use Rattle.refine_operator.specs.Call as Operator
 use Rattle.refine_operator.specs.declared.OperatorError.{OperatorError}
-use Rattle.refine_operator.specs.declared.OperatorError.TheVariants as OperatorError
 use Rattle.refine_formulas.specs.declared.SaddlePointConfig.{SaddlePointConfig}
 use Rattle.refine_formulas.specs.declared.PatchSaddle.{PatchSaddle}
 use Rattle.refine_formulas.specs.declared.Flaw.{Flaw}

@@ -18,7 +18,7 @@ use refine_formulas::{SaddlePointConfig, solve};
 use refine_patch::Columns;
 use refusals::Refusal;
 
-// The refiner of one seed with an operator that is lent.
+/// `refine` with an operator that is lent, whatever it holds: five columns a sample of the radius' patch, and the nine overlaps of 25. At radius 0 there is none.
 pub fn refine_with<S: Sample>(
     view: ImageView<S>,
     cfg: SaddlePointConfig,
@@ -40,7 +40,9 @@ pub fn refine_with<S: Sample>(
     Ok(closing::closed(opened, overlap, wanted))
 }
 
-// The refiner of one seed; it builds its own operator, after the tests.
+/// The refiner of the seed at (x, y), in pixels, after `saddle_point.rs`, with the operator of the settings' radius; the covariance, for unit noise, only where it is wanted.
+/// Err by the first test that fails: refused with 10 (no image), 26 (a sample too great), 11 (a radius above 7) or 12 (a setting); or the seed stays where it is,
+/// 4, 2 or 3 with the score 0.0, and 5, 6, 7 or 1 with the first fit's determinant.
 pub fn refine<S: Sample>(
     view: ImageView<S>,
     cfg: SaddlePointConfig,
@@ -84,7 +86,7 @@ fn close_fresh(opened: Opened, cfg: SaddlePointConfig, wanted: bool) -> Result<E
     Ok(closing::closed(opened, &overlap, wanted))
 }
 
-// The number that stood for this one while a refused fit had one number.
+/// The number that stood for this one while a refused fit had one number: 3 for 5, 6 and 7.
 pub fn old_number(number: u32) -> u32
     ensures { result ≡ old_number number }
 {
@@ -101,7 +103,7 @@ fn good_limit(v: f32) -> bool
     floats::is_finite_f32(v) & !(v < 0.0)
 }
 
-// The test of the settings.
+/// The test of the settings: each limit is finite and not below zero.
 pub fn good_limits(cfg: SaddlePointConfig) -> bool
     ensures { result ≡ good_limits cfg }
 {

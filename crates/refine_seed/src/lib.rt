@@ -77,7 +77,7 @@ struct Noise {
     moves: Matrix,
 }
 
-// An accepted seed: where it was refined to, in pixels, the root of minus the determinant, whether the run converged, its tries, and the covariance if it was wanted.
+/// An accepted seed: where it was refined to, in pixels, the root of minus the determinant, whether the run converged, its tries, and the covariance if it was wanted.
 #[derive(Clone, Copy, Debug, PartialEq)]
 pub struct Estimate {
     pub x: f32,
@@ -88,14 +88,14 @@ pub struct Estimate {
     pub covariance: Option<Covariance>,
 }
 
-// A place in pixels.
+/// A place in pixels.
 #[derive(Clone, Copy, Debug, PartialEq)]
 pub struct Spot {
     pub x: f32,
     pub y: f32,
 }
 
-// Why a seed stays where it is, by the Rust's names; that a coordinate is no finite number, and why a fit is refused, are ours. IllConditioned: there is no operator.
+/// Why a seed stays where it is, by the Rust's names; that a coordinate is no finite number, and why a fit is refused, are ours. IllConditioned: there is no operator.
 #[derive(Clone, Copy, Debug, PartialEq, Eq)]
 pub enum Why {
     Rejected,
@@ -105,7 +105,7 @@ pub enum Why {
     Flawed(Flaw),
 }
 
-// The numbers of the reasons.
+/// The numbers of the reasons.
 impl From<Why> for u32 {
     ghost from_gives = { λ why n. n ≡ why_number why };
 
@@ -122,7 +122,7 @@ impl From<Why> for u32 {
     }
 }
 
-// Why there is no estimate: the seed stays where it is, with a score beside the reason, which is the determinant of the first fit where there was one; or the call is refused.
+/// Why there is no estimate: the seed stays where it is, with a score beside the reason, which is the determinant of the first fit where there was one; or the call is refused.
 #[derive(Clone, Copy, Debug, PartialEq)]
 pub enum Unrefined {
     Unmoved(Why, f32),

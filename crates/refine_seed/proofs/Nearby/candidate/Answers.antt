@@ -1,5 +1,5 @@
 -- `refine_seed::Nearby::candidate` meets its contract: without room, weighed and passed, or weighed and taken.
-use Rattle.std.proofs.Common.{ℕ, refl, subst, arith}
+use Rattle.std.proofs.Common.{ℕ, subst, arith}
 use Rattle.std.specs.Prelude.{Some, None}
 use mathlib.Core.Path.{◌∙◌}
 use Rattle.refine_fits.specs.Candidate.{task_at}

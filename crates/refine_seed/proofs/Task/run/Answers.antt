@@ -1,5 +1,5 @@
 -- `refine_seed::Task::run` meets its contract: each candidate is one law, and so is each way out.
-use Rattle.std.proofs.Common.{◌≡◌, ◌+◌, ◌-◌, ◌*◌, ◌≤◌, sym, ap, arith}
+use Rattle.std.proofs.Common.{◌≡◌, ◌+◌, ◌-◌, sym, arith}
 use lib.Ieee.{of_bits}
 use mathlib.Core.Path.{◌∙◌}
 use Rattle.refine_fits.specs.Candidate.{task_at}

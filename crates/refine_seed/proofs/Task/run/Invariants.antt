@@ -1,5 +1,5 @@
 -- The loops of `refine_seed::Task::run` go on where the whole run would: before a step with the steps that are left, and within one before a candidate.
-use Rattle.std.proofs.Common.{◌≡◌, ℕ, ◌+◌, ◌-◌, ◌*◌, ◌≤◌}
+use Rattle.std.proofs.Common.{◌≡◌, ◌+◌, ◌-◌, ◌*◌, ◌≤◌}
 use Rattle.refine_fits.specs.Candidate.{task_at}
 use Rattle.refine_seed.specs.Run.{run_of}
 use Rattle.refine_seed.specs.StepsEnding.{Holds, ended_of, from_candidate, from_step}
