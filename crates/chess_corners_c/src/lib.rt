@@ -1,25 +1,16 @@
 // The archive for C and Rust: each call of chess_corners, exported. Every export calls the library and states its clauses again.
 #![tactic(auto)]
 
-ghost use Rattle.imageview.specs.Image.{byte_image};
-ghost use Rattle.std.specs.Prelude.{false};
-ghost use Rattle.graymap.specs.Call.{read_of};
-ghost use Rattle.chess_corners.specs.Face.{Responded, Merging, Wanting, Refining, Scanning, Tying, Reading};
-ghost use Rattle.chess_corners.specs.Seed.{settings};
+ghost use Rattle.std.specs.Prelude.{◌≡◌, false, length};
+ghost use Rattle.imageview.specs.Image.{byte_image, word_image};
 ghost use Rattle.coverage.specs.Call.{fresh_way, add_way, replace_way, drop_way};
 ghost use Rattle.gradient.specs.Call.{asked_of};
-ghost use Rattle.chess_corners.specs.Face.{Salvaging, Covering, Grading};
-ghost use Rattle.std.specs.Prelude.{length};
-ghost use Rattle.imageview.specs.Image.{word_image};
-ghost use Rattle.refine_fallback.specs.Call.{way_of, way_lent};
-ghost use Rattle.refine_seed.specs.Refine.{refine_lent, refine_of};
-ghost use Rattle.chess_corners.specs.Face.{Responded, Refining, ReadingDeep};
-ghost use Rattle.chess_corners.specs.Fallback.{Retrying};
-ghost use Rattle.chess_corners.specs.Seed.{settings, asked, Told};
-ghost use Rattle.std.specs.Prelude.{◌≡◌};
+ghost use Rattle.graymap.specs.Call.{read_of};
 ghost use Rattle.refine_seed.specs.Refine.{refine_lent, refine_of, old_number};
-ghost use Rattle.refine_seed.specs.declared.Refined.TheVariants.{Accepted};
-ghost use Rattle.chess_corners.specs.Seed.{settings, asked, flag, Told, Operating};
+ghost use Rattle.refine_fallback.specs.Call.{way_of, way_lent};
+ghost use Rattle.chess_corners.specs.Face.{Responded, Merging, Wanting, Refining, Scanning, Tying, Reading, ReadingDeep, Salvaging, Covering, Grading};
+ghost use Rattle.chess_corners.specs.Fallback.{Retrying};
+ghost use Rattle.chess_corners.specs.Seed.{settings, asked, Told, Operating};
 
 // The ChESS response of the region (x0, y0) to (x1, y1), clamped to the image; 0, 10, 11, 13, 14 or 15.
 #[unsafe(no_mangle)]

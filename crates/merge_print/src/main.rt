@@ -73,11 +73,7 @@ fn merged(bytes: &[u8], length: usize, list: &mut [f32]) -> Result<usize, Refusa
     merge::merge_corners_simple(corners, 2.0, &mut heads, &mut links)
 }
 
-fn print_answer(
-    rt: &impl Print,
-    answer: Result<usize, Refusal>,
-    list: &[f32],
-) -> io::Result<()> {
+fn print_answer(rt: &impl Print, answer: Result<usize, Refusal>, list: &[f32]) -> io::Result<()> {
     match answer {
         Ok(count) => {
             print_corners(rt, list, count)?;

@@ -8,7 +8,9 @@ ghost use Rattle.replay.specs.Spoil.{other_of, other_in, hit_of};
 // A number of a buffer: the word that it is stored as, and the word of the paint at a place, which no call writes there.
 pub trait Element: Copy {
     ghost word_of: { Self → ℕ };
+
     ghost of_word: { ℕ → Self };
+
     ghost mark_at: { ℕ → ℕ };
 
     fn to_word(self) -> u32
@@ -24,7 +26,9 @@ pub trait Element: Copy {
 // Numbers from 1.5 up.
 impl Element for f32 {
     ghost word_of = { Ieee.to_bits binary32 };
+
     ghost of_word = { Ieee.of_bits binary32 };
+
     ghost mark_at = { mark_of };
 
     fn to_word(self) -> u32 {
@@ -43,7 +47,9 @@ impl Element for f32 {
 // The same words.
 impl Element for u32 {
     ghost word_of = { λ n. n };
+
     ghost of_word = { λ n. n };
+
     ghost mark_at = { mark_of };
 
     fn to_word(self) -> u32 {
@@ -62,7 +68,9 @@ impl Element for u32 {
 // Small numbers from 1 up.
 impl Element for u16 {
     ghost word_of = { λ n. n };
+
     ghost of_word = { lowest 0x1_0000 };
+
     ghost mark_at = { scratch_mark };
 
     fn to_word(self) -> u32 {
@@ -81,7 +89,9 @@ impl Element for u16 {
 // Neither 0 nor the number of a pass.
 impl Element for u8 {
     ghost word_of = { λ n. n };
+
     ghost of_word = { lowest 0x100 };
+
     ghost mark_at = { byte_mark };
 
     fn to_word(self) -> u32 {

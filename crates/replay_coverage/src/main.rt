@@ -66,12 +66,20 @@ impl Trial for Covering {
             return false;
         }
         let Covering { found, wanted } = self;
-        found.lend(Part::of(case).long(4), layout.list, Part::of(case).behind(8));
+        found.lend(
+            Part::of(case).long(4),
+            layout.list,
+            Part::of(case).behind(8),
+        );
         let right = found.run(layout);
         replay::hit(&mut found.list, replay::within(aim, 2));
         replay::hit(&mut found.tiles, replay::within(aim, 3));
         found.count = replay::hit_number(found.count, replay::within(aim, 1));
-        wanted.lend(layout.count_after.long(0), layout.list_after, layout.counts_after);
+        wanted.lend(
+            layout.count_after.long(0),
+            layout.list_after,
+            layout.counts_after,
+        );
         right && found.are(wanted)
     }
 }
@@ -120,11 +128,8 @@ impl Corners {
     // Whether both are the same, the floats by their bits.
     fn are(&self, wanted: &Corners) -> bool {
         self.count == wanted.count
-            && self
-                .list
-                .iter()
-                .zip(&wanted.list)
-                .all(|(x, y)| floats::f32_to_bits(*x) == floats::f32_to_bits(*y))
+            && self.list.iter().zip(&wanted.list).all(|(x, y)| floats::f32_to_bits(*x)
+                == floats::f32_to_bits(*y))
             && self.tiles == wanted.tiles
     }
 }

@@ -57,7 +57,12 @@ impl Trial for Refining {
         let Some(passes) = self.passes.get_mut(..rooms.number(1)) else {
             return false;
         };
-        replay::lend(settings.behind(10), settings.number(9), Fill::Zeros, corners);
+        replay::lend(
+            settings.behind(10),
+            settings.number(9),
+            Fill::Zeros,
+            corners,
+        );
         replay::paint(out);
         replay::paint(passes);
         let mut count = replay::mark(0) as usize;
@@ -76,13 +81,7 @@ fn rooms(case: &[u8]) -> Part {
 }
 
 // The call, with the image and both settings of the case. A radius below zero becomes one above every limit.
-fn ask(
-    case: &[u8],
-    corners: &[f32],
-    out: &mut [f32],
-    passes: &mut [u8],
-    count: &mut usize,
-) -> u32 {
+fn ask(case: &[u8], corners: &[f32], out: &mut [f32], passes: &mut [u8], count: &mut usize) -> u32 {
     let image = Image::of(case);
     let settings = replay::behind_image(case);
     chess_corners::chess_corners_refine_list_fallback(

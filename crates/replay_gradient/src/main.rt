@@ -58,7 +58,9 @@ fn tile(case: &[u8]) -> &[u8] {
 
 // The ring, the place, the scales and the grid, behind the tile.
 fn settings(case: &[u8]) -> Part {
-    Part::of(case).behind(2).behind_bytes(Part::of(case).word(1))
+    Part::of(case)
+        .behind(2)
+        .behind_bytes(Part::of(case).word(1))
 }
 
 // Where the decision stands, behind the numbers of the grid.

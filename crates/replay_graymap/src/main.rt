@@ -66,5 +66,7 @@ fn file(case: &[u8]) -> &[u8] {
 
 // Where the answer stands: behind the file, at a whole word.
 fn answer(case: &[u8]) -> Part {
-    Part::of(case).behind(1).behind_bytes(Part::of(case).word(0))
+    Part::of(case)
+        .behind(1)
+        .behind_bytes(Part::of(case).word(0))
 }

@@ -56,7 +56,11 @@ impl Trial for Merging {
         let Some(list) = self.list.get_mut(..n) else {
             return false;
         };
-        replay::load(Part::of(case).behind(2), Part::of(case).number(1), &mut self.bytes);
+        replay::load(
+            Part::of(case).behind(2),
+            Part::of(case).number(1),
+            &mut self.bytes,
+        );
         merge_text::read_numbers(&self.bytes, list);
         match merge::merge_corners_simple(list, 2.0, &mut self.heads, &mut self.links) {
             Ok(count) => text::are_corners(text, list, count),
@@ -67,7 +71,9 @@ impl Trial for Merging {
 
 // The text's length, behind the file's two lengths and its bytes.
 fn text_length(case: &[u8]) -> Part {
-    Part::of(case).behind(2).behind_bytes(Part::of(case).word(1))
+    Part::of(case)
+        .behind(2)
+        .behind_bytes(Part::of(case).word(1))
 }
 
 // Flips a bit of the byte at a place, where n things are judged.

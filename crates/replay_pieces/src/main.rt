@@ -20,7 +20,13 @@ fn main(rt: HostRuntime) -> io::Result<()> {
     replay::replay(&rt, "solve.bin", &mut case, MOST, &mut solving::Solve)?;
     replay::replay(&rt, "blend.bin", &mut case, MOST, &mut moving::Blend)?;
     replay::replay(&rt, "newton.bin", &mut case, MOST, &mut moving::Newton)?;
-    replay::replay(&rt, "sensitivity.bin", &mut case, MOST, &mut moving::Sensitivity)?;
+    replay::replay(
+        &rt,
+        "sensitivity.bin",
+        &mut case,
+        MOST,
+        &mut moving::Sensitivity,
+    )?;
     replay::replay(&rt, "covariance.bin", &mut case, MOST, &mut fitting::Spread)?;
     replay::replay(&rt, "fit.bin", &mut case, MOST, &mut fitting::Fit)
 }

@@ -55,7 +55,12 @@ impl Trial for Patch {
         number == settings.word(42)
             && replay::counts(number, settings.word(45), width)
             && replay::counts(number, settings.word(46), height)
-            && replay::stands(settings.behind(47), values(number, out.len()), Fill::Paint, out)
+            && replay::stands(
+                settings.behind(47),
+                values(number, out.len()),
+                Fill::Paint,
+                out,
+            )
     }
 }
 

@@ -95,5 +95,8 @@ fn print_faults<W: Write>(errors: &mut W, faults: &[u16]) -> io::Result<()> {
 }
 
 fn print_usage<W: Write>(errors: &mut W) -> io::Result<()> {
-    writeln!(errors, "usage: salvage-print WIDTH HEIGHT, both in decimal digits")
+    writeln!(
+        errors,
+        "usage: salvage-print WIDTH HEIGHT, both in decimal digits"
+    )
 }
