@@ -65,7 +65,13 @@ pub fn fit_four<S: Sample>(
 }
 
 // The same where some more samples than its own lie behind each row.
-fn fit_rows<S: Sample>(view: ImageView<S>, columns: &Columns, at: Firsts, out: &mut [f32], to: usize)
+fn fit_rows<S: Sample>(
+    view: ImageView<S>,
+    columns: &Columns,
+    at: Firsts,
+    out: &mut [f32],
+    to: usize,
+)
     requires out_len { (length out.old ≡ 40) × (to ≤ 20) }
     requires patches_inside { PatchesInside (length view.data.now) view.pitch columns.now.radius at }
     requires reaches { Reaches (length view.data.now) view.pitch columns.now.radius at }

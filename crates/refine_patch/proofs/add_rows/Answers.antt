@@ -1,6 +1,5 @@
 -- `refine_patch::add_rows` meets its contract: the sums keep their four lanes.
 use mathlib.Core.Path.{ap}
-use native.Mathlib.Omega.{arith}
 use lib.ListN.{length}
 use Rattle.refine_patch.proofs.LaneLaws.{row-lanes}
 use Rattle.refine_patch.proofs.add_rows.Goals as goal

@@ -1,11 +1,10 @@
 -- `refine_patch::gather_rows` meets its contract. After j turns the row has j rows of each patch.
-use mathlib.Core.Path.{ap, ◌∙◌, subst}
-use mathlib.Core.List.{List}
-use Prim.Native.Nat.{ℕ, ◌*◌}
+use mathlib.Core.Path.{subst}
+use Prim.Native.Nat.{◌*◌}
 use native.Mathlib.Omega.{arith}
 use Rattle.refine_operator.specs.Basis as Basis
 use Rattle.refine_patch.specs.declared.Firsts.{Firsts}
-use Rattle.refine_patch.specs.StepsFour.{moved_by, Gathered}
+use Rattle.refine_patch.specs.StepsFour.{Gathered}
 use Rattle.refine_patch.proofs.RowLaws.{rows_more, wide-least}
 use Rattle.refine_patch.proofs.gather_rows.Goals as goal
 

@@ -1,11 +1,11 @@
 -- `refine_patch::sum_rows` meets its contract. After some rows the sums have these rows' samples.
-use mathlib.Core.Path.{◌≡◌, refl, sym, ap, ◌∙◌, subst}
-use Prim.Native.Nat.{ℕ, ◌+◌, ◌-◌, ◌*◌, ◌≤◌}
+use mathlib.Core.Path.{◌≡◌, refl, sym, ap, subst}
+use Prim.Native.Nat.{◌+◌, ◌-◌, ◌*◌, ◌≤◌}
 use native.Mathlib.Omega.{arith}
 use lib.ListN.{length}
 use Rattle.refine_operator.specs.Basis as Basis
 use Rattle.refine_patch.specs.declared.Firsts.{Firsts}
-use Rattle.refine_patch.specs.StepsFour.{moved_by, RowsReach, Rows}
+use Rattle.refine_patch.specs.StepsFour.{RowsReach, Rows}
 use Rattle.refine_patch.proofs.RowLaws.{sums_none, rows-done, all-rows, rows-reach, rows_few, rows-numbered, row-begins, row_below, lesser-of}
 use Rattle.refine_patch.proofs.LaneLaws.{lanes-after}
 use Rattle.refine_patch.proofs.sum_rows.Goals as goal

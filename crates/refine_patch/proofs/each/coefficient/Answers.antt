@@ -1,8 +1,7 @@
 -- `refine_patch::each::coefficient` meets its contract. After k turns the sum has k samples.
-use mathlib.Core.Path.{◌≡◌, sym, ap, ◌∙◌, subst}
-use Prim.Native.Nat.{ℕ, ◌+◌, ◌*◌, ◌/◌, ◌%◌, ◌<◌}
+use mathlib.Core.Path.{◌≡◌}
 use native.Mathlib.Omega.{arith}
-use lib.ListN.{length, get_or}
+use lib.ListN.{length}
 use lib.Ieee.{of_bits}
 use Rattle.refine_operator.specs.Basis as Basis
 use Rattle.refine_patch.proofs.RowLaws.{sample-inside, samples-most, terms-none, term-more, terms-all}
