@@ -9,7 +9,8 @@ pub fn is_refused(text: &[u8], refusal: Refusal) -> bool {
 
 // It is a line a corner, and a line of `total` and the count.
 pub fn are_corners(text: &[u8], list: &[f32], count: usize) -> bool {
-    let Some(corners) = list.get(..3 * count) else {
+    let (records, _) = list.as_chunks::<3>();
+    let Some(corners) = records.get(..count) else {
         return false;
     };
     match behind_corners(text, corners) {
@@ -19,10 +20,9 @@ pub fn are_corners(text: &[u8], list: &[f32], count: usize) -> bool {
 }
 
 // What follows the lines of the corners, if they are the stored ones.
-fn behind_corners<'a>(text: &'a [u8], corners: &[f32]) -> Option<&'a [u8]> {
+fn behind_corners<'a>(text: &'a [u8], corners: &[[f32; 3]]) -> Option<&'a [u8]> {
     let mut rest = text;
-    let (records, _) = corners.as_chunks::<3>();
-    for [x, y, strength] in records {
+    for [x, y, strength] in corners {
         rest = behind_number(rest, *x, b' ')?;
         rest = behind_number(rest, *y, b' ')?;
         rest = behind_number(rest, *strength, b'\n')?;
