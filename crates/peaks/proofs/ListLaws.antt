@@ -17,10 +17,6 @@ use Rattle.peaks.proofs.PeakLaws.{lt-or-le}
 abbrev one : Bool → ℕ → List ℕ
 one b k = cond b (k ∷ []) []
 
-one-length : (b : Bool) (k : ℕ) → length (one b k) ≡ cond b 1 0
-one-length true k = refl
-one-length false k = refl
-
 grown : (l : List ℕ) (b : Bool) (k n : ℕ) → length l ≤ n → length (l ++ one b k) ≤ suc n
 grown l true k n h = omega (arith, length-append l (k ∷ []))
 grown l false k n h = omega (arith, length-append l [])

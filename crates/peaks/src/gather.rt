@@ -18,21 +18,23 @@ impl Response<'_> {
         requires one_after { from + n + 1 ≤ length self.now.values.now }
         ensures { list.new ≡ list.old ++ between from n (stands_out self.now.values.now (floor_of (scan_of self.now))) }
     {
+        // A copy, whose fields a write to a list cannot change: they stay in registers.
+        let here = *self;
         let floor = self.floor();
         let whole = n / 8;
         let mut groups = Listed::<32>::new();
-        groups.add(0, whole, |g| self.any_of_eight(floor, from + 8 * g));
+        groups.add(0, whole, |g| here.any_of_eight(floor, from + 8 * g));
         for j in 0..groups.len() {
-            list.add(from + 8 * groups.at(j), 8, |k| self.stands_out(floor, k));
+            list.add(from + 8 * groups.at(j), 8, |k| here.stands_out(floor, k));
         }
         list.add(
             from + 8 * whole,
             n - 8 * whole,
-            |k| self.stands_out(floor, k),
+            |k| here.stands_out(floor, k),
         );
     }
 
-    // Whether one of the eight values from `at` on is above the floor.
+    // Whether one of the eight values from `at` on is above the floor: written out, since a loop would branch.
     #[tactic(auto, unfolding(shapes::specs::Tests::some))]
     fn any_of_eight(&self, floor: f32, at: usize) -> bool
         requires { at + 8 ≤ length self.now.values.now }

@@ -69,7 +69,7 @@ impl Response<'_> {
         }
     }
 
-    // Lists the first peaks, up to 1,024. Answers the pixel from which to go on.
+    // Lists the first peaks, up to 1,024. Answers the pixel from which to go on. A `while`, here and below: each part says where the next begins.
     fn note(&self, list: &mut Listed<1280>) -> usize
         requires { list.old ≡ [] }
         ensures { Noted (scan_of self.now) list.new result }
@@ -168,8 +168,10 @@ impl Response<'_> {
         }
         let before = list.len();
         self.gather(row + start, n, list);
-        list.retain(before, |k| self.beats_six(k));
-        list.retain(before, |k| self.is_peak(k - row, y));
+        // A copy, whose fields a write to the list cannot change: they stay in registers.
+        let here = *self;
+        list.retain(before, |k| here.beats_six(k));
+        list.retain(before, |k| here.is_peak(k - row, y));
     }
 
     // Whether the pixel (x, y), inside the border, is a peak. The rest of its window is read only where it beats all on its right.

@@ -12,7 +12,7 @@ use lib.ListN.{length, drop, replicate}
 use lib.Seq.{take_at, take_all}
 use lib.Ieee.{Float}
 use lib.Ieee.Scale.{finite}
-use Rattle.std.specs.Prelude.{Ok}
+use Rattle.std.specs.Prelude.{Result, Ok}
 use Rattle.shapes.proofs.ListLaws.{length-tabulated}
 use Rattle.shapes.specs.Numbers.{plus_zero}
 use Rattle.refusals.specs.declared.Refusal.{Refusal}
@@ -26,13 +26,11 @@ use Rattle.response.specs.Region.{Region, clamped, is_empty, width_of, height_of
 use Rattle.response.specs.Demand.{PixelsBelow, DemandThree}
 use Rattle.response.specs.Call as R
 use Rattle.response.proofs.DemandThree.{bytes-keep}
-use Rattle.peaks.specs.declared.Peaks.TheVariants.{Found}
 use Rattle.peaks.specs.Peak.{Scan}
 use Rattle.peaks.specs.Call as P
 use Rattle.peaks.proofs.ChosenLaws.{records-length}
 use Rattle.refine_formulas.specs.declared.SaddlePointConfig.{SaddlePointConfig}
 use Rattle.refine_seed.specs.Refine.{good_limits}
-use Rattle.refine_list.specs.declared.Refinements.TheVariants.{Refined}
 use Rattle.refine_list.specs.Refining as L
 use Rattle.merge.specs.Call as M
 use Rattle.merge.specs.Claims.{Source}
@@ -91,7 +89,7 @@ module _ {img : Image} {ring : List ℤ} {radius : ℕ} {out : List Float} {widt
   keeps b = bytes-keep img ring radius (whole img) (whole img) out (Ok (record { width = width; height = height })) values b d responds
 
 -- ---- the peaks: each record is that of a pixel
-module _ {s : Scan} {out : List Float} {n : ℕ} {out' : List Float} (d : P.Done s out (Found n) out') where
+module _ {s : Scan} {out : List Float} {n : ℕ} {out' : List Float} (d : P.Done s out (Ok n) out') where
   peak-tests : Goes P.refused (P.found (P.peaks_of s)) (P.way_of s (length out))
   unfolding P.way_of
   peak-tests =
@@ -113,7 +111,7 @@ module _ {s : Scan} {out : List Float} {n : ℕ} {out' : List Float} (d : P.Done
       l = P.peaks_of s
 
       count : n ≡ length l
-      count = let e : Found n ≡ Found (length l) = d.answers ∙ ap P.answer_of scans in cc
+      count = let e : ◌≡◌ {A = Result ℕ Refusal} (Ok n) (Ok (length l)) = d.answers ∙ ap P.answer_of scans in cc
 
       front : records n out' ≡ P.records_of s l
       front =
@@ -121,7 +119,7 @@ module _ {s : Scan} {out : List Float} {n : ℕ} {out' : List Float} (d : P.Done
           ∙ take_at (P.records_of s l) (drop (3 * length l) out) (3 * n) (records-length s l ∙ ap (λ (k : ℕ). 3 * k) (sym count))
 
 -- ---- refining: each record is that of a seed
-module _ {img : Image} {cfg : SaddlePointConfig} {corners out : List Float} {m : ℕ} {out' : List Float} (d : L.Done img cfg corners out (Refined m) out') where
+module _ {img : Image} {cfg : SaddlePointConfig} {corners out : List Float} {m : ℕ} {out' : List Float} (d : L.Done img cfg corners out (Ok m) out') where
   abbrev recs : List Float
   recs = L.records_of img cfg corners (length corners / 3)
 
@@ -147,7 +145,7 @@ module _ {img : Image} {cfg : SaddlePointConfig} {corners out : List Float} {m :
       kept = refined-records img cfg corners (length corners / 3) (omega arith)
 
       count : m ≡ length recs / 3
-      count = let e : Refined m ≡ Refined (length recs / 3) = d.answers ∙ ap L.answer_of refines in cc
+      count = let e : ◌≡◌ {A = Result ℕ Refusal} (Ok m) (Ok (length recs / 3)) = d.answers ∙ ap L.answer_of refines in cc
 
       front : records m out' ≡ recs
       front =

@@ -10,8 +10,9 @@ use Rattle.floats.specs.Magnitude.{magnitude}
 use Rattle.floats.specs.Whole.{floor, round_away}
 use Rattle.floats.specs.Root.{sqrt}
 use Rattle.pixel_response.specs.Samples.{gain, loss, response_of}
-use Rattle.refine_formulas.specs.declared.Solved.{Solved}
-use Rattle.refine_formulas.specs.declared.Solved.TheVariants.{Refused, Saddle}
+use Rattle.std.specs.Prelude.{Result, Ok, Err}
+use Rattle.refine_formulas.specs.declared.PatchSaddle.{PatchSaddle}
+use Rattle.refine_formulas.specs.declared.Unsolved.{Unsolved}
 use Rattle.refine_formulas.specs.Solve.{solve, score_of}
 use Rattle.refine_seed.specs.Refine.{flaw_number}
 use Rattle.merge.specs.Meets.{near, neighbours, box_of}
@@ -57,9 +58,9 @@ pub data Row : Type 0 where
 abbrev response_at : (ℕ → ℕ) → (ℕ → ℕ) → Row
 response_at s c = response (sub_ℕ (gain s) (loss s c)) (bits (response_of s c))
 
-abbrev told : Solved → Row
-told (Refused flaw det) = refused (flaw_number flaw) (bits det)
-told (Saddle f) = saddle (bits f.ux) (bits f.uy) (bits (score_of f))
+abbrev told : Result PatchSaddle Unsolved → Row
+told (Err u) = refused (flaw_number u.flaw) (bits u.det_h)
+told (Ok f) = saddle (bits f.ux) (bits f.uy) (bits (score_of f))
 
 -- coefficients that are whole numbers, thresholds 0
 abbrev solved_at : List ℤ → Row

@@ -16,7 +16,7 @@ use Rattle.peaks.specs.Peak.{Scan, value_at, is_peak}
 use Rattle.peaks.specs.Call as P
 use Rattle.refine_formulas.specs.declared.SaddlePointConfig.{SaddlePointConfig}
 use Rattle.refine_seed.specs.declared.Spot.{Spot}
-use Rattle.refine_seed.specs.declared.Spot.TheVariants.{At, Nowhere}
+use Rattle.std.specs.Prelude.{Option, Some, None}
 use Rattle.refine_list.specs.Refining as L
 
 -- ---- whole records, each of which has P
@@ -64,14 +64,14 @@ module _ (s : Scan) where
 pub record Moved (img : Image) (cfg : SaddlePointConfig) (corners : List Float) (c : Corner) : Type 0 where
   pub seed : ℕ
   pub within : seed < length corners / 3
-  pub moved : L.spot_for img cfg corners seed ≡ At c.x c.y
+  pub moved : L.spot_for img cfg corners seed ≡ Some (record { x = c.x; y = c.y })
   pub strength : c.strength ≡ (corner_at (corners_of corners) seed).strength
 
 module _ (img : Image) (cfg : SaddlePointConfig) (corners : List Float) where
-  written : (n : ℕ) → n < length corners / 3 → (p : Spot) → L.spot_for img cfg corners n ≡ p → Each (Moved img cfg corners) (L.record_of p (entry corners (3 * n + 2)))
-  written n h (At x y) e =
+  written : (n : ℕ) → n < length corners / 3 → (p : Option Spot) → L.spot_for img cfg corners n ≡ p → Each (Moved img cfg corners) (L.record_of p (entry corners (3 * n + 2)))
+  written n h (Some spot) e =
       one (record { seed = n; within = h; moved = e; strength = sym (ap (λ (c : Corner). c.strength) (corner-at corners n nan (omega arith))) }) none
-  written n h Nowhere e = none
+  written n h None e = none
 
   pub refined-records : (n : ℕ) → n ≤ length corners / 3 → Each (Moved img cfg corners) (L.records_of img cfg corners n)
   unfolding L.records_by

@@ -23,10 +23,9 @@ use Rattle.refine_seed.specs.PixelSlope.{slope_at}
 use Rattle.refine_seed.specs.Run.{run_of}
 use Rattle.refine_formulas.specs.Covariance.{covariance_of}
 use Rattle.refine_formulas.specs.declared.Covariance.{Covariance}
-use Rattle.refine_formulas.specs.declared.Covariance.TheVariants.{Known, Unknown}
-use Rattle.refine_seed.specs.declared.Refined.{Refined}
-use Rattle.refine_seed.specs.declared.Refined.TheVariants.{Accepted, Unmoved, Refused}
-use Rattle.refine_seed.specs.Refine.{refine_of, number_of}
+use Rattle.std.specs.Prelude.{Option, Some, None, Ok, Err}
+use Rattle.refine_seed.specs.declared.Unrefined.TheVariants.{Unmoved, Refused}
+use Rattle.refine_seed.specs.Refine.{Refined, refine_of, number_of}
 
 abbrev f32 : ℕ → Float
 f32 b = of_bits binary32 b
@@ -37,14 +36,14 @@ b32 x = to_bits binary32 x
 abbrev flag : Bool → ℕ
 flag b = cond b 1 0
 
-abbrev cov : Covariance → List ℕ
-cov Unknown = 0 ∷ 0 ∷ 0 ∷ 0 ∷ []
-cov (Known xx xy yy) = 1 ∷ b32 xx ∷ b32 xy ∷ b32 yy ∷ []
+abbrev cov : Option Covariance → List ℕ
+cov None = 0 ∷ 0 ∷ 0 ∷ 0 ∷ []
+cov (Some v) = 1 ∷ b32 v.xx ∷ b32 v.xy ∷ b32 v.yy ∷ []
 
 abbrev rest : Refined → List ℕ
-rest (Accepted e) = b32 e.x ∷ b32 e.y ∷ b32 e.score ∷ flag e.converged ∷ e.tries ∷ cov e.covariance
-rest (Unmoved why score) = b32 score ∷ []
-rest (Refused r) = []
+rest (Ok e) = b32 e.x ∷ b32 e.y ∷ b32 e.score ∷ flag e.converged ∷ e.tries ∷ cov e.covariance
+rest (Err (Unmoved why score)) = b32 score ∷ []
+rest (Err (Refused r)) = []
 
 abbrev shown : List ℕ → ℕ → ℕ → ℕ → ℕ → ℕ → ℕ → Bool → ℕ → ℕ → List ℕ
 shown s w h r dm mo md c x y =

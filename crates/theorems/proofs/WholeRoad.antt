@@ -18,7 +18,8 @@ use Rattle.pixel_response.specs.Near.{Near}
 use Rattle.peaks.specs.Peak.{Scan, is_peak}
 use Rattle.peaks.proofs.PeakLaws.{lt-or-le}
 use Rattle.peaks.proofs.Theorems.{is-inside, above_zero}
-use Rattle.refine_seed.specs.declared.Spot.TheVariants.{At}
+use Rattle.std.specs.Prelude.{Option, Some}
+use Rattle.refine_seed.specs.declared.Spot.{Spot}
 use Rattle.board.specs.Call as B
 use Rattle.board_theorems.specs.Claims.{Assigned}
 use Rattle.board_theorems.proofs.Theorems.{accepted-exactly}
@@ -36,6 +37,12 @@ positive_of {P} {v} {plus} {minus} n h = by (lt-or-le minus plus)
     by (inl l) = l
     by (inr l) = ⊎_elim (λ e. absurd (false≢true (sym (lt_irrefl plus_zero) ∙ sym (ap (λ (w : Float). lt plus_zero w) (n.none e)) ∙ h)))
         (λ k. absurd (false≢true (sym (lt-asym v plus_zero (n.below k)) ∙ h))) (eq-or-lt_of_le l)
+
+abbrev spot_at : Corner → Spot
+spot_at c = record { x = c.x; y = c.y }
+
+abbrev placed : Corner → Option Spot
+placed c = Some (spot_at c)
 
 in-front : (n : ℕ) (l : List Float) → length (records n l) / 3 ≤ n
 in-front n l = omega (arith, length-take (3 * n) l, min-le_left (3 * n) (length l))
@@ -89,7 +96,7 @@ module _ (s : Settings) (img : Image) (left : Left) (road : Road s img left) whe
           same = again.same;
           seed = origin.seed;
           seeded = omega (arith, origin.within, in-front left.peaks left.scanned);
-          moved = origin.moved ∙ ap (λ (c : Corner). At c.x c.y) (sym again.same);
+          moved = origin.moved ∙ ap placed (sym again.same);
           x = pixel.x;
           y = pixel.y;
           peak = pixel.peak;

@@ -2,7 +2,7 @@
 -- of the answers where the last of them is accepted. The proof is in proofs/WholeRoad.antt.
 -- Which fault is shut out where: response and peaks, that a corner starts from a pixel without a cross-like mark (N of its pixel is above zero); refining, that it comes
 -- from anywhere but such a pixel; merging, that it is averaged or made up (it is one of the refined list, bit for bit); tying, that one is missing or serves two places.
-use Rattle.std.specs.Prelude.{◌≡◌, true, List, ℕ, ◌*◌, ◌<◌, ℤ, pos, get_or, take, Float, Ok}
+use Rattle.std.specs.Prelude.{◌≡◌, true, List, ℕ, ◌*◌, ◌<◌, ℤ, pos, get_or, take, Float, Ok, Some}
 use Rattle.std.specs.Float.{binary32}
 use Rattle.std.specs.Float.Ieee.{of_int}
 use Rattle.imageview.specs.Image.{Image}
@@ -11,14 +11,11 @@ use Rattle.corners.specs.Corners.{corners_of, corner_at}
 use Rattle.corners.specs.Corners as C
 use Rattle.response.specs.Call as R
 use Rattle.response.specs.Demand.{PixelsBelow}
-use Rattle.peaks.specs.declared.Peaks.TheVariants.{Found}
 use Rattle.peaks.specs.Peak.{Scan, value_at, is_peak}
 use Rattle.peaks.specs.Call as P
 use Rattle.refine_formulas.specs.declared.SaddlePointConfig.{SaddlePointConfig}
-use Rattle.refine_list.specs.declared.Refinements.TheVariants.{Refined}
 use Rattle.refine_list.specs.Refining.{spot_for}
 use Rattle.refine_list.specs.Refining as L
-use Rattle.refine_seed.specs.declared.Spot.TheVariants.{At}
 use Rattle.merge.specs.Call as M
 use Rattle.board.specs.Call as B
 use Rattle.board_theorems.specs.Claims.{Serves}
@@ -66,9 +63,9 @@ pub record Road (s : Settings) (img : Image) (left : Left) : Type 0 where
   pub height : ℕ
   pub responded : R.Done img s.ring s.radius (whole img) out (Ok (record { width = width; height = height })) left.values
   pub peaks_out : List Float
-  pub peaked : P.Done (scan_of s img left.values) peaks_out (Found left.peaks) left.scanned
+  pub peaked : P.Done (scan_of s img left.values) peaks_out (Ok left.peaks) left.scanned
   pub refine_out : List Float
-  pub refining : L.Done img s.fit (records left.peaks left.scanned) refine_out (Refined left.refined) left.moved
+  pub refining : L.Done img s.fit (records left.peaks left.scanned) refine_out (Ok left.refined) left.moved
   pub heads : List ℕ
   pub heads' : List ℕ
   pub links : List ℕ
@@ -93,7 +90,7 @@ pub record Traced (s : Settings) (img : Image) (left : Left) (k : ℕ) : Type 0 
   -- it was refined from a peak, which stands on its pixel
   pub seed : ℕ
   pub seeded : seed < left.peaks
-  pub moved : spot_for img s.fit (records left.peaks left.scanned) seed ≡ At (given left k).x (given left k).y
+  pub moved : spot_for img s.fit (records left.peaks left.scanned) seed ≡ Some (record { x = (given left k).x; y = (given left k).y })
   pub x : ℕ
   pub y : ℕ
   pub peak : is_peak (scan_of s img left.values) x y ≡ true
