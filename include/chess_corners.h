@@ -21,8 +21,9 @@
  *
  * Places are in pixels: (0, 0) is the centre of the first pixel, x goes right and y down, so the image reaches from -0.5 to width - 0.5.
  * Strengths and thresholds are those of the response, sums of grey levels. All floats are IEEE 754 binary32, in memory and in every
- * operation, to nearest with ties to even; a NaN that a call works out has the bits 7FC00000, what is copied keeps its bits. The caller's
- * environment must be the default one: that rounding, subnormals kept (neither flushed nor taken for zero), no traps.
+ * operation, to nearest with ties to even; a NaN that a call works out can have any NaN's bits (7FC00000 and FFC00000 both occur), what is
+ * copied keeps its bits. The caller's environment must be the default one: that rounding, subnormals kept (neither flushed nor taken for
+ * zero), no traps.
  * Symbols that the archive needs: memset and memcpy. It has no others, no constructors and no writable data.
  *
  * Stack in bytes, on x86-64, as compiled for release, all that a call calls included, the greater of what was counted and what was painted
