@@ -78,13 +78,12 @@ fn is_right(stored: Part, number: u32, columns: &[f32], overlap: &[f32]) -> bool
     let (built, n) = match number {
         0 => (1, numbers_of(stored.number(2))),
         3 => (0, 0),
-        // No other number is stored.
-        _ => return false,
+        _ => (2, 0),
     };
     if stored.word(1) != built {
         return false;
     }
-    if built == 0 {
+    if number != 0 {
         return replay::stands(stored, 0, Fill::Paint, columns)
             && replay::stands(stored, 0, Fill::Paint, overlap);
     }
