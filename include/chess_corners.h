@@ -27,9 +27,9 @@
  * Symbols that the archive needs: memset and memcpy. It has no others, no constructors and no writable data.
  *
  * Stack in bytes, on x86-64, as compiled for release, all that a call calls included, the greater of what was counted and what was painted
- * (docs/SPEED.md), for either depth: response 1,624, peaks 5,721, fit_operator 2,224, refine 7,544, refine_with 2,984, refine_list 7,352,
- * refine_list_fallback_with 2,984, merge 240, tie 2,016, graymap 136 and 232, salvage 90, coverage 56 to 88, gradient 305;
- * refine_list_fallback 12,392, more than
+ * (docs/SPEED.md), of words where the depths differ: response 1,344, peaks 5,737, fit_operator 2,224, refine 7,320, refine_with 2,616,
+ * refine_list 6,904, refine_list_fallback_with 2,552, merge 288, merge_heads 96, tie 2,032, graymap 152 and 232, salvage 82,
+ * coverage 56 to 88, gradient 496; refine_list_fallback 11,576, more than
  * any other, since it builds two operators. No call recurses. Scratch: only the merge asks for any, heads and links.
  *
  * Numbers:
