@@ -5,6 +5,7 @@
 use salvage::Saved;
 use salvage_text::{Counts, Dropped, Refused};
 use std::env::{Env, FillError};
+use std::io::Write;
 use std::process::ExitCode;
 use std::{fmt, io};
 
@@ -29,7 +30,7 @@ impl fmt::Display for Failure {
 fn main(rt: HostRuntime) -> ExitCode {
     let told = match sizes(&rt) {
         Some((width, height)) => run(&rt, width, height),
-        None => print_usage(&rt).map_err(Failure::Errors),
+        None => print_usage(&mut rt.stderr()).map_err(Failure::Errors),
     };
     match told {
         Ok(()) => ExitCode::SUCCESS,
@@ -66,30 +67,44 @@ fn run(rt: &HostRuntime, width: usize, height: usize) -> Result<(), Failure> {
     let mut file = [0u8; 49164];
     let mut out = [0u8; 49152];
     let mut faults = [0u16; 8194];
+    let errors = &mut rt.stderr();
     let n = input::read_input(&mut rt.reader(), &mut file).map_err(Failure::Input)?;
     match salvage::salvage_corners(&file[..n], width, height, &mut out, &mut faults) {
         Ok(Saved { kept, dropped }) => {
             rt.write_all(&out[..12 * kept]).map_err(Failure::Output)?;
-            print_faults(rt, &faults[..2 * dropped]).map_err(Failure::Errors)?;
-            eprint!(rt; "{}", Counts { kept, dropped }).map_err(Failure::Errors)
+            print_faults(errors, &faults[..2 * dropped]).map_err(Failure::Errors)?;
+            print_line(errors, Counts { kept, dropped }).map_err(Failure::Errors)
         }
-        Err(refusal) => eprint!(rt; "{}", Refused(u32::from(refusal))).map_err(Failure::Errors),
+        Err(refusal) => print_line(errors, Refused(u32::from(refusal))).map_err(Failure::Errors),
     }
 }
 
-// A line for each pair, each in one write: `write!` to the stream itself would take one a part of the line.
-fn print_faults(rt: &impl Eprint, faults: &[u16]) -> io::Result<()> {
+// A line for each pair.
+fn print_faults<W: Write>(errors: &mut W, faults: &[u16]) -> io::Result<()> {
     let (pairs, _) = faults.as_chunks::<2>();
     for [number, fault] in pairs {
         let dropped = Dropped {
             number: *number,
             fault: *fault,
         };
-        eprint!(rt; "{dropped}")?;
+        print_line(errors, dropped)?;
     }
     Ok(())
 }
 
-fn print_usage(rt: &impl Eprint) -> io::Result<()> {
-    eprintln!(rt; "usage: salvage-print WIDTH HEIGHT, both in decimal digits")
+// A line in one write: it is put together first, for `write!` to the stream itself takes a write for each part of it.
+fn print_line<W: Write, D: fmt::Display + Drop>(errors: &mut W, line: D) -> io::Result<()> {
+    let mut text = [0u8; 64];
+    let mut room = &mut text[..];
+    write!(room, "{line}")?;
+    let left = room.len();
+    let n = text.len().saturating_sub(left);
+    errors.write_all(&text[..n])
+}
+
+fn print_usage<W: Write>(errors: &mut W) -> io::Result<()> {
+    writeln!(
+        errors,
+        "usage: salvage-print WIDTH HEIGHT, both in decimal digits"
+    )
 }
