@@ -84,7 +84,7 @@ impl Nearby {
     {
         let seed = task.seed;
         let w = place::window_at(seed.centre_x, seed.centre_y, ox, oy);
-        let to = self.bases.ready(
+        let to = self.bases.ready_with(
             &mut self.kept,
             task.image,
             w.base,
