@@ -92,7 +92,7 @@ impl Nearby {
             &mut self.flat,
         )?;
         let corners = laid::corners_at(&self.flat, to);
-        let fit = tries::candidate(task.cfg, seed, fit, ox, oy, corners, w.tx, w.ty)?;
+        let fit = tries::candidate(task.cfg, seed, fit, ox, oy, Some(corners), w.tx, w.ty)?;
         Some(Taken {
             ox,
             oy,
