@@ -74,13 +74,14 @@ fn open_fresh<S: Sample>(
     open_seed(image, &columns, cfg, seed)
 }
 
-// The estimate, with the overlaps of the settings' radius where a covariance is wanted.
+// The estimate, with the overlaps of the settings' radius where a covariance is wanted and there is one.
 #[inline(never)]
 fn close_fresh(opened: Opened, cfg: SaddlePointConfig, wanted: bool) -> Result<Estimate, Unrefined>
     ensures { ClosesFresh cfg wanted opened result }
 {
     let mut overlap = [0.0f32; 225];
-    if wanted {
+    // a run that did not converge has no covariance, so no overlap is read
+    if wanted & opened.noise.is_some() {
         refine_operator::fit_overlap(cfg.radius, &mut overlap)?;
     }
     Ok(closing::closed(opened, &overlap, wanted))
