@@ -5,7 +5,7 @@ ghost use Rattle.refine_fits.specs.StepsAdding.{added, row_added, PatchWithin, F
 ghost use Rattle.refine_fits.specs.StepsBases.{first_place, Laid};
 
 use super::{Base, Sums};
-use imageview::{Image, Sample};
+use imageview::{Image, ImageView, Sample};
 use refine_patch::{Columns, Firsts};
 
 // The sums with the sample k, which is z above the centre's.
@@ -59,13 +59,14 @@ pub fn fit_patch<S: Sample>(image: &Image<S>, x: usize, y: usize, columns: &Colu
     [sums.a, sums.b, sums.c, sums.d, sums.e]
 }
 
-// Where the patch about (x, y) begins in the image's samples.
-pub fn first_place<S: Sample>(image: &Image<S>, x: u16, y: u16, radius: usize) -> usize
+// Where the patch about (x, y) begins in a view's samples; the pitch alone decides it.
+pub fn first_place<S: Sample>(view: ImageView<S>, x: u16, y: u16, radius: usize) -> usize
     requires left { radius ≤ x }
     requires above { radius ≤ y }
-    ensures { result ≡ first_place image.now.pitch radius x y }
+    requires pitch { view.pitch ≤ 8192 }
+    ensures { result ≡ first_place view.entry.pitch radius x y }
 {
-    (usize::from(y) - radius) * image.pitch() + (usize::from(x) - radius)
+    (usize::from(y) - radius) * view.pitch + (usize::from(x) - radius)
 }
 
 // The four fits about a base, to `flat` from `to` on.
@@ -83,7 +84,7 @@ pub fn fit_about<S: Sample>(
 {
     let view = image.view();
     let pitch = view.pitch;
-    let at = first_place(image, base.x, base.y, columns.radius);
+    let at = first_place(view, base.x, base.y, columns.radius);
     let firsts = Firsts {
         a: at,
         b: at + 1,

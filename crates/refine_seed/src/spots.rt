@@ -45,7 +45,7 @@ pub fn first_place<S: Sample>(image: &Image<S>, radius: usize, x: f32, y: f32) -
 {
     let placed = entry::place_seed(image, radius, x, y);
     match placed {
-        Ok(seed) => fits::first_place(image, seed.centre_x, seed.centre_y, radius),
+        Ok(seed) => fits::first_place(image.view(), seed.centre_x, seed.centre_y, radius),
         Err(_) => 0,
     }
 }
