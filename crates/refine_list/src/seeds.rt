@@ -90,7 +90,7 @@ impl Seeds<'_, '_> {
             return 0;
         }
         refine_seed::first_place(
-            image,
+            image.view(),
             self.cfg.radius,
             self.corners[3 * i],
             self.corners[3 * i + 1],
