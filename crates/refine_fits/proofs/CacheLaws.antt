@@ -3,7 +3,7 @@ use mathlib.Core.Path.{◌≡◌, refl, sym, ap, ◌∙◌, subst}
 use mathlib.Core.Logic.{◌⊎◌, ⊎_elim}
 use mathlib.Core.List.{List, [], ◌∷◌}
 use Prim.Native.Nat.{ℕ, ◌+◌, ◌*◌, ◌/◌, ◌%◌, ◌≤◌, ◌<◌}
-use native.Mathlib.Nat.{eq-or-lt_of_le, add-zero}
+use native.Mathlib.Nat.{add_assoc, eq-or-lt_of_le, add-zero}
 use native.Mathlib.Omega.{arith}
 use mathlib.Core.Bool.{Bool, true, false, ◌&&◌, cond}
 use lib.Dec.{T, leb, ltb, eqb, leb→le}
@@ -318,3 +318,32 @@ module _ (img : Image) (columns : List Float) (radius x y : ℕ) where
 pub looked_more : (f : ℕ → List Float) (k : ℕ) (fits : List (List Float)) (fit : List Float) → k < length fits → fit ≡ f k → ((j : ℕ) → j < k → get_or fits j [] ≡ f j) → (j : ℕ) → j < k + 1 → get_or (set fits k fit) j [] ≡ f j
 looked_more f k fits fit h e all j g =
     ⊎_elim (λ q. subst (λ (n : ℕ). get_or (set fits k fit) n [] ≡ f n) (sym q) (get_or-set_same fits k fit [] h ∙ e)) (λ l. get_or-set_other fits k j fit [] (λ q. omega arith) ∙ all j l) (eq-or-lt_of_le (omega arith))
+
+-- where the four look-ups stand after k of them: the fits that were found, in turn, and the cache that the last one left
+module _ (img : Image) (columns : List Float) (radius x y : ℕ) where
+  pub record Looking (fits : IntegerFits) (found : List (List Float)) (k : ℕ) : Type 0 where
+    pub long : length found ≡ 4
+    pub kept : Kept img columns radius fits
+    pub are : (j : ℕ) → j < k → get_or found j [] ≡ about img columns radius x y j
+
+  pub look-next : (fits : IntegerFits) (found : List (List Float)) (k : ℕ) (c : List Float) (next : IntegerFits) → Looking fits found k → k < 4 → c ≡ about img columns radius x y k → Kept img columns radius next → Looking next (set found k c) (k + 1)
+  look-next fits found k c next l h e n = record { long = length-set found k c ∙ l.long; kept = n; are = looked_more (about img columns radius x y) k found c (omega (arith, l.long)) e l.are }
+
+  -- two in a row
+  pub look-row : (fits : IntegerFits) (found : List (List Float)) (k : ℕ) (a : List Float) (between : IntegerFits) (b : List Float) (next : IntegerFits) → Looking fits found k → k % 2 ≡ 0 → k < 4
+      → a ≡ coefficients img columns radius x (y + k / 2) → Kept img columns radius between → b ≡ coefficients img columns radius (x + 1) (y + k / 2) → Kept img columns radius next → Looking next (set (set found k a) (k + 1) b) (k + 2)
+  look-row fits found k a between b next l e h p m q n =
+      subst (Looking next (set (set found k a) (k + 1) b)) (add_assoc k 1 1)
+      (look-next between (set found k a) (k + 1) b next (look-next fits found k a between l h (p ∙ ap (λ (u : ℕ). coefficients img columns radius u (y + k / 2)) (left k e)) m) (low k e h) (q ∙ ap (λ (u : ℕ). coefficients img columns radius u (y + k / 2)) (right k e) ∙ ap (λ (v : ℕ). coefficients img columns radius (x + (k + 1) % 2) v) (row k e)) n)
+    where
+      left : (k : ℕ) → k % 2 ≡ 0 → x ≡ x + k % 2
+      left k e = omega arith
+
+      right : (k : ℕ) → k % 2 ≡ 0 → x + 1 ≡ x + (k + 1) % 2
+      right k e = omega arith
+
+      row : (k : ℕ) → k % 2 ≡ 0 → y + k / 2 ≡ y + (k + 1) / 2
+      row k e = omega arith
+
+      low : (k : ℕ) → k % 2 ≡ 0 → k < 4 → k + 1 < 4
+      low k e h = omega arith

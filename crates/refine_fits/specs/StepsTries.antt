@@ -9,7 +9,7 @@ use Rattle.refine_formulas.specs.declared.Corners.{Corners}
 use Rattle.refine_fits.specs.declared.Window.{Window}
 use Rattle.refine_fits.specs.declared.Seed.{Seed}
 use Rattle.refine_fits.specs.declared.Base.{Base}
-use Rattle.refine_fits.specs.Windows.{WindowPlace, window_place, four}
+use Rattle.refine_fits.specs.Windows.{WindowPlace, window_place, lacking, four}
 use Rattle.refine_fits.specs.Candidate.{task_at, Task, Tried, passed, taken, weighed, candidate}
 
 -- between -1 and 1, and no zero
@@ -40,6 +40,10 @@ tried_by ox oy w c (Some f) = taken (record { ox = ox; oy = oy; place = w; corne
 
 pub record Weighs (cfg : SaddlePointConfig) (seed : Seed) (f : PatchSaddle) (ox oy : Float) (c : Corners) (tx ty : Float) (r : Option PatchSaddle) : Type 0 where
   pub is : (img : Image) (columns : List Float) (w : WindowPlace) → w.tx ≡ tx → w.ty ≡ ty → weighed (task_at img columns cfg seed) f ox oy w (four c) ≡ tried_by ox oy w c r
+
+-- the same of fits that are lacking
+pub record Passes (cfg : SaddlePointConfig) (seed : Seed) (f : PatchSaddle) (ox oy tx ty : Float) (r : Option PatchSaddle) : Type 0 where
+  pub is : (img : Image) (columns : List Float) (w : WindowPlace) → w.tx ≡ tx → w.ty ≡ ty → (c : Corners) → weighed (task_at img columns cfg seed) f ox oy w lacking ≡ tried_by ox oy w c r
 
 -- a candidate's outcome, with the four fits about its window
 pub record Tries (t : Task) (f : PatchSaddle) (ox oy : Float) (c : Corners) (r : Option PatchSaddle) : Type 0 where

@@ -24,8 +24,29 @@ impl Bases {
         }
     }
 
-    // Sees to it that the four fits about a base stand in `flat`, and says where: nowhere, if there is no base or one of the four patches leaves the image.
+    // Sees to it that the four fits about a base stand in `flat`, and says where: nowhere, if there is no base or one of the four patches leaves the image. Those of a further
+    // base are worked out anew; with `ready_with` the kept ones among them are not.
     pub fn ready<S: Sample>(
+        &mut self,
+        image: &Image<S>,
+        base: Option<Base>,
+        columns: &Columns,
+        flat: &mut [f32; 40],
+    ) -> Option<usize>
+        requires small { columns.now.radius ≤ 7 }
+        requires held { Held image.now columns.now.numbers.now columns.now.radius self.old flat.old }
+        ensures stands { Stands image.now columns.now.numbers.now columns.now.radius base result self.new flat.new }
+    {
+        let mut fits = IntegerFits {
+            centres: [0; 18],
+            coefs: [0.0; 45],
+            len: 0,
+        };
+        self.ready_with(&mut fits, image, base, columns, flat)
+    }
+
+    // The same with the fits that are kept: from the third base on they are asked first.
+    pub fn ready_with<S: Sample>(
         &mut self,
         fits: &mut IntegerFits,
         image: &Image<S>,

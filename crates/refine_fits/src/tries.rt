@@ -1,7 +1,7 @@
 // One candidate window: its fit, and whether it is taken.
-ghost use Rattle.std.specs.Prelude.{◌≡◌, ◌&&◌, ◌≤◌, pos};
+ghost use Rattle.std.specs.Prelude.{◌≡◌, ◌&&◌, ◌≤◌, pos, None, IfSome};
 ghost use Rattle.refine_fits.specs.Candidate.{half_side, near_along};
-ghost use Rattle.refine_fits.specs.StepsTries.{Weighs};
+ghost use Rattle.refine_fits.specs.StepsTries.{Weighs, Passes};
 
 use super::Seed;
 use refine_formulas::{Corners, PatchSaddle, SaddlePointConfig, between, solve};
@@ -35,8 +35,8 @@ pub fn near_seed(cfg: SaddlePointConfig, seed: Seed, x: f32, y: f32) -> bool
     near_along(cfg, seed.centre_x, x, seed.x) & near_along(cfg, seed.centre_y, y, seed.y)
 }
 
-// A candidate window at an offset from the centre, with the four fits about it: its saddle, where it is taken in place of the saddle f.
-// Put into its caller, which is made for each width of samples: a call copies the fits.
+// A candidate window at an offset from the centre, with the four fits about it where there is room for them: its saddle, where it is taken in place of the saddle f. Without
+// room it is passed. Put into its caller, which is made for each width of samples: a call copies the fits.
 #[inline(always)]
 pub fn candidate(
     cfg: SaddlePointConfig,
@@ -44,13 +44,15 @@ pub fn candidate(
     f: PatchSaddle,
     ox: f32,
     oy: f32,
-    corners: Corners,
+    corners: Option<Corners>,
     tx: f32,
     ty: f32,
 ) -> Option<PatchSaddle>
     requires { cfg.radius ≤ 7 }
-    ensures { Weighs cfg seed f ox oy corners tx ty result }
+    ensures weighs { IfSome corners (λ c. Weighs cfg seed f ox oy c tx ty result) }
+    ensures passes { corners ≡ None → Passes cfg seed f ox oy tx ty result }
 {
+    let corners = corners?;
     let g = solve::solve(cfg, between::blend(corners, tx, ty)).ok()?;
     if solve::norm2(g) < solve::norm2(f) {
         if near_seed(cfg, seed, ox + g.ux, oy + g.uy) {

@@ -21,7 +21,7 @@ use Rattle.refine_formulas.specs.Numbers.{◌⊕◌, ◌⊖◌, ◌⊗◌}
 use Rattle.refine_patch.specs.declared.Firsts.{Firsts}
 use Rattle.refine_patch.specs.declared.Sums.{Sums}
 use Rattle.refine_patch.specs.StepsFrom.{sample_from, coefficient_from}
-use Rattle.refine_patch.specs.StepsFour.{lane_of, lane_in, sum_in, quad_by, sums_by, moved_by, float_of, level_of, added, row_added, blocks, wide_of, rows_of, FourReach, PatchesInside, Reaches, RowsReach, Gathered, Rows}
+use Rattle.refine_patch.specs.StepsFour.{lane_of, lane_in, sum_in, quad_in, quad_by, sums_by, moved_by, float_of, level_of, added, row_added, blocks, wide_of, rows_of, FourReach, PatchesInside, Reaches, RowsReach, Gathered, Rows}
 use Rattle.refine_patch.specs.StepsRows.{centres_of, term, sums_after}
 use Rattle.refine_patch.proofs.FourLaws.{lt-or-le}
 
@@ -300,6 +300,23 @@ module _ (list : List ℕ) (pitch side : ℕ) (at : Firsts) where
 -- ---- a number that is read four times
 pub number-four : (columns : List Float) (i : ℕ) → ((j l : ℕ) → j < 125 → l < 4 → entry columns (624 + 4 * j + l) ≡ entry columns j) → i < 125 → quad_by (λ l. entry columns (624 + 4 * i + l)) ≡ quad_by (λ l. entry columns i)
 number-four columns i each h = quad-same (λ l. entry columns (624 + 4 * i + l)) (λ l. entry columns i) (λ l q. each i l h q)
+
+-- the sums of a sample, of its five numbers read so
+module _ (columns : List Float) (k : ℕ) (z : List Float) (s : Sums) where
+  -- the sum of one coefficient
+  part : (c : ℕ) (old n r : List Float) → n ≡ quad_by (λ l. entry columns (5 * k + c)) → r ≡ quad_by (λ l. lane_in old l ⊕ lane_in n l ⊗ lane_in z l) → r ≡ quad_by (λ l. lane_in old l ⊕ entry columns (5 * k + c) ⊗ lane_in z l)
+  part c old n r e q = q ∙ ap (λ (v : List Float). quad_by (λ l. lane_in old l ⊕ lane_in v l ⊗ lane_in z l)) e
+
+  pub sample-added : (n0 n1 n2 n3 n4 r0 r1 r2 r3 r4 : List Float)
+      → n0 ≡ quad_by (λ l. entry columns (5 * k + 0)) → n1 ≡ quad_by (λ l. entry columns (5 * k + 1)) → n2 ≡ quad_by (λ l. entry columns (5 * k + 2)) → n3 ≡ quad_by (λ l. entry columns (5 * k + 3)) → n4 ≡ quad_by (λ l. entry columns (5 * k + 4))
+      → r0 ≡ quad_by (λ l. lane_in s.a l ⊕ lane_in n0 l ⊗ lane_in z l) → r1 ≡ quad_by (λ l. lane_in s.b l ⊕ lane_in n1 l ⊗ lane_in z l) → r2 ≡ quad_by (λ l. lane_in s.c l ⊕ lane_in n2 l ⊗ lane_in z l) → r3 ≡ quad_by (λ l. lane_in s.d l ⊕ lane_in n3 l ⊗ lane_in z l) → r4 ≡ quad_by (λ l. lane_in s.e l ⊕ lane_in n4 l ⊗ lane_in z l)
+      → record { a = r0; b = r1; c = r2; d = r3; e = r4 } ≡ added columns k z s
+  sample-added n0 n1 n2 n3 n4 r0 r1 r2 r3 r4 a b c d e p q u v w =
+      ap (λ (x : List Float). record { a = x; b = r1; c = r2; d = r3; e = r4 }) (part 0 s.a n0 r0 a p)
+      ∙ ap (λ (x : List Float). record { a = quad_in (added columns k z s) 0; b = x; c = r2; d = r3; e = r4 }) (part 1 s.b n1 r1 b q)
+      ∙ ap (λ (x : List Float). record { a = quad_in (added columns k z s) 0; b = quad_in (added columns k z s) 1; c = x; d = r3; e = r4 }) (part 2 s.c n2 r2 c u)
+      ∙ ap (λ (x : List Float). record { a = quad_in (added columns k z s) 0; b = quad_in (added columns k z s) 1; c = quad_in (added columns k z s) 2; d = x; e = r4 }) (part 3 s.d n3 r3 d v)
+      ∙ ap (λ (x : List Float). record { a = quad_in (added columns k z s) 0; b = quad_in (added columns k z s) 1; c = quad_in (added columns k z s) 2; d = quad_in (added columns k z s) 3; e = x }) (part 4 s.e n4 r4 e w)
 
 -- ---- the sum of one coefficient of one patch
 module _ (list : List ℕ) (pitch : ℕ) (columns : List Float) (radius first i : ℕ) where

@@ -84,7 +84,7 @@ impl Nearby {
     {
         let seed = task.seed;
         let w = place::window_at(seed.centre_x, seed.centre_y, ox, oy);
-        let to = self.bases.ready(
+        let to = self.bases.ready_with(
             &mut self.kept,
             task.image,
             w.base,
@@ -92,7 +92,7 @@ impl Nearby {
             &mut self.flat,
         )?;
         let corners = laid::corners_at(&self.flat, to);
-        let fit = tries::candidate(task.cfg, seed, fit, ox, oy, corners, w.tx, w.ty)?;
+        let fit = tries::candidate(task.cfg, seed, fit, ox, oy, Some(corners), w.tx, w.ty)?;
         Some(Taken {
             ox,
             oy,

@@ -1,8 +1,8 @@
--- `refine_fits::Bases::ready` meets its contract: without room there are no four fits, and with room all four patches lie in the image.
+-- `refine_fits::Bases::ready_with` meets its contract: without room there are no four fits, and with room all four patches lie in the image.
 use mathlib.Core.Path.{sym, ap, ◌∙◌}
 use Rattle.refine_fits.specs.StepsBases.{corners_about}
 use Rattle.refine_fits.proofs.CacheLaws.{lacks, roomy}
-use Rattle.refine_fits.proofs.Bases.ready.Goals as goal
+use Rattle.refine_fits.proofs.Bases.ready_with.Goals as goal
 
 pub returns-then-not-has_room-clause-stands : goal.returns-then-not-has_room-clause-stands
 returns-then-not-has_room-clause-stands g c =
