@@ -61,7 +61,7 @@ impl Seeds<'_, '_> {
     }
 
     // The first fits of the four seeds of a group, to the front of `flat`. Where no patch fits into the image no seed has one.
-    fn first_fits<S: Sample>(&self, image: &Image<S>, group: usize, flat: &mut [f32; 40])
+    pub fn first_fits<S: Sample>(&self, image: &Image<S>, group: usize, flat: &mut [f32; 40])
         requires ready { Ready image.now self.now.cfg }
         requires long { length flat.old ≡ 40 }
         requires group { 4 * group < length self.now.corners.now / 3 }
@@ -90,7 +90,7 @@ impl Seeds<'_, '_> {
             return 0;
         }
         refine_seed::first_place(
-            image,
+            image.view(),
             self.cfg.radius,
             self.corners[3 * i],
             self.corners[3 * i + 1],

@@ -1,8 +1,8 @@
 -- Two tasks whose fits are the same at every pixel run alike. A fit reads the first columns of an operator and no more, so two operators that agree there refine alike.
 use mathlib.Core.Path.{◌≡◌, refl, sym, ap, ◌∙◌, subst}
-use mathlib.Core.Bool.{Bool, false, cond}
+use mathlib.Core.Bool.{Bool, true, false, ◌&&◌, cond}
 use mathlib.Core.List.{List, [], ◌++◌}
-use Rattle.std.specs.Prelude.{Option, Some, None, Result, Ok, Err}
+use Rattle.std.specs.Prelude.{Option, Some, None, Result, Ok, Err, is_some}
 use Prim.Native.Nat.{ℕ, zero, suc, ◌+◌, ◌*◌, ◌/◌, ◌<◌}
 use native.Mathlib.Omega.{arith}
 use lib.IntN.{ℤ, pos, negsuc, ◌+ℤ◌}
@@ -234,19 +234,24 @@ module _ (img : Image) (cfg : SaddlePointConfig) (seed : Seed) where
     fresh_wanted o before after q h d =
         ap (λ (v : List Float). Ok (closed_with v wanted o)) d.leaves ∙ sym (in-halves before wanted way ∙ ap (answer_with (Operator.overlap_after before way) wanted) h)
 
-    pub fresh_unwanted : (o : Opened) (overlap : List Float) → open_with img cfg seed way ≡ Ok o → wanted ≡ false → Ok (closed_with overlap wanted o) ≡ with_operator img cfg seed wanted way
-    fresh_unwanted o overlap h e =
-        ap (λ (v : Option Covariance). Ok (closed_as o.estimate v)) (unread o.noise)
+    -- where none is wanted, or there is none, no overlap is read
+    pub fresh_unread : (o : Opened) (overlap : List Float) → open_with img cfg seed way ≡ Ok o → (wanted && is_some o.noise) ≡ false → Ok (closed_with overlap wanted o) ≡ with_operator img cfg seed wanted way
+    fresh_unread o overlap h e =
+        ap (λ (v : Option Covariance). Ok (closed_as o.estimate v)) (unread o.noise e)
         ∙ sym (in-halves [] wanted way ∙ ap (answer_with (Operator.overlap_after [] way) wanted) h)
       where
         closed_as : Estimate → Option Covariance → Estimate
         closed_as k v = record { x = k.x; y = k.y; score = k.score; converged = k.converged; tries = k.tries; covariance = v }
 
-        unread : (n : Option Noise) → covariance_with overlap wanted n ≡ covariance_with (Operator.overlap_after [] way) wanted n
-        unread None = refl
-        unread (Some w) =
-            no wanted (covariance_of overlap w.tx w.ty (saddle_jacobian w.fit) w.moves) None e
-            ∙ sym (no wanted (covariance_of (Operator.overlap_after [] way) w.tx w.ty (saddle_jacobian w.fit) w.moves) None e)
+        alone : (b : Bool) → (b && true) ≡ false → b ≡ false
+        alone true q = cc
+        alone false q = refl
+
+        unread : (n : Option Noise) → (wanted && is_some n) ≡ false → covariance_with overlap wanted n ≡ covariance_with (Operator.overlap_after [] way) wanted n
+        unread None q = refl
+        unread (Some w) q =
+            no wanted (covariance_of overlap w.tx w.ty (saddle_jacobian w.fit) w.moves) None (alone wanted q)
+            ∙ sym (no wanted (covariance_of (Operator.overlap_after [] way) w.tx w.ty (saddle_jacobian w.fit) w.moves) None (alone wanted q))
 
 -- ---- the two calls
 module _ (img : Image) (cfg : SaddlePointConfig) (x y : Float) (wanted : Bool) where

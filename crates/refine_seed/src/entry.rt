@@ -74,13 +74,14 @@ fn open_fresh<S: Sample>(
     open_seed(image, &columns, cfg, seed)
 }
 
-// The estimate, with the overlaps of the settings' radius where a covariance is wanted.
+// The estimate, with the overlaps of the settings' radius where a covariance is wanted and there is one.
 #[inline(never)]
 fn close_fresh(opened: Opened, cfg: SaddlePointConfig, wanted: bool) -> Result<Estimate, Unrefined>
     ensures { ClosesFresh cfg wanted opened result }
 {
     let mut overlap = [0.0f32; 225];
-    if wanted {
+    // a run that did not converge has no covariance, so no overlap is read
+    if wanted & opened.noise.is_some() {
         refine_operator::fit_overlap(cfg.radius, &mut overlap)?;
     }
     Ok(closing::closed(opened, &overlap, wanted))
@@ -133,26 +134,26 @@ fn admit<S: Sample>(
     if !good_limits(cfg) {
         return Err(Unrefined::Refused(Refusal::BadLimit));
     }
-    place_seed(image, cfg.radius, x, y)
+    place_seed(image.view(), cfg.radius, x, y)
 }
 
-// The tests of a seed alone, where the image and the settings passed theirs: a list asks those once.
+// The tests of a seed alone, where the image and the settings passed theirs: a list asks those once. They look at the sizes and at no sample.
 #[tactic(auto, unfolding(imageview::specs::Patch::supports_patch))]
 pub fn place_seed<S: Sample>(
-    image: &Image<S>,
+    view: ImageView<S>,
     radius: usize,
     x: f32,
     y: f32,
 ) -> Result<Seed, Unrefined>
-    requires { (image.now.width ≤ 4096) × (image.now.height ≤ 4096) }
-    ensures { result ≡ seed_alone image.now.width image.now.height radius x y }
+    requires { (view.width ≤ 4096) × (view.height ≤ 4096) }
+    ensures { result ≡ seed_alone view.entry.width view.entry.height radius x y }
 {
     if !is_place(x, y) {
         return Err(Unrefined::Unmoved(Why::BadSeed, 0.0));
     }
     let cx = floats::round_to_i32(x);
     let cy = floats::round_to_i32(y);
-    if !image.supports_patch(cx, cy, radius) {
+    if !view.supports_patch(cx, cy, radius) {
         return Err(Unrefined::Unmoved(Why::OutOfBounds, 0.0));
     }
     Ok(Seed {

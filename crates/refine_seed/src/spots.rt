@@ -11,7 +11,7 @@ ghost use Rattle.refine_seed.specs.StepsSpot.{Ready, seed_alone, first_for, Fitt
 
 use super::{Spot, Task};
 use crate::entry;
-use imageview::{Image, Sample};
+use imageview::{Image, ImageView, Sample};
 use refine_fits::{Seed, fits, laid, tries};
 use refine_formulas::{PatchSaddle, SaddlePointConfig, solve};
 use refine_patch::Columns;
@@ -38,14 +38,14 @@ impl Spot {
     }
 }
 
-/// Where the patch about a seed begins in the image's samples; 0 for a seed that does not pass its own tests, whose fit is worked out beside others' and not used.
-pub fn first_place<S: Sample>(image: &Image<S>, radius: usize, x: f32, y: f32) -> usize
-    requires { (image.now.width ≤ 4096) × (image.now.height ≤ 4096) }
-    ensures { result ≡ first_for image.now.pitch radius (seed_alone image.now.width image.now.height radius x y) }
+/// Where the patch about a seed begins in the view's samples; 0 for a seed that does not pass its own tests, whose fit is worked out beside others' and not used.
+pub fn first_place<S: Sample>(view: ImageView<S>, radius: usize, x: f32, y: f32) -> usize
+    requires { (view.width ≤ 4096) × (view.height ≤ 4096) × (view.pitch ≤ 8192) }
+    ensures { result ≡ first_for view.entry.pitch radius (seed_alone view.entry.width view.entry.height radius x y) }
 {
-    let placed = entry::place_seed(image, radius, x, y);
+    let placed = entry::place_seed(view, radius, x, y);
     match placed {
-        Ok(seed) => fits::first_place(image.view(), seed.centre_x, seed.centre_y, radius),
+        Ok(seed) => fits::first_place(view, seed.centre_x, seed.centre_y, radius),
         Err(_) => 0,
     }
 }
@@ -66,7 +66,7 @@ pub fn spot_with<S: Sample>(
     requires stands { at ≤ 23 }
     ensures { Lands (λ overlap wanted. refine_lent image.now cfg x y wanted columns.now.numbers.now overlap) result }
 {
-    let seed = entry::place_seed(image, cfg.radius, x, y).ok()?;
+    let seed = entry::place_seed(image.view(), cfg.radius, x, y).ok()?;
     // at radius 0 there is no operator, whatever is lent
     if cfg.radius == 0 {
         return None;
