@@ -1,0 +1,3 @@
+-- Laws of the face.
+pub mod FaceLaws
+pub mod SeedLaws
