@@ -110,6 +110,13 @@ pub fn f32_to_usize(x: f32) -> usize
     0
 }
 
+// The f32 nearest to n, by std's function under the name that README has.
+pub fn i32_to_f32(n: i32) -> f32
+    ensures { result ≡ Ieee.of_int binary32 n }
+{
+    std::num::nearest_i32_to_f32(n)
+}
+
 // The f32 nearest to x, a tie to the even one, from x's bit pattern.
 pub fn f64_to_f32(x: f64) -> f32
     ensures { result ≡ convert binary32 x }
