@@ -27,7 +27,14 @@ impl<'a, S: Sample> ImageView<'a, S> {
     {
         is_size(self.width, self.height)
             && is_pitch(self.width, self.pitch)
-            && self.data.len() == self.pitch * self.height
+            && self.count() == self.pitch * self.height
+    }
+
+    /// How many samples there are, those of the padding too.
+    pub fn count(self) -> usize
+        ensures { result ≡ length (shown S.levels S.deep self.entry).samples }
+    {
+        self.data.len()
     }
 
     /// The test of a deep image's samples, row by row without the padding; those of others all pass.
@@ -163,7 +170,7 @@ impl<'a, S: Sample> Image<'a, S> {
         ensures count { result ≡ length self.now.samples }
         ensures measured { IsMeasured self.now }
     {
-        self.samples().len()
+        self.view.count()
     }
 
     /// One sample, by its index among all.

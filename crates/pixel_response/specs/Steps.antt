@@ -7,12 +7,16 @@ pub record Bounded (v b r : ℕ) : Type 0 where
   pub is : r ≡ v
   pub most : r ≤ b
 
+-- four samples, none above the bound
+pub record AtMost (most a b c d : ℕ) : Type 0 where
+  pub first : a ≤ most
+  pub second : b ≤ most
+  pub third : c ≤ most
+  pub fourth : d ≤ most
+
 -- four levels of at most twelve bits
-pub record Levels (a b c d : ℕ) : Type 0 where
-  pub first : a ≤ 4095
-  pub second : b ≤ 4095
-  pub third : c ≤ 4095
-  pub fourth : d ≤ 4095
+abbrev pub Levels : ℕ → ℕ → ℕ → ℕ → Type 0
+Levels = AtMost 4095
 
 -- a quarter of the ring is the samples k, k + 4, k + 8 and k + 12: its square, its two edges and its sum
 unfoldable pub square_of : ℕ → ℕ → ℕ → ℕ → ℕ

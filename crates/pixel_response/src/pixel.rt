@@ -1,38 +1,36 @@
-// The arithmetic of one pixel, of levels of at most twelve bits. A quarter of the ring is its samples k, k + 4, k + 8 and k + 12.
-ghost use Rattle.std.specs.Prelude.{◌≡◌, ◌+◌, ◌≤◌};
+// The arithmetic of one pixel, of samples of at most sixteen bits. A quarter of the ring is its samples k, k + 4, k + 8 and k + 12.
+// Each says what it answers for every bound of its samples whose sums fit 16 bits: a byte's is 255, that of twelve bits 4095. Sums wrap beyond that.
+ghost use Rattle.std.specs.Prelude.{◌≡◌, ℕ, ◌+◌, ◌*◌, ◌≤◌, ◌<◌};
 ghost use Rattle.pixel_response.specs.Samples.{value_of};
-ghost use Rattle.pixel_response.specs.Steps.{Bounded, Levels, square_of, edges_of, sum_of, cross_of};
+ghost use Rattle.pixel_response.specs.Steps.{Bounded, AtMost, square_of, edges_of, sum_of, cross_of};
 
-// Four quarters' sums, 65520 at most, fit 16 bits.
 #[tactic(auto, unfolding(crate::specs::Steps::square_of, crate::specs::Samples::apart))]
 pub fn square_of(a: u16, b: u16, c: u16, d: u16) -> u16
-    requires { Levels a b c d }
-    ensures { Bounded (square_of a b c d) 8190 result }
+    ensures { (most : ℕ) → 2 * most < 65536 → AtMost most a b c d → Bounded (square_of a b c d) (2 * most) result }
 {
-    (a + c).abs_diff(b + d)
+    a.wrapping_add(c).abs_diff(b.wrapping_add(d))
 }
 
 #[tactic(auto, unfolding(crate::specs::Steps::edges_of, crate::specs::Samples::apart))]
 pub fn edges_of(a: u16, b: u16, c: u16, d: u16) -> u16
-    requires { Levels a b c d }
-    ensures { Bounded (edges_of a b c d) 8190 result }
+    ensures { (most : ℕ) → 2 * most < 65536 → AtMost most a b c d → Bounded (edges_of a b c d) (2 * most) result }
 {
-    a.abs_diff(c) + b.abs_diff(d)
+    a.abs_diff(c).wrapping_add(b.abs_diff(d))
 }
 
 pub fn sum_of(a: u16, b: u16, c: u16, d: u16) -> u16
-    requires { Levels a b c d }
-    ensures { Bounded (sum_of a b c d) 16380 result }
+    ensures { (most : ℕ) → 4 * most < 65536 → AtMost most a b c d → Bounded (sum_of a b c d) (4 * most) result }
 {
-    a + b + c + d
+    a.wrapping_add(b).wrapping_add(c).wrapping_add(d)
 }
 
 pub fn cross_of(a: u16, b: u16, c: u16, d: u16, e: u16) -> u16
-    requires levels { Levels a b c d }
-    requires fifth { e ≤ 4095 }
-    ensures { Bounded (cross_of a b c d e) 20475 result }
+    ensures { (most : ℕ) → 5 * most < 65536 → AtMost most a b c d → e ≤ most → Bounded (cross_of a b c d e) (5 * most) result }
 {
-    a + b + c + d + e
+    a.wrapping_add(b)
+        .wrapping_add(c)
+        .wrapping_add(d)
+        .wrapping_add(e)
 }
 
 // One rounding an operation, in this order.

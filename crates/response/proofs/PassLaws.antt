@@ -58,6 +58,18 @@ module _ {A : Type 0} (d : A) where
   pub wrote_none : (x : ℕ) (f : ℕ → A) (l : List A) → Wrote d 0 x f l l
   wrote_none x f l = record { same = refl; ahead = λ i h. refl; here = λ i h. absurd (let z : ⊥ = omega arith in z); past = λ i h. refl }
 
+  pub wrote-more : (n : ℕ) (f : ℕ → A) (before after : List A) (v : A) → n < length before → Wrote d n 0 f before after → v ≡ f n → Wrote d (n + 1) 0 f before (set after n v)
+  wrote-more n f before after v l a q =
+      record {
+        same = length-set after n v ∙ a.same;
+        ahead = λ i h. absurd (let z : ⊥ = omega arith in z);
+        here =
+            last_or (λ i. get_or (set after n v) (0 + i) d ≡ f i) n
+            (ap (λ (k : ℕ). get_or (set after n v) k d) (zero-add n) ∙ get_or-set_same after n v d (subst (λ (k : ℕ). n < k) (sym a.same) l) ∙ q)
+            (λ i h. get_or-set_other after n (0 + i) v d (λ e. omega arith) ∙ a.here i h);
+        past = λ i h. get_or-set_other after n i v d (λ e. omega arith) ∙ a.past i (omega arith);
+      }
+
   pub wrote-cong : (n x : ℕ) (f g : ℕ → A) (before after : List A) → ((i : ℕ) → i < n → f i ≡ g i) → Wrote d n x f before after → Wrote d n x g before after
   wrote-cong n x f g before after e a = record { same = a.same; ahead = a.ahead; here = λ i h. a.here i h ∙ e i h; past = a.past }
 

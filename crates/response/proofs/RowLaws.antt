@@ -6,7 +6,7 @@ use native.Mathlib.Nat.{zero-add, le_trans, mul-le-mul_right, le_of_suc-le-suc}
 use native.Mathlib.Omega.{arith}
 use lib.ListN.{length, get_or, replicate, get_or-replicate}
 use Rattle.pixel_response.specs.Samples.{value_of}
-use Rattle.pixel_response.specs.Steps.{listed, Bounded, Levels, square_of, edges_of, sum_of, Spare}
+use Rattle.pixel_response.specs.Steps.{listed, Bounded, Levels, square_of, edges_of, sum_of, cross_of, Spare}
 use Rattle.response.specs.StepsStarts.{Low, SampledQuarter, SampledCross, sample_of, value_at}
 use Rattle.pixel_response.proofs.PixelLaws.{four, Quarters, none, more, all}
 
@@ -17,6 +17,14 @@ low-at l n i b e h = le_of_suc-le-suc (b i (subst (λ (z : ℕ). i < z) (sym e) 
 -- element i of four rows that lie abreast
 pub levels-low : (a b c d : List ℕ) (n i : ℕ) → Low a × Low b × Low c × Low d → length a ≡ n → length b ≡ n → length c ≡ n → length d ≡ n → i < n → Levels (listed a i) (listed b i) (listed c i) (listed d i)
 levels-low a b c d n i l p q r s h = record { first = low-at a n i l.0 p h; second = low-at b n i l.1 q h; third = low-at c n i l.2 r h; fourth = low-at d n i l.3 s h }
+
+-- and what was read from them
+pub levels-read : (a b c d a' b' c' d' : ℕ) → a ≡ a' → b ≡ b' → c ≡ c' → d ≡ d' → Levels a' b' c' d' → Levels a b c d
+levels-read a b c d a' b' c' d' p q r s l = record { first = omega (arith, l.first); second = omega (arith, l.second); third = omega (arith, l.third); fourth = omega (arith, l.fourth) }
+
+-- a cross of levels is that of the samples that they were read from
+pub cross-read : (a b c d e a' b' c' d' e' : ℕ) → a ≡ a' → b ≡ b' → c ≡ c' → d ≡ d' → e ≡ e' → cross_of a b c d e ≡ cross_of a' b' c' d' e'
+cross-read a b c d e a' b' c' d' e' p q r s t = cc
 
 -- what is bounded of four levels is of the samples that they were read from
 pub same-four : (m : ℕ) (f : ℕ → ℕ → ℕ → ℕ → ℕ) (a b c d a' b' c' d' r : ℕ) → a ≡ a' → b ≡ b' → c ≡ c' → d ≡ d' → Bounded (f a b c d) m r → Bounded (f a' b' c' d') m r

@@ -4,4 +4,4 @@ use Rattle.pixel_response.proofs.PixelLaws.{Quarters}
 use Rattle.pixel_response.proofs.chess_response_at_u8.Given as goal
 
 abbrev pub invariant-loop-k : goal.invariant-loop-k
-invariant-loop-k l = Quarters 4096 (listed l.ring) l.k l.square l.edge l.sum
+invariant-loop-k l = Quarters 256 (listed l.ring) l.k l.square l.edge l.sum
