@@ -24,6 +24,12 @@ over_more f n l v h e =
     ∙ over_suc f 0 n l h
     ∙ ap (λ (k : ℕ). over f 0 k l) (sym (add-one n))
 
+pub length_over : {A : Type 0} (f : ℕ → A) (i n : ℕ) (l : List A) → length (over f i n l) ≡ length l
+unfolding over
+length_over f i zero l = refl
+length_over f i (suc n) [] = refl
+length_over f i (suc n) (x ∷ l) = ap suc (length_over f (suc i) n l)
+
 -- ---- every number
 gap : (i n : ℕ) → i < n → n - i ≡ suc (n - suc i)
 gap i n h = omega arith
@@ -45,6 +51,12 @@ every_end p i n h = ap (every p i) (none i n h)
   where
     none : (i n : ℕ) → n ≤ i → n - i ≡ 0
     none i n h = omega arith
+
+pub every_start : (p : ℕ → Bool) (n : ℕ) → every p 0 (n - 0) ≡ every p 0 n
+every_start p n = ap (every p 0) (whole n)
+  where
+    whole : (n : ℕ) → n - 0 ≡ n
+    whole n = omega arith
 
 -- ---- every element: x is the one at i
 next_at : {A : Type 0} (p : ℕ → A → Bool) (i k : ℕ) (l : List A) (x : A) → i < length l → x ≡ get_or l i x → every_at p k (drop i l) ≡ cond (p k x) (every_at p (suc k) (drop (suc i) l)) false

@@ -8,7 +8,7 @@ mod element;
 mod part;
 mod spoiling;
 
-ghost use Rattle.std.specs.Prelude.{◌≡◌, false, ◌*◌, ℕ, List, length, IfOk, OnErr};
+ghost use Rattle.std.specs.Prelude.{◌≡◌, false, cond, ◌*◌, ℕ, List, length, IfOk, OnErr};
 ghost use Rattle.std.specs.Io.KnownBytes.{Consumes};
 ghost use Rattle.replay.specs.Count.{Within, Takes, none, more_of, counted_in, ended_of};
 ghost use Rattle.replay.specs.Spoil.{flipped};
@@ -20,6 +20,7 @@ pub use buffers::{
 pub use element::{Element, hit, other};
 pub use part::{Image, Part, behind_image, place};
 pub use spoiling::{Judged, Spoilt, bit_for, flip, hit_number, pick, spoil, spoil_at};
+use std::convert::AsSlice;
 use std::io::Read;
 use std::rt::Files;
 use std::{fmt, fs, io};
@@ -159,46 +160,84 @@ pub fn notices<T: Trial>(trial: &mut T, case: &mut [u8], turn: u32) -> bool
     !taken & !missed
 }
 
-// The cases of a stored list one after the other, each at the start of `case`; `each` counts it to those before. A list that has more cases
+// What was made of a list's cases, and whether the list was read to its end.
+#[derive(Drop)]
+pub struct Walked<T> {
+    pub found: T,
+    pub whole: bool,
+}
+
+// The cases of a stored list one after the other, each at the start of `case`; `each` takes what was made of those before. A list that has more cases
 // than are given as the most, and one that is broken, are not read to the end.
-pub fn walk<R: Files, F: FnMut(Tally, &mut [u8]) -> Tally>(
+pub fn walk<R: Files, T: Drop, F: FnMut(T, &mut [u8]) -> T>(
     rt: &R,
     name: &str,
     case: &mut [u8],
     most: u32,
+    start: T,
     mut each: F,
-) -> io::Result<Tally>
+) -> io::Result<Walked<T>>
     requires { F.IsAlwaysCallable each }
 {
     let mut list = fs::open(rt, name)?;
-    let mut tally = Tally::new();
+    let mut found = start;
     for _ in 0..most {
         match next_case(&mut list, case)? {
-            Next::Case(n) => tally = each(tally, &mut case[..n]),
-            Next::End => return Ok(tally.ended()),
+            Next::Case(n) => found = each(found, &mut case[..n]),
+            Next::End => return Ok(Walked { found, whole: true }),
             Next::Broken => break,
         }
     }
-    Ok(tally)
+    Ok(Walked {
+        found,
+        whole: false,
+    })
 }
 
-// A stored list's cases, each tried and counted, and the line of what was counted.
-pub fn replay<R: Files + Print, T: Trial>(
+impl Walked<Tally> {
+    // What was counted of a list, which says too whether the list was read to its end.
+    pub fn tally(self) -> Tally
+        ensures { result ≡ cond self.whole (ended_of self.found) self.found }
+    {
+        if self.whole {
+            self.found.ended()
+        } else {
+            self.found
+        }
+    }
+}
+
+// A stored list's cases, each counted by `each` to those before, and the line of what was counted.
+pub fn replay<R: Files + Print, F: FnMut(Tally, &mut [u8]) -> Tally>(
+    rt: &R,
+    name: &str,
+    case: &mut [u8],
+    most: u32,
+    each: F,
+) -> io::Result<()>
+    requires { F.IsAlwaysCallable each }
+{
+    let walked = walk(rt, name, case, most, Tally::new(), each)?;
+    report(rt, name, walked.tally())
+}
+
+// The same of cases that are each tried by a `Trial`.
+pub fn try_list<R: Files + Print, T: Trial>(
     rt: &R,
     name: &str,
     case: &mut [u8],
     most: u32,
     trial: &mut T,
 ) -> io::Result<()> {
-    let tally = walk(rt, name, case, most, |tally, case| {
+    replay(rt, name, case, most, |tally, case| {
         tried(trial, tally, case)
-    })?;
-    report(rt, name, tally)
+    })
 }
 
 // A list's name and what was counted; a list that was not read to its end is broken.
-pub fn report(rt: &impl Print, name: &str, tally: Tally) -> io::Result<()> {
-    println!(rt; "{name} {tally}")
+pub fn report(rt: &impl Print, name: impl AsSlice<u8> + Drop, tally: Tally) -> io::Result<()> {
+    rt.write_all(name.as_slice())?;
+    println!(rt; " {tally}")
 }
 
 impl fmt::Display for Tally {

@@ -23,7 +23,7 @@ fn main(rt: HostRuntime) -> io::Result<()> {
         corners: [0.0; 16384],
         answers: [0; 1000],
     };
-    replay::replay(&rt, "board.bin", &mut case, MOST, &mut tying)
+    replay::try_list(&rt, "board.bin", &mut case, MOST, &mut tying)
 }
 
 impl Trial for Tying {

@@ -32,7 +32,7 @@ fn main(rt: HostRuntime) -> io::Result<()> {
         found: none(),
         wanted: none(),
     };
-    replay::replay(&rt, "coverage.bin", &mut case, MOST, &mut covering)
+    replay::try_list(&rt, "coverage.bin", &mut case, MOST, &mut covering)
 }
 
 fn none() -> Corners {

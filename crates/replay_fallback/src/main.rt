@@ -23,7 +23,7 @@ fn main(rt: HostRuntime) -> io::Result<()> {
         out: [0.0; 16384],
         passes: [0; 8192],
     };
-    replay::replay(&rt, "fallback.bin", &mut case, MOST, &mut refining)
+    replay::try_list(&rt, "fallback.bin", &mut case, MOST, &mut refining)
 }
 
 impl Trial for Refining {

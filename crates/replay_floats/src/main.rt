@@ -24,10 +24,10 @@ struct Order64;
 
 fn main(rt: HostRuntime) -> io::Result<()> {
     let mut case = [0u8; 64];
-    replay::replay(&rt, "floats32.bin", &mut case, MOST, &mut Floats32)?;
-    replay::replay(&rt, "ints32.bin", &mut case, MOST, &mut Ints32)?;
-    replay::replay(&rt, "floats64.bin", &mut case, MOST, &mut Floats64)?;
-    replay::replay(&rt, "order64.bin", &mut case, MOST, &mut Order64)
+    replay::try_list(&rt, "floats32.bin", &mut case, MOST, &mut Floats32)?;
+    replay::try_list(&rt, "ints32.bin", &mut case, MOST, &mut Ints32)?;
+    replay::try_list(&rt, "floats64.bin", &mut case, MOST, &mut Floats64)?;
+    replay::try_list(&rt, "order64.bin", &mut case, MOST, &mut Order64)
 }
 
 // A number; its floor, root and the rest, of which each word is judged.

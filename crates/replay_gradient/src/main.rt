@@ -16,7 +16,7 @@ struct Adding {
 fn main(rt: HostRuntime) -> io::Result<()> {
     let mut case = [0u8; 20000];
     let mut adding = Adding { grid: [0.0; 2000] };
-    replay::replay(&rt, "gradient.bin", &mut case, MOST, &mut adding)
+    replay::try_list(&rt, "gradient.bin", &mut case, MOST, &mut adding)
 }
 
 impl Trial for Adding {

@@ -14,7 +14,7 @@ struct Reading;
 
 fn main(rt: HostRuntime) -> io::Result<()> {
     let mut case = [0u8; 8192];
-    replay::replay(&rt, "graymap.bin", &mut case, MOST, &mut Reading)
+    replay::try_list(&rt, "graymap.bin", &mut case, MOST, &mut Reading)
 }
 
 impl Trial for Reading {

@@ -16,8 +16,7 @@ const RECORDS: usize = 1356;
 
 fn main(rt: HostRuntime) -> io::Result<()> {
     let mut case = [0u8; 7500];
-    let tally = replay::walk(&rt, "lent.bin", &mut case, MOST, trial)?;
-    replay::report(&rt, "lent.bin", tally)
+    replay::replay(&rt, "lent.bin", &mut case, MOST, trial)
 }
 
 // The seeds of a case, each by the operator that stands before them all.

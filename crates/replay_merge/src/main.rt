@@ -23,7 +23,7 @@ fn main(rt: HostRuntime) -> io::Result<()> {
         heads: [0; 16384],
         links: [0; 5000],
     };
-    replay::replay(&rt, "merge.bin", &mut case, MOST, &mut merging)
+    replay::try_list(&rt, "merge.bin", &mut case, MOST, &mut merging)
 }
 
 impl Trial for Merging {

@@ -30,7 +30,7 @@ fn main(rt: HostRuntime) -> io::Result<()> {
         heads: [0; 16384],
         links: [0; 4096],
     };
-    replay::replay(&rt, "merge_print.bin", &mut case, MOST, &mut merging)
+    replay::try_list(&rt, "merge_print.bin", &mut case, MOST, &mut merging)
 }
 
 impl Trial for Merging {

@@ -19,8 +19,7 @@ struct Building;
 
 fn main(rt: HostRuntime) -> io::Result<()> {
     let mut case = [0u8; 5700];
-    let tally = replay::walk(&rt, "operator.bin", &mut case, MOST, tried_often)?;
-    replay::report(&rt, "operator.bin", tally)
+    replay::replay(&rt, "operator.bin", &mut case, MOST, tried_often)
 }
 
 // One case as it is stored, and spoilt at many turns: every flipped bit of the answer and every changed element of what was written is noticed.

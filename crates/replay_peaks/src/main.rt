@@ -21,7 +21,7 @@ fn main(rt: HostRuntime) -> io::Result<()> {
         values: [0.0; 5000],
         out: [0.0; 1000],
     };
-    replay::replay(&rt, "peaks.bin", &mut case, MOST, &mut scan)
+    replay::try_list(&rt, "peaks.bin", &mut case, MOST, &mut scan)
 }
 
 impl Trial for Scan {

@@ -17,18 +17,18 @@ const MOST: u32 = 20000;
 
 fn main(rt: HostRuntime) -> io::Result<()> {
     let mut case = [0u8; 25000];
-    replay::replay(&rt, "solve.bin", &mut case, MOST, &mut solving::Solve)?;
-    replay::replay(&rt, "blend.bin", &mut case, MOST, &mut moving::Blend)?;
-    replay::replay(&rt, "newton.bin", &mut case, MOST, &mut moving::Newton)?;
-    replay::replay(
+    replay::try_list(&rt, "solve.bin", &mut case, MOST, &mut solving::Solve)?;
+    replay::try_list(&rt, "blend.bin", &mut case, MOST, &mut moving::Blend)?;
+    replay::try_list(&rt, "newton.bin", &mut case, MOST, &mut moving::Newton)?;
+    replay::try_list(
         &rt,
         "sensitivity.bin",
         &mut case,
         MOST,
         &mut moving::Sensitivity,
     )?;
-    replay::replay(&rt, "covariance.bin", &mut case, MOST, &mut fitting::Spread)?;
-    replay::replay(&rt, "fit.bin", &mut case, MOST, &mut fitting::Fit)
+    replay::try_list(&rt, "covariance.bin", &mut case, MOST, &mut fitting::Spread)?;
+    replay::try_list(&rt, "fit.bin", &mut case, MOST, &mut fitting::Fit)
 }
 
 // Flips a bit of the n judged words of a case, which begin behind what is put in.

@@ -2,7 +2,7 @@
 // the one that is lent the operator built once for the case. A line a call; each seed counts as a case.
 #![tactic(auto)]
 
-use replay::Tally;
+use replay::{Tally, Walked};
 use replay_seeds::Operator;
 use std::io;
 
@@ -12,14 +12,38 @@ const MOST: u32 = 2000;
 // The words before the records: the settings, whether a covariance is wanted, and the number of seeds.
 const BEFORE: usize = 6;
 
+// What is counted by each call.
+#[derive(Clone, Copy, Debug, PartialEq)]
+pub struct Both {
+    pub own: Tally,
+    pub lent: Tally,
+}
+
 fn main(rt: HostRuntime) -> io::Result<()> {
     let mut case = [0u8; 30000];
-    let own = replay::walk(&rt, "refine.bin", &mut case, MOST, |tally, case| {
-        replay_seeds::every(tally, case, BEFORE, None)
-    })?;
-    let lent = replay::walk(&rt, "refine.bin", &mut case, MOST, with_lent)?;
-    replay::report(&rt, "refine.bin refine", own)?;
-    replay::report(&rt, "refine.bin refine_with", lent)
+    let none = Both {
+        own: Tally::new(),
+        lent: Tally::new(),
+    };
+    let Walked { found, whole } = replay::walk(&rt, "refine.bin", &mut case, MOST, none, trial)?;
+    let own = Walked {
+        found: found.own,
+        whole,
+    };
+    let lent = Walked {
+        found: found.lent,
+        whole,
+    };
+    replay::report(&rt, "refine.bin refine", own.tally())?;
+    replay::report(&rt, "refine.bin refine_with", lent.tally())
+}
+
+// The seeds of a case by each call.
+fn trial(tally: Both, case: &mut [u8]) -> Both {
+    Both {
+        own: replay_seeds::every(tally.own, case, BEFORE, None),
+        lent: with_lent(tally.lent, case),
+    }
 }
 
 // Every seed by the call that is lent the operator; where there is none for the radius, the case is passed over.

@@ -21,7 +21,7 @@ fn main(rt: HostRuntime) -> io::Result<()> {
         corners: [0.0; 16384],
         out: [0.0; 16384],
     };
-    replay::replay(&rt, "refine_list.bin", &mut case, MOST, &mut refining)
+    replay::try_list(&rt, "refine_list.bin", &mut case, MOST, &mut refining)
 }
 
 impl Trial for Refining {

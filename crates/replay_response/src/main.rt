@@ -19,7 +19,7 @@ struct Patch {
 fn main(rt: HostRuntime) -> io::Result<()> {
     let mut case = [0u8; 70000];
     let mut patch = Patch { out: [0.0; 20000] };
-    replay::replay(&rt, "response.bin", &mut case, MOST, &mut patch)
+    replay::try_list(&rt, "response.bin", &mut case, MOST, &mut patch)
 }
 
 impl Trial for Patch {

@@ -25,7 +25,7 @@ fn main(rt: HostRuntime) -> io::Result<()> {
         out: [0; 50000],
         faults: [0; 10000],
     };
-    replay::replay(&rt, "salvage.bin", &mut case, MOST, &mut salvaging)
+    replay::try_list(&rt, "salvage.bin", &mut case, MOST, &mut salvaging)
 }
 
 impl Trial for Salvaging {
