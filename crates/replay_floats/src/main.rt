@@ -4,7 +4,6 @@
 use replay::{Aim, Part, Spoilt, Trial};
 use std::cmp::Ordering;
 use std::io;
-use std::num::nearest_i32_to_f32;
 
 // More cases than any list has, so that the loop ends.
 const MOST: u32 = 20000;
@@ -57,7 +56,7 @@ impl Trial for Ints32 {
 
     fn holds(&mut self, case: &[u8], _aim: Option<Aim>) -> bool {
         let stored = Part::of(case);
-        stored.is_float(1, nearest_i32_to_f32(stored.int(0)))
+        stored.is_float(1, floats::i32_to_f32(stored.int(0)))
     }
 }
 
