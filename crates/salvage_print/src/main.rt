@@ -3,7 +3,6 @@
 #![tactic(auto)]
 
 use salvage::Saved;
-use salvage_text::{Counts, Dropped, Refused};
 use std::env::{Env, FillError};
 use std::io::Write;
 use std::process::ExitCode;
@@ -73,32 +72,32 @@ fn run(rt: &HostRuntime, width: usize, height: usize) -> Result<(), Failure> {
         Ok(Saved { kept, dropped }) => {
             rt.write_all(&out[..12 * kept]).map_err(Failure::Output)?;
             print_faults(errors, &faults[..2 * dropped]).map_err(Failure::Errors)?;
-            print_line(errors, Counts { kept, dropped }).map_err(Failure::Errors)
+            print_last(errors, kept, dropped).map_err(Failure::Errors)
         }
-        Err(refusal) => print_line(errors, Refused(u32::from(refusal))).map_err(Failure::Errors),
+        Err(refusal) => print_refused(errors, u32::from(refusal)).map_err(Failure::Errors),
     }
 }
 
-// A line for each pair.
+// A line for each pair, each in one write.
 fn print_faults<W: Write>(errors: &mut W, faults: &[u16]) -> io::Result<()> {
     let (pairs, _) = faults.as_chunks::<2>();
     for [number, fault] in pairs {
-        let dropped = Dropped {
-            number: *number,
-            fault: *fault,
-        };
-        print_line(errors, dropped)?;
+        let mut text = [0u8; 64];
+        let n = salvage_text::fault_line(*number, *fault, &mut text);
+        errors.write_all(&text[..n])?;
     }
     Ok(())
 }
 
-// A line in one write: it is put together first, for `write!` to the stream itself takes a write for each part of it.
-fn print_line<W: Write, D: fmt::Display + Drop>(errors: &mut W, line: D) -> io::Result<()> {
+fn print_last<W: Write>(errors: &mut W, kept: usize, dropped: usize) -> io::Result<()> {
     let mut text = [0u8; 64];
-    let mut room = &mut text[..];
-    write!(room, "{line}")?;
-    let left = room.len();
-    let n = text.len().saturating_sub(left);
+    let n = salvage_text::last_line(kept, dropped, &mut text);
+    errors.write_all(&text[..n])
+}
+
+fn print_refused<W: Write>(errors: &mut W, no: u32) -> io::Result<()> {
+    let mut text = [0u8; 64];
+    let n = salvage_text::refused_line(no, &mut text);
     errors.write_all(&text[..n])
 }
 

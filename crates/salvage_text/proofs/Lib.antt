@@ -1,3 +1,4 @@
--- Laws of sizes; closed cases.
+-- Laws of sizes and of lines; closed cases.
 pub mod SizeLaws
+pub mod LineLaws
 pub mod Cases

@@ -4,5 +4,5 @@
 mod lines;
 mod sizes;
 
-pub use lines::{Counts, Dropped, Refused};
+pub use lines::{Counts, Dropped, Refused, fault_line, last_line, refused_line};
 pub use sizes::size_of;
