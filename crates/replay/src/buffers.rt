@@ -1,5 +1,5 @@
 // Buffers: lent before a call with the numbers of a case or with paint, and judged after it.
-ghost use Rattle.std.specs.Prelude.{◌≡◌};
+ghost use Rattle.std.specs.Prelude.{◌≡◌, ◌≤◌, eqb};
 ghost use Rattle.replay.specs.Place.{place_of};
 ghost use Rattle.replay.specs.Buffers.{mark_of, wanted_of, lent_of, painted_of, stands_in, given_byte, loaded_of, wanted_byte, bytes_stand_in, counts_as, corners_stand};
 
@@ -10,6 +10,13 @@ use crate::{Element, Part};
 pub enum Fill {
     Paint,
     Zeros,
+}
+
+// How many of the places of a list can be counted in sixteen bits: the compiler works the paint of those out several at a time.
+fn sixteen_bits_of(len: usize) -> u16
+    ensures within { result ≤ len }
+{
+    len.min(0xffff) as u16
 }
 
 // The paint of a number by itself.
@@ -32,14 +39,32 @@ pub fn wanted<T: Element>(part: Part, n: usize, fill: Fill, i: usize) -> u32
     }
 }
 
+// The number of a buffer at place i.
+fn lent<T: Element>(part: Part, n: usize, fill: Fill, i: usize) -> T
+    ensures { result ≡ T.of_word (wanted_of T.mark_at part.entry.case.now part.entry.at n fill i) }
+{
+    T::from_word(wanted::<T>(part, n, fill, i))
+}
+
 // A list lent with n numbers of a part, and paint or zeros behind them.
 #[tactic(auto, using(crate::proofs::BufferLaws::over_more), unfolding(crate::specs::Buffers::over))]
 pub fn lend<T: Element>(part: Part, n: usize, fill: Fill, list: &mut [T])
     ensures { list.new ≡ lent_of T.of_word T.mark_at part.entry.case.now part.entry.at n fill list.old }
 {
-    for (i, x) in list.iter_mut().enumerate() {
-        *x = T::from_word(wanted::<T>(part, n, fill, i));
+    let first = sixteen_bits_of(list.len());
+    for k in 0..first {
+        list[usize::from(k)] = lent(part, n, fill, usize::from(k));
     }
+    for i in usize::from(first)..list.len() {
+        list[i] = lent(part, n, fill, i);
+    }
+}
+
+// A number of paint.
+fn painted<T: Element>(i: usize) -> T
+    ensures { result ≡ T.of_word (T.mark_at i) }
+{
+    T::from_word(T::mark(i))
 }
 
 // A list lent with paint alone.
@@ -47,9 +72,20 @@ pub fn lend<T: Element>(part: Part, n: usize, fill: Fill, list: &mut [T])
 pub fn paint<T: Element>(list: &mut [T])
     ensures { list.new ≡ painted_of T.of_word T.mark_at list.old }
 {
-    for (i, x) in list.iter_mut().enumerate() {
-        *x = T::from_word(T::mark(i));
+    let first = sixteen_bits_of(list.len());
+    for k in 0..first {
+        list[usize::from(k)] = painted(usize::from(k));
     }
+    for i in usize::from(first)..list.len() {
+        list[i] = painted(i);
+    }
+}
+
+// Whether a number is the one of a buffer at place i.
+fn is_wanted<T: Element>(part: Part, n: usize, fill: Fill, i: usize, x: T) -> bool
+    ensures { result ≡ eqb (T.word_of x) (wanted_of T.mark_at part.entry.case.now part.entry.at n fill i) }
+{
+    x.to_word() == wanted::<T>(part, n, fill, i)
 }
 
 // Whether a list is n numbers of a part with paint or zeros behind them.
@@ -60,8 +96,14 @@ pub fn stands<T: Element>(part: Part, n: usize, fill: Fill, list: &[T]) -> bool
     if list.len() < n {
         return false;
     }
-    for (i, x) in list.iter().enumerate() {
-        if x.to_word() != wanted::<T>(part, n, fill, i) {
+    let first = sixteen_bits_of(list.len());
+    for k in 0..first {
+        if !is_wanted(part, n, fill, usize::from(k), list[usize::from(k)]) {
+            return false;
+        }
+    }
+    for i in usize::from(first)..list.len() {
+        if !is_wanted(part, n, fill, i, list[i]) {
             return false;
         }
     }

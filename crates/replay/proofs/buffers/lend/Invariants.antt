@@ -3,5 +3,8 @@ use Rattle.std.proofs.Common.{◌≡◌}
 use Rattle.replay.specs.Buffers.{over, wanted_of}
 use Rattle.replay.proofs.buffers.lend.Given as goal
 
+abbrev pub invariant-loop-k : goal.invariant-loop-k
+invariant-loop-k g l = l.list ≡ over (λ i. g.T.Element.of_word (wanted_of g.T.Element.mark_at l.part.case.now l.part.at l.n l.fill i)) 0 l.k l.fn.list
+
 abbrev pub invariant-loop-i : goal.invariant-loop-i
-invariant-loop-i g l = l.list ≡ over (λ i. g.T.Element.of_word (wanted_of g.T.Element.mark_at l.part.case.now l.part.at l.n l.fill i)) 0 l.i l.initial.list
+invariant-loop-i g l = l.list ≡ over (λ i. g.T.Element.of_word (wanted_of g.T.Element.mark_at l.part.case.now l.part.at l.n l.fill i)) 0 l.i l.fn.list
